@@ -27,12 +27,15 @@ declare -A kept=(
     [shift_to_product]=$longer
     [shift_to_quotient]=$longer
     [mask_to_remainder]=$longer
+    [wrap_to_mask]=$longer
     [sum_to_difference]=$longer
     [difference_to_sum]=$longer
     [rotl_to_rotr]=$longer
     [rotr_to_rotl]=$longer
     [tests_to_difference]="ne x 0 takes a byte more than eqz (eqz x), and what turns it back leaves as many operators"
     [test_to_comparison]="of eqz (eqz x) it makes eqz (eq x 0), and drop_negation of that ne x 0, with as many operators as at first"
+    [test_by_ctz]="of eqz (eqz x) it makes eqz (eq (ctz x) N), and drop_negation of that ne (ctz x) N, which takes more bytes"
+    [turn_signs]="a constant may be folded with the sign before it is turned back"
 )
 
 work=$(mktemp -d)

@@ -28,6 +28,7 @@ shapes_plain: -O0 -Wl,--strip-all
 outside:
 shared:
 patterns:
+forms:
 newer/tails:
 newer/throwing:
 newer/atomics:

@@ -1,9 +1,9 @@
 -- The lines of the table, as operators are asked for them.
-use Rattle.std.proofs.Common.{◌≡◌, ℕ, zero, suc, ◌+◌, ◌<◌, ◌≤◌, ◌⊎◌, inl, inr, Bool, true, false, cond, List, [], ◌∷◌, ◌++◌, length, map, take, get_or, Option, Some, None, refl, sym, ap, ap₂, subst, ◌∙◌, arith, lit<, append-nil, append_assoc, length-append}
-use Rattle.std.specs.Prelude.{slice_get, if◌then◌else◌, Result, Ok, Err, IfOk, IfSome}
+use Rattle.std.proofs.Common.{◌≡◌, ℕ, zero, suc, ◌+◌, ◌<◌, ◌≤◌, ◌⊎◌, inl, inr, Bool, true, false, cond, List, [], ◌∷◌, ◌++◌, length, map, take, get_or, Option, Some, None, refl, sym, ap, ap₂, subst, ◌∙◌, arith, lit<, append-nil, append_assoc}
+use Rattle.std.specs.Prelude.{slice_get, Result, Ok, Err, IfOk, IfSome}
 use Rattle.std.specs.Global.{Vec}
 use Rattle.std.specs.List.{filter}
-use Rattle.std.proofs.lemmas.List.{take_more, length-take-le, length-map, map-append}
+use Rattle.std.proofs.lemmas.List.{take_more, length-take-le, map-append}
 use Rattle.std.proofs.lemmas.Option.{get_or_from_slice_get, same_Some, slice_get_within, slice_get-get_or}
 use Rattle.peephole_machine.specs.declared.integer.IntegerType.{IntegerType}
 use Rattle.peephole_machine.specs.Values.{Context}
@@ -14,7 +14,7 @@ use Rattle.body_rewrites.specs.declared.found.Found.{Found}
 use Rattle.body_rewrites.specs.declared.rewrite.Rewrite.{Rewrite}
 use Rattle.body_rewrites.specs.Rewrites.{IsAsked, asked_widths, by_rows}
 use Rattle.body_rewrites.specs.Listing.{AreThose, AreFound, AddsFound}
-use Rattle.body_rewrites.specs.Asking.{asked_as, asked_for, asked_from, all_asked, rewrite_of, rewrites_of, is_candidate, numbers_from, candidates, listed, picked, IsUsed, AreLists, AreAsked, IsAskedSo}
+use Rattle.body_rewrites.specs.Asking.{asked_as, asked_for, asked_in, asked_from, all_asked, rewrite_of, rewrites_of, is_candidate, candidates, IsUsed, AreLists, AreAsked, IsAskedSo}
 use Rattle.body_rewrites.proofs.StandsLemmas.{Operators}
 use Rattle.body_rewrites.proofs.ListingLemmas.{adds_more}
 use Rattle.body_rewrites.specs.ThoseLemmas.{those_with, those_without}
@@ -56,32 +56,14 @@ there_in (row ∷ rows) (suc number) l none = there_in rows number (omega arith)
 pub row_there : (number : ℕ) → number < length ROWS → slice_get ROWS number ≡ None → ⊥
 row_there = there_in ROWS
 
-module _ {A : Type 0} (test : A → Bool) where
-  numbers_append : (number : ℕ) (xs ys : List A) → numbers_from test number (xs ++ ys) ≡ numbers_from test number xs ++ numbers_from test (number + length xs) ys
-  numbers_append number [] ys = let e : number ≡ number + length {A = A} [] = omega arith in ap (λ n. numbers_from test n ys) e
-  numbers_append number (x ∷ xs) ys =
-      let e : suc number + length xs ≡ number + length (x ∷ xs) = omega arith in
-      go (test x) _ _ _ (numbers_append (suc number) xs ys ∙ ap (λ n. numbers_from test (suc number) xs ++ numbers_from test n ys) e)
-    where
-      go : (b : Bool) (all here rest : List ℕ) → all ≡ here ++ rest → (if b then number ∷ all else all) ≡ (if b then number ∷ here else here) ++ rest
-      go true all here rest e = ap (λ zs. number ∷ zs) e
-      go false all here rest e = e
-
-  numbers_more : (xs : List A) (number : ℕ) (d : A) → number < length xs → (b : Bool) → test (get_or xs number d) ≡ b →
-      numbers_from test 0 (take (number + 1) xs) ≡ numbers_from test 0 (take number xs) ++ (if b then number ∷ [] else [])
-  numbers_more xs number d l b e =
-      let size : 0 + length (take number xs) ≡ number = (let long = length-take-le number xs (omega arith) in omega arith) in
-      ap (numbers_from test 0) (take_more xs number d l) ∙ numbers_append 0 (take number xs) (get_or xs number d ∷ [])
-      ∙ ap (λ n. numbers_from test 0 (take number xs) ++ numbers_from test n (get_or xs number d ∷ [])) size
-      ∙ ap (λ c. numbers_from test 0 (take number xs) ++ (if c then number ∷ [] else [])) e
-
-  pub number_more : (xs : List A) (number : ℕ) (d : A) (items more : List ℕ) → number < length xs → test (get_or xs number d) ≡ true →
-      items ≡ numbers_from test 0 (take number xs) → more ≡ items ++ number ∷ [] → more ≡ numbers_from test 0 (take (number + 1) xs)
-  number_more xs number d items more l e is next = next ∙ ap (λ zs. zs ++ number ∷ []) is ∙ sym (numbers_more xs number d l true e)
-
-  pub no_number_more : (xs : List A) (number : ℕ) (d : A) (items : List ℕ) → number < length xs → test (get_or xs number d) ≡ false →
-      items ≡ numbers_from test 0 (take number xs) → items ≡ numbers_from test 0 (take (number + 1) xs)
-  no_number_more xs number d items l e is = is ∙ sym (append-nil (numbers_from test 0 (take number xs))) ∙ sym (numbers_more xs number d l false e)
+-- with those of the row that is there
+pub numbered_next : (number : ℕ) (items more : List Asked) → number < length ROWS → items ≡ asked_from 0 (take number ROWS) →
+    more ≡ items ++ asked_in number (slice_get ROWS number) → more ≡ asked_from 0 (take (number + 1) ROWS)
+numbered_next number items more l is next = go (slice_get ROWS number) refl
+  where
+    go : (o : Option Row) → slice_get ROWS number ≡ o → more ≡ asked_from 0 (take (number + 1) ROWS)
+    go (Some row) e = asked_next number row items more e is (next ∙ ap (λ o. items ++ asked_in number o) e)
+    go None e = absurd (row_there number l e)
 
 pub few_asked : length all_asked < 65536
 unfolding parts
@@ -135,90 +117,34 @@ is_asked_from number (row ∷ rows) are n a e = elim (append_cases (asked_for nu
 pub is_asked : AreAsked all_asked
 is_asked = is_asked_from 0 ROWS (λ k row e. let same : 0 + k ≡ k = omega arith in ap (slice_get ROWS) same ∙ e)
 
--- ---- those whose root fits
+-- ---- those that are asked where an instruction of a class stands
 
-get_here : {A : Type 0} (xs : List A) (x : A) (ys : List A) → slice_get (xs ++ x ∷ ys) (length xs) ≡ Some x
-get_here [] x ys = refl
-get_here (z ∷ xs) x ys = get_here xs x ys
-
-pub picked_from : (test : Asked → Bool) (before xs : List Asked) → picked (before ++ xs) (numbers_from test (length before) xs) ≡ filter test xs
-picked_from test before [] = refl
-picked_from test before (x ∷ xs) =
-    let size : length (before ++ x ∷ []) ≡ suc (length before) =
-    length-append before (x ∷ []) ∙ (let e : length before + 1 ≡ suc (length before) = omega arith in e) in
-    go (test x)
-    (ap₂ (λ list n. picked list (numbers_from test n xs)) (sym (append_assoc before (x ∷ []) xs)) (sym size)
-    ∙ picked_from test (before ++ x ∷ []) xs)
+filter_few : {A : Type 0} (test : A → Bool) (xs : List A) → length (filter test xs) ≤ length xs
+filter_few test [] = omega arith
+filter_few {A = A} test (x ∷ xs) = go (test x) (filter test xs) (filter_few test xs)
   where
-    go : (b : Bool) → picked (before ++ x ∷ xs) (numbers_from test (suc (length before)) xs) ≡ filter test xs →
-        picked (before ++ x ∷ xs)
-        (if b then length before ∷ numbers_from test (suc (length before)) xs else numbers_from test (suc (length before)) xs)
-        ≡ cond b (x ∷ filter test xs) (filter test xs)
-    go true rest =
-        ap (λ o. listed o ++ picked (before ++ x ∷ xs) (numbers_from test (suc (length before)) xs)) (get_here before x xs)
-        ∙ ap (λ zs. x ∷ zs) rest
-    go false rest = rest
-
--- those that are picked so far, and one more
-picked_append : (list : List Asked) (ns ms : List ℕ) → picked list (ns ++ ms) ≡ picked list ns ++ picked list ms
-picked_append list [] ms = refl
-picked_append list (n ∷ ns) ms =
-    ap (λ zs. listed (slice_get list n) ++ zs) (picked_append list ns ms) ∙ sym (append_assoc (listed (slice_get list n)) (picked list ns) (picked list ms))
-
-pub picked_more : (at : ℕ) (list : List Asked) (numbers : List ℕ) (i d : ℕ) → i < length numbers →
-    rewrites_of at (picked list (take i numbers)) ++ rewrites_of at (listed (slice_get list (get_or numbers i d)))
-    ≡ rewrites_of at (picked list (take (i + 1) numbers))
-picked_more at list numbers i d l =
-    sym (ap (λ ns. rewrites_of at (picked list ns)) (take_more numbers i d l)
-    ∙ ap (rewrites_of at) (picked_append list (take i numbers) (get_or numbers i d ∷ [])
-    ∙ ap (λ zs. picked list (take i numbers) ++ zs) (append-nil (listed (slice_get list (get_or numbers i d)))))
-    ∙ map-append (rewrite_of at) (picked list (take i numbers)) (listed (slice_get list (get_or numbers i d))))
-
-picked_few : (list : List Asked) (numbers : List ℕ) → length (picked list numbers) ≤ length numbers
-picked_few list [] = omega arith
-picked_few list (n ∷ ns) =
-    let few = picked_few list ns in
-    let one = listed_few (slice_get list n) in
-    let all = length-append (listed (slice_get list n)) (picked list ns) in
-    omega (arith, few, one, all)
-  where
-    listed_few : (o : Option Asked) → length (listed o) ≤ 1
-    listed_few None = omega arith
-    listed_few (Some a) = omega arith
-
--- no more are picked, and made of an operator, than numbers are there
-pub rewrites_few : (at : ℕ) (list : List Asked) (numbers : List ℕ) → length (rewrites_of at (picked list numbers)) ≤ length numbers
-rewrites_few at list numbers =
-    let few = picked_few list numbers in
-    let size = length-map (picked list numbers) (rewrite_of at) in
-    omega (arith, few, size)
-
-numbers_few : {A : Type 0} (test : A → Bool) (number : ℕ) (xs : List A) → length (numbers_from test number xs) ≤ length xs
-numbers_few test number [] = omega arith
-numbers_few test number (x ∷ xs) = go (test x) _ (numbers_few test (suc number) xs)
-  where
-    go : (b : Bool) (ns : List ℕ) → length ns ≤ length xs → length (if b then number ∷ ns else ns) ≤ length (x ∷ xs)
-    go true ns l = omega arith
-    go false ns l = omega arith
+    go : (b : Bool) (ys : List A) → length ys ≤ length xs → length (cond b (x ∷ ys) ys) ≤ length (x ∷ xs)
+    go true ys l = omega arith
+    go false ys l = omega arith
 
 pub candidates_few : (class : ℕ) → length (candidates class) < 65536
-candidates_few class = let few = numbers_few (is_candidate class) 0 all_asked in let all = few_asked in omega (arith, few, all)
+candidates_few class = let few = filter_few (is_candidate class) all_asked in let all = few_asked in omega (arith, few, all)
 
 -- ---- the list of a class that is used
 
 pub class_is_used : (used : List Bool) (class : ℕ) → IsUsed used class → class < length used
 class_is_used used class marked = slice_get_within used class true marked
 
-pub list_is : (used : List Bool) (lists : List (Vec ℕ)) → AreLists used 169 lists → (class : ℕ) → class < 169 → IsUsed used class → (numbers : List ℕ) →
-    IfSome (slice_get lists class) (λ list. numbers ≡ list.items) → numbers ≡ candidates class
-list_is used lists are class l marked numbers h = go (slice_get lists class) refl h
+pub list_is : (used : List Bool) (lists : List (Vec Asked)) → AreLists used all_asked lists → (class : ℕ) → class < 169 → IsUsed used class →
+    (lines : List Asked) → IfSome (slice_get lists class) (λ list. lines ≡ list.items) → lines ≡ candidates class
+list_is used lists are class l marked lines h = go (slice_get lists class) refl h
   where
     there : {A : Type 0} (xs : List A) (n : ℕ) → n < length xs → slice_get xs n ≡ None → ⊥
     there [] n l none = absurd (omega arith)
     there (x ∷ xs) zero l none = absurd cc
     there (x ∷ xs) (suc n) l none = there xs n (omega arith) none
 
-    go : (o : Option (Vec ℕ)) → slice_get lists class ≡ o → IfSome o (λ list. numbers ≡ list.items) → numbers ≡ candidates class
+    go : (o : Option (Vec Asked)) → slice_get lists class ≡ o → IfSome o (λ list. lines ≡ list.items) → lines ≡ candidates class
     go (Some v) e same = same ∙ are.each class v e marked
     go None e same = absurd (there lists class (let long = are.long in omega arith) e)
 

@@ -1,42 +1,51 @@
 -- The lists of candidates, line by line.
-use Rattle.std.proofs.Common.{◌≡◌, ℕ, zero, suc, ◌+◌, ◌<◌, ◌≤◌, ◌≢◌, ◌⊎◌, inl, inr, Bool, true, false, cond, List, [], ◌∷◌, ◌++◌, length, take, drop, get_or, Some, None, refl, sym, ap, ap₂, subst, ◌∙◌, arith}
-use Rattle.std.specs.Prelude.{◌&&◌, nat_le, option_to_list, slice_get, slice_set}
+use Rattle.std.proofs.Common.{◌≡◌, ℕ, zero, suc, ◌+◌, ◌<◌, ◌≤◌, ◌≢◌, ◌⊎◌, inl, inr, Bool, true, false, cond, List, [], ◌∷◌, ◌++◌, length, map, take, get_or, Option, Some, None, refl, sym, ap, ap₂, subst, ◌∙◌, arith, append-nil, append_assoc}
+use Rattle.std.specs.Prelude.{◌&&◌, nat_le, option_to_list, slice_get, slice_set, Result, Ok, Err, OnOk}
 use Rattle.std.specs.Global.{Vec}
 use Rattle.std.specs.List.{filter}
 use Rattle.std.proofs.lemmas.Bool.{cases_lt, false≢true, le-leb, leb-true}
-use Rattle.std.proofs.Math.Seq.{take-append_seam}
-use Rattle.std.proofs.lemmas.Option.{same_Some, slice_get_within}
+use Rattle.std.proofs.lemmas.List.Elements.{filter-append}
+use Rattle.std.proofs.lemmas.Option.{get_or_from_slice_get, same_Some, slice_get_within}
 use Rattle.body_rewrites.specs.declared.asked.Asked.{Asked}
 use Rattle.body_rewrites.specs.declared.asked.Form.{Form}
 use Rattle.body_rewrites.specs.declared.asked.Form.TheVariants.{Own, Alone, Other}
 use Rattle.body_rewrites.specs.declared.root.Root.TheVariants as root
 use Rattle.body_rewrites.specs.declared.trees.Tree.{Tree}
-use Rattle.body_rewrites.specs.Asking.{is_candidate, numbers_from, AddsNumber, AreRootClasses, AreCandidateClasses, IsUsed}
-use Rattle.body_rewrites.specs.Counting.{is_alone, alone_slot, alone_slots, by_alone, form_alone}
-use Rattle.body_rewrites.proofs.AskingLemmas.{number_more, no_number_more}
+use Rattle.rewrite_rules.specs.declared.table.Row.{Row}
+use Rattle.rewrite_rules.specs.Table.{ROWS}
+use Rattle.body_rewrites.proofs.AskingLemmas.{asked_next}
+use Rattle.peephole_machine.specs.declared.integer.IntegerType.{IntegerType}
+use Rattle.body_rewrites.specs.Asking.{asked_as, asked_for, asked_from, by_form, is_candidate, form_alone, is_alone, AddsLine, AreLists, AreLaidOut, NoneStands, NoneServes, AreRootClasses, AreCandidateClasses, IsUsed}
+use Rattle.body_rewrites.specs.Alone.{form_of}
+use Rattle.body_rewrites.specs.Counting.{alone_slot, alone_slots, by_alone}
+use Rattle.body_rewrites.specs.Listing.{widths_told}
+use Rattle.body_rewrites.specs.Rewrites.{asked_widths}
+use Rattle.body_rewrites.specs.Roots.{fits}
 
--- There is a list for each class, with the candidates among the lines so far where the class is marked.
-pub record AreListsSo (used : List Bool) (lines : List Asked) (number : ℕ) (lists : List (Vec ℕ)) : Type 0 where
-  pub long : length lists ≡ 169
-  pub each : (class : ℕ) (v : Vec ℕ) → slice_get lists class ≡ Some v → IsUsed used class →
-      v.items ≡ numbers_from (is_candidate class) 0 (take number lines)
+-- ---- a line more
 
-pub one_line_more : (used : List Bool) (lines : List Asked) (i : ℕ) (x : Asked) (old new : List (Vec ℕ)) (classes : ℕ × ℕ) → i < length lines →
-    x ≡ get_or lines i x → AreCandidateClasses x classes → AddsNumber i used classes old new → AreListsSo used lines i old →
-    AreListsSo used lines (i + 1) new
-one_line_more used lines i x old new classes l is are adds so = record {
+filter_with : {A : Type 0} (test : A → Bool) (xs : List A) (x : A) → test x ≡ true → filter test (xs ++ x ∷ []) ≡ filter test xs ++ x ∷ []
+filter_with test xs x on = filter-append test xs (x ∷ []) ∙ ap (λ b. filter test xs ++ cond b (x ∷ []) []) on
+
+filter_without : {A : Type 0} (test : A → Bool) (xs : List A) (x : A) → test x ≡ false → filter test (xs ++ x ∷ []) ≡ filter test xs
+filter_without test xs x off =
+    filter-append test xs (x ∷ []) ∙ (ap (λ b. filter test xs ++ cond b (x ∷ []) []) off ∙ append-nil (filter test xs))
+
+line_added : (used : List Bool) (lines : List Asked) (x : Asked) (old new : List (Vec Asked)) (classes : ℕ × ℕ) → AreCandidateClasses x classes →
+    AddsLine x used classes old new → AreLists used lines old → AreLists used (lines ++ x ∷ []) new
+line_added used lines x old new classes are adds so = record {
   long = adds.long ∙ so.long;
   each = λ class v e marked. go class v e marked (is_candidate class x) refl;
 }
   where
-    go : (class : ℕ) (v : Vec ℕ) → slice_get new class ≡ Some v → IsUsed used class → (b : Bool) → is_candidate class x ≡ b →
-        v.items ≡ numbers_from (is_candidate class) 0 (take (i + 1) lines)
+    go : (class : ℕ) (v : Vec Asked) → slice_get new class ≡ Some v → IsUsed used class → (b : Bool) → is_candidate class x ≡ b →
+        v.items ≡ filter (is_candidate class) (lines ++ x ∷ [])
     go class v e marked true on =
         let inside = slice_get_within new class v e in
         let size = adds.long ∙ so.long in
         let (from, before) = (are class (omega (arith, inside, size))).0 on in
         let (w, there, items) = adds.within class v from before marked e in
-        number_more (is_candidate class) lines i x w.items v.items l (ap (is_candidate class) (sym is) ∙ on) (so.each class w there marked) items
+        items ∙ (ap (λ zs. zs ++ x ∷ []) (so.each class w there marked) ∙ sym (filter_with (is_candidate class) lines x on))
     go class v e marked false off =
         let inside = slice_get_within new class v e in
         let size = adds.long ∙ so.long in
@@ -47,7 +56,121 @@ one_line_more used lines i x old new classes l is are adds so = record {
             | inr m ↦ inr m
           ]
         ]) in
-        no_number_more (is_candidate class) lines i x v.items l (ap (is_candidate class) (sym is) ∙ off) (so.each class v (sym same ∙ e) marked)
+        so.each class v (sym same ∙ e) marked ∙ sym (filter_without (is_candidate class) lines x off)
+
+-- one that is no operand alone
+pub candidate_added : (used : List Bool) (lines : List Asked) (x : Asked) (old new : List (Vec Asked)) (alone : List Asked) (classes : ℕ × ℕ) →
+    is_alone x ≡ false → AreCandidateClasses x classes → AddsLine x used classes old new → AreLaidOut used lines old alone →
+    AreLaidOut used (lines ++ x ∷ []) new alone
+candidate_added used lines x old new alone classes off are adds so = record {
+  by_class = line_added used lines x old new classes are adds so.by_class;
+  apart = so.apart ∙ sym (filter_without is_alone lines x off);
+}
+
+no_candidate : (form : Form) (b : Bool) → form_alone form ≡ true → by_form form b ≡ false
+no_candidate (Own o) b e = absurd (false≢true e)
+no_candidate (Alone d) b e = refl
+no_candidate Other b e = absurd (false≢true e)
+
+-- one that is
+pub alone_added : (used : List Bool) (lines : List Asked) (x : Asked) (lists : List (Vec Asked)) (alone more : List Asked) (y : Asked) → y ≡ x →
+    is_alone x ≡ true → more ≡ alone ++ y ∷ [] → AreLaidOut used lines lists alone → AreLaidOut used (lines ++ x ∷ []) lists more
+alone_added used lines x lists alone more y same on next so = record {
+  by_class = record {
+    long = so.by_class.long;
+    each = λ class v e marked.
+        so.by_class.each class v e marked
+        ∙ sym (filter_without (is_candidate class) lines x (no_candidate x.form (fits class true x.root) on));
+  };
+  apart = next ∙ (ap₂ (λ zs z. zs ++ z ∷ []) so.apart same ∙ sym (filter_with is_alone lines x on));
+}
+
+-- ---- the lines of a row
+
+-- for one width
+pub one_width_laid_out : (used : List Bool) (number : ℕ) (row : Row) (width : IntegerType) (more : Option IntegerType) →
+    asked_widths row.widths ≡ widths_told width more → more ≡ None → (a : Asked) → a ≡ asked_as number row width → (lines : List Asked)
+    (lists : List (Vec Asked)) (alone : List Asked) → AreLaidOut used (lines ++ a ∷ []) lists alone →
+    AreLaidOut used (lines ++ asked_for number row) lists alone
+one_width_laid_out used number row width more e none a is lines lists alone so =
+    subst (λ (ws : List IntegerType). AreLaidOut used (lines ++ map (asked_as number row) ws) lists alone) (sym (e ∙ ap (widths_told width) none))
+    (subst (λ (x : Asked). AreLaidOut used (lines ++ x ∷ []) lists alone) is so)
+
+-- for two
+pub two_widths_laid_out : (used : List Bool) (number : ℕ) (row : Row) (width other : IntegerType) (more : Option IntegerType) →
+    asked_widths row.widths ≡ widths_told width more → more ≡ Some other → (a b : Asked) → a ≡ asked_as number row width →
+    b ≡ asked_as number row other → (lines : List Asked) (lists : List (Vec Asked)) (alone : List Asked) →
+    AreLaidOut used ((lines ++ a ∷ []) ++ b ∷ []) lists alone → AreLaidOut used (lines ++ asked_for number row) lists alone
+two_widths_laid_out used number row width other more e some a b is is_other lines lists alone so =
+    subst (λ (ws : List IntegerType). AreLaidOut used (lines ++ map (asked_as number row) ws) lists alone) (sym (e ∙ ap (widths_told width) some))
+    (subst (λ list. AreLaidOut used list lists alone)
+    (append_assoc lines (a ∷ []) (b ∷ []) ∙ ap₂ (λ x y. lines ++ x ∷ y ∷ []) is is_other) so)
+
+-- for none, where no line may apply
+line_skipped : (used : List Bool) (lines : List Asked) (x : Asked) (lists : List (Vec Asked)) (alone : List Asked) → is_alone x ≡ false →
+    NoneStands used x.root → AreLaidOut used lines lists alone → AreLaidOut used (lines ++ x ∷ []) lists alone
+line_skipped used lines x lists alone off none so = record {
+  by_class = record {
+    long = so.by_class.long;
+    each = λ class v e marked.
+        so.by_class.each class v e marked
+        ∙ sym (filter_without (is_candidate class) lines x (never x.form (fits class true x.root) (none class marked)));
+  };
+  apart = so.apart ∙ sym (filter_without is_alone lines x off);
+}
+  where
+    never : (form : Form) (b : Bool) → b ≡ false → by_form form b ≡ false
+    never (Own o) b e = e
+    never (Alone d) b e = refl
+    never Other b e = e
+
+widths_skipped : (used : List Bool) (number : ℕ) (row : Row) (lists : List (Vec Asked)) (alone : List Asked) → form_alone (form_of row) ≡ false →
+    (ws : List IntegerType) → NoneServes used row ws → (lines : List Asked) → AreLaidOut used lines lists alone →
+    AreLaidOut used (lines ++ map (asked_as number row) ws) lists alone
+widths_skipped used number row lists alone off [] none lines so =
+    subst (λ list. AreLaidOut used list lists alone) (sym (append-nil lines)) so
+widths_skipped used number row lists alone off (w ∷ ws) (none, rest) lines so =
+    subst (λ list. AreLaidOut used list lists alone) (append_assoc lines (asked_as number row w ∷ []) (map (asked_as number row) ws))
+    (widths_skipped used number row lists alone off ws rest (lines ++ asked_as number row w ∷ [])
+    (line_skipped used lines (asked_as number row w) lists alone off none so))
+
+pub row_skipped : (used : List Bool) (number : ℕ) (row : Row) (form : Form) → form ≡ form_of row →
+    (form_alone form ≡ false) × NoneServes used row (asked_widths row.widths) → (lines : List Asked) (lists : List (Vec Asked))
+    (alone : List Asked) → AreLaidOut used lines lists alone → AreLaidOut used (lines ++ asked_for number row) lists alone
+row_skipped used number row form is (off, none) lines lists alone so =
+    widths_skipped used number row lists alone (ap form_alone (sym is) ∙ off) (asked_widths row.widths) none lines so
+
+pub no_operand_alone : (form : Form) → ((d : Bool) → form ≡ Alone d → ⊥) → form_alone form ≡ false
+no_operand_alone (Own o) never = refl
+no_operand_alone (Alone d) never = absurd (never d refl)
+no_operand_alone Other never = refl
+
+-- no used class is the only one of a root
+pub one_class : (used : List Bool) (first last : ℕ) → first ≡ last → get_or used first false ≡ false → NoneStands used (root.Classes first last)
+one_class used first last same off class marked = go (nat_le first class) (nat_le class last) refl refl
+  where
+    unused : IsUsed used first → ⊥
+    unused mark = false≢true (sym off ∙ get_or_from_slice_get used first true false mark)
+
+    go : (a b : Bool) → nat_le first class ≡ a → nat_le class last ≡ b → (nat_le first class && nat_le class last) ≡ false
+    go false b e f = ap (λ c. c && nat_le class last) e
+    go true false e f = ap₂ (λ c d. c && d) e f
+    go true true e f =
+        let l = leb-true first class e in
+        let m = leb-true class last f in
+        absurd (unused (subst (IsUsed used) (let is : class ≡ first = omega (arith, l, m, same) in is) marked))
+
+-- with those of the rows before
+pub row_laid_out : (used : List Bool) (number : ℕ) (row : Row) (lists : List (Vec Asked)) (alone : List Asked) → slice_get ROWS number ≡ Some row →
+    AreLaidOut used (asked_from 0 (take number ROWS) ++ asked_for number row) lists alone →
+    AreLaidOut used (asked_from 0 (take (number + 1) ROWS)) lists alone
+row_laid_out used number row lists alone there so =
+    subst (λ list. AreLaidOut used list lists alone) (asked_next number row _ _ there refl refl) so
+
+-- what is known of an answer
+pub on_ok : {X E : Type 0} {P Q : Type 0} (r : Result X E) → (P → Q) → OnOk r P → OnOk r Q
+on_ok (Ok x) f h = f h
+on_ok (Err e) f h = h
 
 -- ---- classes
 
@@ -100,19 +223,15 @@ module _ {A : Type 0} where
   get_set_other (y ∷ xs) (suc i) zero x other = refl
   get_set_other (y ∷ xs) (suc i) (suc k) x other = get_set_other xs i k x (λ e. other (ap suc e))
 
-  -- a whole list that is written back
-  pub written_back : (xs ys : List A) (n : ℕ) → n ≡ length ys → length xs ≡ length ys → take n (xs ++ drop (length xs) ys) ≡ xs
-  written_back xs ys n e f = ap (λ k. take k (xs ++ drop (length xs) ys)) (e ∙ sym f) ∙ take-append_seam xs (drop (length xs) ys)
-
 -- So it is of the classes so far.
-pub record IsAdding (number : ℕ) (used : List Bool) (classes : ℕ × ℕ) (class : ℕ) (old new : List (Vec ℕ)) : Type 0 where
-  pub adds : AddsNumber number used (classes.0, class) old new
+pub record IsAdding (a : Asked) (used : List Bool) (classes : ℕ × ℕ) (class : ℕ) (old new : List (Vec Asked)) : Type 0 where
+  pub adds : AddsLine a used (classes.0, class) old new
   pub from : classes.0 ≤ class
   pub most : (class ≡ classes.0) ⊎ (class ≤ classes.1)
 
-pub none_added : (number : ℕ) (used : List Bool) (classes : ℕ × ℕ) (class : ℕ) (old new : List (Vec ℕ)) → class < classes.1 →
-    (IsUsed used class → ⊥) → IsAdding number used classes class old new → IsAdding number used classes (class + 1) old new
-none_added number used classes class old new l unused so = record {
+pub none_added : (a : Asked) (used : List Bool) (classes : ℕ × ℕ) (class : ℕ) (old new : List (Vec Asked)) → class < classes.1 →
+    (IsUsed used class → ⊥) → IsAdding a used classes class old new → IsAdding a used classes (class + 1) old new
+none_added a used classes class old new l unused so = record {
   adds = record {
     long = so.adds.long;
     within = λ k v from before marked e. elim (cases_lt k class) [
@@ -128,18 +247,21 @@ none_added number used classes class old new l unused so = record {
   most = inr (omega (arith, l));
 }
 
-pub one_added : (number : ℕ) (used : List Bool) (classes : ℕ × ℕ) (class : ℕ) (old now new : List (Vec ℕ)) (v w : Vec ℕ) → class < classes.1 →
-    slice_get now class ≡ Some v → w.items ≡ v.items ++ number ∷ [] → new ≡ slice_set now class w → IsAdding number used classes class old now →
-    IsAdding number used classes (class + 1) old new
-one_added number used classes class old now new v w l there items is so = record {
+pub one_added : (a : Asked) (used : List Bool) (classes : ℕ × ℕ) (class : ℕ) (old now new : List (Vec Asked)) (v w : Vec Asked) (b : Asked) → b ≡ a →
+    class < classes.1 → slice_get now class ≡ Some v → w.items ≡ v.items ++ b ∷ [] → new ≡ slice_set now class w → IsAdding a used classes class old now →
+    IsAdding a used classes (class + 1) old new
+one_added a used classes class old now new v w b same_line l there items is so = record {
   adds = record {
     long = ap length is ∙ length_set now class w ∙ so.adds.long;
     within = λ k u from before marked e. elim (cases_lt k class) [
       | inl m ↦ so.adds.within k u from m marked (sym (elsewhere k (omega (arith, m))) ∙ e)
       | inr m ↦ (
           let same : k ≡ class = omega (arith, m, before) in
-          let got : w ≡ u = same_Some w u (sym here ∙ (ap (slice_get new) (sym same) ∙ e)) in
-          (v, ap (slice_get old) same ∙ (sym (so.adds.beyond class (inr (omega arith))) ∙ there), ap (λ (x : Vec ℕ). x.items) (sym got) ∙ items))
+          let got : w ≡ u = same_Some w u (sym here ∙ (ap (slice_get new) (sym same) ∙ e)) in (
+            v,
+            ap (slice_get old) same ∙ (sym (so.adds.beyond class (inr (omega arith))) ∙ there),
+            ap (λ (x : Vec Asked). x.items) (sym got) ∙ (items ∙ ap (λ y. v.items ++ y ∷ []) same_line),
+          ))
     ];
     beyond = λ k outside. elim outside [
       | inl m ↦ (let f = so.from in elsewhere k (omega (arith, m, f)) ∙ so.adds.beyond k (inl m))
@@ -156,9 +278,9 @@ one_added number used classes class old now new v w l there items is so = record
     elsewhere : (k : ℕ) → (k ≢ class) → slice_get new k ≡ slice_get now k
     elsewhere k other = ap (λ xs. slice_get xs k) is ∙ get_set_other now class k w other
 
-pub all_classes_added : (number : ℕ) (used : List Bool) (classes : ℕ × ℕ) (class : ℕ) (old new : List (Vec ℕ)) → classes.1 ≤ class →
-    IsAdding number used classes class old new → AddsNumber number used classes old new
-all_classes_added number used classes class old new l so = record {
+pub all_classes_added : (a : Asked) (used : List Bool) (classes : ℕ × ℕ) (class : ℕ) (old new : List (Vec Asked)) → classes.1 ≤ class →
+    IsAdding a used classes class old new → AddsLine a used classes old new
+all_classes_added a used classes class old new l so = record {
   long = so.adds.long;
   within = λ k v from before marked e. so.adds.within k v from (omega (arith, before, l)) marked e;
   beyond = λ k outside. so.adds.beyond k (elim outside [

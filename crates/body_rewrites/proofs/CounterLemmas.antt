@@ -24,7 +24,7 @@ use Rattle.body_rewrites.specs.declared.growth.Growth.TheVariants.{Grows}
 use Rattle.body_rewrites.specs.declared.rewrite.Rewrite.{Rewrite}
 use Rattle.body_rewrites.specs.declared.trees.Tree.{Tree}
 use Rattle.body_rewrites.specs.Alone.{takes, alone_growth}
-use Rattle.body_rewrites.specs.Asking.{all_asked, by_form, is_candidate, candidates, picked, rewrite_of, rewrites_of, IsAskedSo}
+use Rattle.body_rewrites.specs.Asking.{all_asked, by_form, is_candidate, candidates, rewrite_of, rewrites_of, IsAskedSo}
 use Rattle.body_rewrites.specs.Counting.{sample, slot_of, slot_in, is_slot, is_in_slot, AddsCounts, count_in, CountsFound, by_alone, alone_slot, alone_slots, slots_in, of_tree}
 use Rattle.body_rewrites.specs.Listing.{HasGrowth, AreFound, found_as}
 use Rattle.body_rewrites.specs.Matching.{LeftsAreInstances}
@@ -33,7 +33,7 @@ use Rattle.body_rewrites.specs.Roots.{fits, IsClassAt}
 use Rattle.body_rewrites.specs.Trees.{IsTree, HasTree, IsTreeAt, TreesLeave}
 use Rattle.body_rewrites.proofs.StandsLemmas.{Operators}
 use Rattle.body_rewrites.proofs.AloneLineLemmas.{alone_some, alone_none}
-use Rattle.body_rewrites.proofs.AskingLemmas.{picked_from, rewrites_are, is_asked}
+use Rattle.body_rewrites.proofs.AskingLemmas.{rewrites_are, is_asked}
 use Rattle.body_rewrites.proofs.FormLemmas.{form_alone, is_line}
 use Rattle.body_rewrites.proofs.ListingLemmas.{line_nothing}
 use Rattle.body_rewrites.proofs.RootLemmas.{makes_fits}
@@ -279,13 +279,12 @@ module _ (types : TypesAreTold) (holes_are : HolesAreTold) (right : TableIsRight
         (found_both context operators at (is_candidate class) (alone_slot tree) all_asked (λ n a e. a_place tree told a (is_asked n a e)) some are)
 
     -- what is counted for candidates, and for lines of an operand alone, is all that is made of the operator
-    pub counts_all : (o : Option Tree) → IsTreeAt context operators at o → (numbers : List ℕ) → numbers ≡ candidates class → (old mid new : List ℕ) →
-        CountsFound context operators (rewrites_of at (picked all_asked numbers)) old mid → AddsCounts (slots_in (of_tree o)) mid new →
+    pub counts_all : (o : Option Tree) → IsTreeAt context operators at o → (lines : List Asked) → lines ≡ candidates class → (old mid new : List ℕ) →
+        CountsFound context operators (rewrites_of at lines) old mid → AddsCounts (slots_in (of_tree o)) mid new →
         CountsFound context operators (by_rows at 0 ROWS) old new
-    counts_all o told numbers are old mid new some more =
+    counts_all o told lines are old mid new some more =
         let both = all_found o told some.found
-        (subst (λ list. AreFound context operators (rewrites_of at list) some.found)
-        (ap (picked all_asked) are ∙ picked_from (is_candidate class) [] all_asked) some.are) in
+        (subst (λ list. AreFound context operators (rewrites_of at list) some.found) are some.are) in
         record {
           found = both.found;
           are = subst (λ items. AreFound context operators items both.found) (rewrites_are at 0 ROWS) both.are;

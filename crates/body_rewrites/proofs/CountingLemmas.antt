@@ -1,11 +1,11 @@
 -- How many rewrites there are by each rule that do each thing to the number of operators, as they are counted.
-use Rattle.std.proofs.Common.{◌≡◌, ℕ, zero, suc, ◌+◌, ◌*◌, ◌^◌, ◌<◌, ◌≤◌, ◌⊎◌, inl, inr, Bool, true, false, cond, List, [], ◌∷◌, ◌++◌, length, map, take, get_or, Option, Some, None, refl, sym, ap, ap₂, subst, ◌∙◌, arith, append-nil, append_assoc, length-append}
+use Rattle.std.proofs.Common.{◌≡◌, ℕ, zero, suc, ◌+◌, ◌-◌, ◌*◌, ◌^◌, ◌<◌, ◌≤◌, ◌⊎◌, inl, inr, Bool, true, false, cond, List, [], ◌∷◌, ◌++◌, length, map, take, get_or, Option, Some, None, refl, sym, ap, ap₂, subst, ◌∙◌, arith, lit<, append-nil, append_assoc, length-append}
 use Rattle.std.specs.Prelude.{◌==◌, Result, Ok, Err, IfOk, IfSome, IfNone, slice_get, option_map, option_to_list}
 use Rattle.std.specs.List.{filter}
 use Rattle.std.proofs.lemmas.Bool.{eqb-true, eq-eqb, false≢true}
 use Rattle.std.proofs.lemmas.List.{length-map, length-take-le}
 use Rattle.std.proofs.lemmas.List.Elements.{filter_more, filter-append}
-use Rattle.std.proofs.lemmas.Option.{slice_get-get_or, slice_get_within, same_Some}
+use Rattle.std.proofs.lemmas.Option.{none-some, slice_get-get_or, slice_get_within, same_Some}
 use Rattle.wasm_code.specs.declared.operator.Operator.{Operator}
 use Rattle.peephole_machine.specs.Values.{Context}
 use Rattle.peephole_machine.specs.declared.integer.IntegerType.{IntegerType}
@@ -13,22 +13,22 @@ use Rattle.rewrite_rules.specs.declared.rule.Rule.{Rule}
 use Rattle.rewrite_rules.specs.declared.table.Row.{Row}
 use Rattle.rewrite_rules.specs.declared.table.Widths.{Widths}
 use Rattle.rewrite_rules.specs.declared.table.Widths.TheVariants.{Both, Only, Any, Operands, Own}
-use Rattle.rewrite_rules.specs.Names.{rule_of}
+use Rattle.rewrite_rules.specs.Names.{names, rule_of}
 use Rattle.rewrite_rules.specs.Rule.{rule_number}
-use Rattle.rewrite_rules.specs.Table.{ROWS}
+use Rattle.rewrite_rules.specs.Table.{parts, ROWS}
 use Rattle.body_rewrites.specs.declared.found.Found.{Found}
 use Rattle.body_rewrites.specs.declared.growth.Growth.{Growth}
 use Rattle.body_rewrites.specs.declared.growth.Growth.TheVariants.{Shrinks, Keeps, Grows}
 use Rattle.body_rewrites.specs.declared.rewrite.Rewrite.{Rewrite}
 use Rattle.body_rewrites.specs.declared.asked.Asked.{Asked}
 use Rattle.body_rewrites.specs.declared.trees.Tree.{Tree}
-use Rattle.body_rewrites.specs.Asking.{all_asked, rewrites_of, AreAsked, IsAskedSo}
+use Rattle.body_rewrites.specs.Asking.{asked_as, asked_in, asked_from, all_asked, rewrites_of, AreAsked, IsAskedSo}
 use Rattle.body_rewrites.specs.Rewrites.{IsMade, asked_widths, by_rows, asked_below}
 use Rattle.body_rewrites.specs.Listing.{AreThose, HasGrowth, OneChange, found_as, AreFound, passing}
 use Rattle.body_rewrites.specs.Choice.{IsOf}
 use Rattle.body_rewrites.specs.Counting.{slot_of, is_slot, is_in_slot, AddsCounts, count_in, CountsFound, HaveRoom, alone_slot, alone_slots, slots_in, is_number, is_of, asked_of, AreCounts, FindsIn}
 use Rattle.body_rewrites.specs.ThoseLemmas.{those_append, those_parts, those_first, those_same}
-use Rattle.body_rewrites.proofs.AskingLemmas.{few_asked, rewrites_are}
+use Rattle.body_rewrites.proofs.AskingLemmas.{few_asked, numbered_next, rewrites_are}
 use Rattle.body_rewrites.proofs.ListingLemmas.{growth_one, found_append, found_few, found_passing, asked_more}
 
 -- ---- lists
@@ -90,6 +90,30 @@ module _ (one : OneChange) (context : Context) (operators : List (Operator × �
   of_passing items found are =
       found_passing context operators (IsOf context operators kind rule) (is_in_slot (slot_of (rule_number rule) kind))
       (λ r p. (p.0.change, p.0.made)) of_to of_from items found are
+
+-- ---- how many rules there are
+
+last_rule : rule_of (length ROWS - 1) ≡ Some (length names - 1)
+unfolding parts
+last_rule = refl
+
+some_names : 0 < length names
+unfolding parts
+some_names = lit< tt
+
+pub some_rows : 0 < length ROWS
+unfolding parts
+some_rows = lit< tt
+
+-- the last row is of the last one
+pub last_is : (count : ℕ) → count ≡ length ROWS → (n : ℕ) → rule_of (count - 1) ≡ Some n → n + 1 ≡ length names
+last_is count all n there =
+    let same = same_Some n (length names - 1) (sym there ∙ (ap (λ k. rule_of (k - 1)) all ∙ last_rule)) in
+    let some = some_names in
+    omega (arith, same, some)
+
+pub last_there : (count : ℕ) → count ≡ length ROWS → rule_of (count - 1) ≡ None → ⊥
+last_there count all none = none-some _ (sym none ∙ (ap (λ k. rule_of (k - 1)) all ∙ last_rule))
 
 -- ---- one after another
 
@@ -295,6 +319,46 @@ rule_cases n (Some m) e = ap (λ k. Some k) (eqb-true m n e)
 
 is_its_number : (n : ℕ) (o : Option ℕ) → o ≡ Some n → is_number n o ≡ true
 is_its_number n o e = ap (is_number n) e ∙ eq-eqb n n refl
+
+-- those of a row are all of the rule, or none is
+of_row : (test : Asked → Bool) (number : ℕ) (row : Row) (b : Bool) → ((width : IntegerType) → test (asked_as number row width) ≡ b) →
+    (widths : List IntegerType) → filter test (map (asked_as number row) widths) ≡ cond b (map (asked_as number row) widths) []
+of_row test number row true same [] = refl
+of_row test number row false same [] = refl
+of_row test number row true same (w ∷ ws) =
+    ap₂ (λ c zs. cond c (asked_as number row w ∷ zs) zs) (same w) (of_row test number row true same ws)
+of_row test number row false same (w ∷ ws) =
+    ap₂ (λ c zs. cond c (asked_as number row w ∷ zs) zs) (same w) (of_row test number row false same ws)
+
+of_number : (rule : Rule) (number : ℕ) (b : Bool) → is_number (rule_number rule) (rule_of number) ≡ b → (o : Option Row) →
+    filter (is_of rule) (asked_in number o) ≡ cond b (asked_in number o) []
+of_number rule number true is None = refl
+of_number rule number false is None = refl
+of_number rule number b is (Some row) = of_row (is_of rule) number row b (λ width. is) (asked_widths row.widths)
+
+rule_next : (rule : Rule) (number : ℕ) (b : Bool) → number < length ROWS → is_number (rule_number rule) (rule_of number) ≡ b →
+    filter (is_of rule) (asked_from 0 (take number ROWS)) ++ cond b (asked_in number (slice_get ROWS number)) []
+    ≡ filter (is_of rule) (asked_from 0 (take (number + 1) ROWS))
+rule_next rule number b l is =
+    let so_far = asked_from 0 (take number ROWS) in
+    let here = asked_in number (slice_get ROWS number) in
+    sym (ap (filter (is_of rule)) (sym (numbered_next number so_far (so_far ++ here) l refl refl))
+    ∙ (filter-append (is_of rule) so_far here
+    ∙ ap (λ zs. filter (is_of rule) so_far ++ zs) (of_number rule number b is (slice_get ROWS number))))
+
+-- with those of a row of the rule
+pub of_rule_next : (rule : Rule) (number : ℕ) (items more : List Asked) → number < length ROWS →
+    is_number (rule_number rule) (rule_of number) ≡ true → items ≡ filter (is_of rule) (asked_from 0 (take number ROWS)) →
+    more ≡ items ++ asked_in number (slice_get ROWS number) → more ≡ filter (is_of rule) (asked_from 0 (take (number + 1) ROWS))
+of_rule_next rule number items more l on is next =
+    next ∙ (ap (λ zs. zs ++ asked_in number (slice_get ROWS number)) is ∙ rule_next rule number true l on)
+
+-- a row of another rule
+pub of_rule_skip : (rule : Rule) (number : ℕ) (items : List Asked) → number < length ROWS →
+    is_number (rule_number rule) (rule_of number) ≡ false → items ≡ filter (is_of rule) (asked_from 0 (take number ROWS)) →
+    items ≡ filter (is_of rule) (asked_from 0 (take (number + 1) ROWS))
+of_rule_skip rule number items l off is =
+    is ∙ (sym (append-nil (filter (is_of rule) (asked_from 0 (take number ROWS)))) ∙ rule_next rule number false l off)
 
 module _ (context : Context) (operators : List (Operator × ℕ)) (kind : Growth) (rule : Rule) where
   -- of one operator

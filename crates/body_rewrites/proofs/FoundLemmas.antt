@@ -8,7 +8,7 @@ use Rattle.std.proofs.Math.Nat.{mod-mod}
 use Rattle.wasm_code.specs.Instruction.{Instruction}
 use Rattle.peephole_machine.specs.declared.integer.IntegerType.{IntegerType}
 use Rattle.peephole_machine.specs.Values.{Context}
-use Rattle.rewrite_rules.specs.declared.pattern.Number.TheVariants.{Literal, Ones, Slot, Turned, Next, Previous, Negated, Power, Place, Sum}
+use Rattle.rewrite_rules.specs.declared.pattern.Number.TheVariants.{Literal, Ones, Bits, Sign, Slot, Turned, Next, Previous, Negated, Power, Place, Sum}
 use Rattle.rewrite_rules.specs.declared.pattern.Part.{Part}
 use Rattle.rewrite_rules.specs.declared.pattern.Part.TheVariants.{Hole, Constant, Drawn, Apply}
 use Rattle.rewrite_rules.specs.Numbers.{low, constant_at}
@@ -81,6 +81,8 @@ module _ (context : Context) (operators : Operators) (t : IntegerType) (x : ℕ 
       ∙ (low_low (constant_at numbers m) ∙ ap (λ k. low t (constant_at numbers k)) (eqb-true m n e))
   slot_is (Constant u (Literal m)) n start end e own c h = absurd (false≢true e)
   slot_is (Constant u Ones) n start end e own c h = absurd (false≢true e)
+  slot_is (Constant u Bits) n start end e own c h = absurd (false≢true e)
+  slot_is (Constant u Sign) n start end e own c h = absurd (false≢true e)
   slot_is (Constant u (Turned i)) n start end e own c h = absurd (false≢true e)
   slot_is (Constant u (Next i)) n start end e own c h = absurd (false≢true e)
   slot_is (Constant u (Previous i)) n start end e own c h = absurd (false≢true e)
@@ -113,6 +115,8 @@ module _ (context : Context) (operators : Operators) (t : IntegerType) (x : ℕ 
   moved_part y found (Hole n) start end own code number h = subst (Stands operators start end) (sym (code n (eq-eqb n n refl))) h
   moved_part y found (Constant u (Literal n)) start end own code number h = h
   moved_part y found (Constant u Ones) start end own code number h = h
+  moved_part y found (Constant u Bits) start end own code number h = h
+  moved_part y found (Constant u Sign) start end own code number h = h
   moved_part y found (Constant u (Slot i)) start end own code number h =
       let same : low u (constant_at numbers i) ≡ low u (constant_at found i) =
       subst (λ u. low u (constant_at numbers i) ≡ low u (constant_at found i)) (sym own.0) (sym (number i own.1 (eq-eqb i i refl))) in

@@ -7,13 +7,13 @@ use Rattle.peephole_machine.specs.declared.integer.IntegerType.{IntegerType}
 use Rattle.peephole_machine.specs.declared.integer.IntegerType.TheVariants as integer
 use Rattle.rewrite_rules.specs.declared.pattern.Number.{Number}
 use Rattle.rewrite_rules.specs.declared.pattern.Number.TheVariants as number
-use Rattle.rewrite_rules.specs.declared.pattern.Number.TheVariants.{Literal, Ones, Slot, Turned, Next, Previous, Negated, Place, Sum}
+use Rattle.rewrite_rules.specs.declared.pattern.Number.TheVariants.{Literal, Ones, Bits, Sign, Slot, Turned, Next, Previous, Negated, Place, Sum}
 use Rattle.rewrite_rules.specs.declared.pattern.Part.{Part}
 use Rattle.rewrite_rules.specs.declared.pattern.Part.TheVariants as part
 use Rattle.rewrite_rules.specs.declared.table.Step.{Step}
 use Rattle.rewrite_rules.specs.declared.table.Step.TheVariants.{Operand, Constant, Drawn, Binary, Compare, Eqz, Select, Whole, Exact, End}
 use Rattle.rewrite_rules.specs.declared.table.Condition as asked
-use Rattle.rewrite_rules.specs.declared.table.Condition.TheVariants.{BelowWidth, Power, Mask}
+use Rattle.rewrite_rules.specs.declared.table.Condition.TheVariants.{BelowWidth, Power, Mask, Turns}
 use Rattle.rewrite_rules.specs.declared.table.Row.{Row}
 use Rattle.rewrite_rules.specs.Order.{is_in}
 use Rattle.rewrite_rules.specs.Holes.{holes_for}
@@ -47,12 +47,13 @@ slot_in i [] = false
 slot_in i (End ∷ steps) = false
 slot_in i (s ∷ steps) = slot_step i s || slot_in i steps
 
--- what is asked is of one of the first two constants
+-- what is asked is of one of the first two constants, or of both
 abbrev pub asks_slot : Option asked.Condition → List Step → Bool
 asks_slot None steps = true
 asks_slot (Some (BelowWidth i)) steps = is_own (Slot i) && slot_in i steps
 asks_slot (Some (Power i)) steps = is_own (Slot i) && slot_in i steps
 asks_slot (Some (Mask i)) steps = is_own (Slot i) && slot_in i steps
+asks_slot (Some (Turns i j)) steps = (is_own (Slot i) && slot_in i steps) && (is_own (Slot j) && slot_in j steps)
 
 abbrev plain_row : Row → Bool
 plain_row row = plain_steps row.left && asks_slot row.condition row.left
@@ -86,6 +87,8 @@ turned n m = go (n == m) (m == n) refl refl
 slot_part : (n : ℕ) (e : Number) → slot_step n (Constant e) ≡ is_slot (part.Constant integer.I32 e) n
 slot_part n (Literal m) = refl
 slot_part n Ones = refl
+slot_part n Bits = refl
+slot_part n Sign = refl
 slot_part n (Slot i) = refl
 slot_part n (Turned i) = refl
 slot_part n (Next i) = refl

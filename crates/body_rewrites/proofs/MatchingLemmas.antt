@@ -8,7 +8,7 @@ use Rattle.wasm_code.specs.declared.operator.Operator.{Operator}
 use Rattle.wasm_code.specs.declared.operator.Operator.TheVariants.{Instr}
 use Rattle.rewrite_rules.specs.declared.pattern.Part.{Part}
 use Rattle.body_rewrites.specs.Trees.{Stands}
-use Rattle.body_rewrites.specs.Matching.{is_slot, operators_in, number_at, slot_at, HaveSame, HaveSameCode}
+use Rattle.body_rewrites.specs.Matching.{is_hole, is_slot, operand_at, operators_in, number_at, slot_at, HaveSame, HaveSameCode}
 use Rattle.body_rewrites.proofs.StandsLemmas.{Operators, stands_snoc}
 
 -- ---- constants
@@ -22,6 +22,18 @@ slot_past operators (p ∷ ps) (k ∷ ks) zero n d e l other = ap (λ b. if b th
 slot_past operators (p ∷ ps) (k ∷ ks) (suc i) n d e l other =
     slot_past operators ps ks i n d (omega arith) (omega arith) other
     ∙ ap (λ j. slot_at operators (drop j (p ∷ ps)) (drop j (k ∷ ks)) n) (let s : suc (i + 1) ≡ suc i + 1 = omega arith in s)
+
+-- ---- operands
+
+pub operand_past : (ps : List Part) (ks : List ℕ) (i at n : ℕ) (d : Part) → length ks ≡ length ps → i < length ps →
+    is_hole (slice_index_or ps i d) n ≡ false →
+    operand_at (drop i ps) (drop i ks) at n ≡ operand_at (drop (i + 1) ps) (drop (i + 1) ks) (slice_index_or ks i 0) n
+operand_past [] ks i at n d e l other = absurd (omega arith)
+operand_past (p ∷ ps) [] i at n d e l other = absurd (omega arith)
+operand_past (p ∷ ps) (k ∷ ks) zero at n d e l other = ap (λ b. if b then (k, at) else operand_at ps ks k n) other
+operand_past (p ∷ ps) (k ∷ ks) (suc i) at n d e l other =
+    operand_past ps ks i at n d (omega arith) (omega arith) other
+    ∙ ap (λ j. operand_at (drop j (p ∷ ps)) (drop j (k ∷ ks)) (slice_index_or ks i 0) n) (let s : suc (i + 1) ≡ suc i + 1 = omega arith in s)
 
 -- ---- ranges
 

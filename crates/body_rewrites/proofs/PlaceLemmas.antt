@@ -1,5 +1,5 @@
 -- Where a pattern that is found is a line's place, and that no place is forgotten.
-use Rattle.std.proofs.Common.{◌≡◌, ℕ, zero, suc, ◌+◌, ◌-◌, ◌^◌, ◌<◌, ◌≤◌, Bool, true, false, List, [], Option, Some, None, refl, sym, ap, subst, ◌∙◌, arith}
+use Rattle.std.proofs.Common.{◌≡◌, ℕ, zero, suc, ◌+◌, ◌-◌, ◌%◌, ◌^◌, ◌<◌, ◌≤◌, Bool, true, false, List, [], Option, Some, None, refl, sym, ap, ap₂, subst, ◌∙◌, arith}
 use Rattle.std.specs.Prelude.{◌&&◌, ◌==◌, nat_lt, get_or, length, option_map, reverse, slice_get}
 use Rattle.std.specs.Option.{option_flatten}
 use Rattle.std.proofs.lemmas.Bool.{and_parts}
@@ -14,7 +14,7 @@ use Rattle.rewrite_rules.specs.declared.order.Effects.{Effects}
 use Rattle.rewrite_rules.specs.declared.pattern.Part.{Part}
 use Rattle.rewrite_rules.specs.declared.table.Step.{Step}
 use Rattle.rewrite_rules.specs.declared.table.Condition as asked
-use Rattle.rewrite_rules.specs.declared.table.Condition.TheVariants.{BelowWidth, Power, Mask}
+use Rattle.rewrite_rules.specs.declared.table.Condition.TheVariants.{BelowWidth, Power, Mask, Turns}
 use Rattle.rewrite_rules.specs.declared.pattern.Number.TheVariants.{Slot}
 use Rattle.rewrite_rules.specs.Line.{all_hold}
 use Rattle.rewrite_rules.specs.Laws.{TableIsRight}
@@ -56,6 +56,11 @@ asked_alike t c d (Some (Power i)) steps e same =
 asked_alike t c d (Some (Mask i)) steps e same =
     let (own, is) = and_parts (is_own (Slot i)) (slot_in i steps) e in
     ap (λ n. (nat_lt n (2 ^ bits (width_of t) - 1) && (2 ^ lowest_bit t (n + 1) == n + 1)) && true) (same i own is)
+asked_alike t c d (Some (Turns i j)) steps e same =
+    let (first, second) = and_parts (is_own (Slot i) && slot_in i steps) (is_own (Slot j) && slot_in j steps) e in
+    let (own, is) = and_parts (is_own (Slot i)) (slot_in i steps) first in
+    let (other, there) = and_parts (is_own (Slot j)) (slot_in j steps) second in
+    ap₂ (λ n m. ((n % bits (width_of t) + m % bits (width_of t)) % bits (width_of t) == 0) && true) (same i own is) (same j other there)
 
 -- ---- the line of a row
 

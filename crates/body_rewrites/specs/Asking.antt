@@ -1,6 +1,7 @@
 -- The lines of the table, as operators are asked for them: for private functions (this project).
-use Rattle.std.specs.Prelude.{◌≡◌, ◌⊎◌, ◌↔◌, ℕ, suc, ◌≤◌, ◌<◌, ◌++◌, Bool, true, false, if◌then◌else◌, List, [], ◌∷◌, map, length, Option, Some, None, slice_get}
+use Rattle.std.specs.Prelude.{◌≡◌, ◌⊎◌, ◌↔◌, ℕ, suc, ◌≤◌, ◌<◌, ◌++◌, ⊤, Bool, true, false, List, [], ◌∷◌, map, length, Option, Some, None, slice_get}
 use Rattle.std.specs.Global.{Vec}
+use Rattle.std.specs.List.{filter}
 use Rattle.wasm_code.specs.declared.operator.Operator.{Operator}
 use Rattle.peephole_machine.specs.declared.integer.IntegerType.{IntegerType}
 use Rattle.peephole_machine.specs.Values.{Context}
@@ -31,6 +32,11 @@ asked_as number row width = record {
 -- those of the row
 abbrev pub asked_for : (number : ℕ) → Row → List Asked
 asked_for number row = map (asked_as number row) (asked_widths row.widths)
+
+-- those of the row that is there, where one is
+abbrev pub asked_in : (number : ℕ) → Option Row → List Asked
+asked_in number None = []
+asked_in number (Some row) = asked_for number row
 
 abbrev pub asked_from : (number : ℕ) → List Row → List Asked
 asked_from number [] = []
@@ -76,27 +82,28 @@ by_form form b = b
 abbrev pub is_candidate : (class : ℕ) → Asked → Bool
 is_candidate class asked = by_form asked.form (fits class true asked.root)
 
--- the numbers of the items that pass the test
-abbrev pub numbers_from : {A : Type 0} → (A → Bool) → (number : ℕ) → List A → List ℕ
-numbers_from test number [] = []
-numbers_from test number (x ∷ xs) = if test x then number ∷ numbers_from test (suc number) xs else numbers_from test (suc number) xs
+-- its left side is one
+abbrev pub form_alone : Form → Bool
+form_alone (Alone doubles) = true
+form_alone form = false
 
-abbrev pub candidates : (class : ℕ) → List ℕ
-candidates class = numbers_from (is_candidate class) 0 all_asked
+abbrev pub is_alone : Asked → Bool
+is_alone asked = form_alone asked.form
 
--- the item that is there
-abbrev pub listed : Option Asked → List Asked
-listed None = []
-listed (Some asked) = asked ∷ []
-
--- those with the numbers
-abbrev pub picked : List Asked → (numbers : List ℕ) → List Asked
-picked list [] = []
-picked list (n ∷ ns) = listed (slice_get list n) ++ picked list ns
+abbrev pub candidates : (class : ℕ) → List Asked
+candidates class = filter (is_candidate class) all_asked
 
 -- the class is marked
 abbrev pub IsUsed : (used : List Bool) → (class : ℕ) → Type 0
 IsUsed used class = slice_get used class ≡ Some true
+
+-- no instruction of a marked class may stand where a line with the root applies, and where one of the row applies for these widths
+abbrev pub NoneStands : (used : List Bool) → Root → Type 0
+NoneStands used root = (class : ℕ) → IsUsed used class → fits class true root ≡ false
+
+abbrev pub NoneServes : (used : List Bool) → Row → List IntegerType → Type 0
+NoneServes used row [] = ⊤
+NoneServes used row (w ∷ ws) = NoneStands used (root_of (record { row = row; width = w })) × NoneServes used row ws
 
 -- From the first to before the second are the classes where a line with the root may apply, and where the line is a candidate.
 abbrev pub AreRootClasses : Root → (classes : ℕ × ℕ) → Type 0
@@ -106,18 +113,23 @@ abbrev pub AreCandidateClasses : Asked → (classes : ℕ × ℕ) → Type 0
 AreCandidateClasses asked classes = (class : ℕ) → class < 169 → (is_candidate class asked ≡ true) ↔ ((classes.0 ≤ class) × (class < classes.1))
 
 -- there are so many lists, all of them empty
-pub record AreEmpty (count : ℕ) (lists : List (Vec ℕ)) : Type 0 where
+pub record AreEmpty (count : ℕ) (lists : List (Vec Asked)) : Type 0 where
   pub long : length lists ≡ count
-  pub each : (class : ℕ) (v : Vec ℕ) → slice_get lists class ≡ Some v → v.items ≡ []
+  pub each : (class : ℕ) (v : Vec Asked) → slice_get lists class ≡ Some v → v.items ≡ []
 
--- The lists of marked classes, from the first to before the second of these, have the number more, and others are as they were.
-pub record AddsNumber (number : ℕ) (used : List Bool) (classes : ℕ × ℕ) (old new : List (Vec ℕ)) : Type 0 where
+-- The lists of marked classes, from the first to before the second of these, have the line more, and others are as they were.
+pub record AddsLine (asked : Asked) (used : List Bool) (classes : ℕ × ℕ) (old new : List (Vec Asked)) : Type 0 where
   pub long : length new ≡ length old
-  pub within : (class : ℕ) (v : Vec ℕ) → classes.0 ≤ class → class < classes.1 → IsUsed used class → slice_get new class ≡ Some v →
-      (w : Vec ℕ) × (slice_get old class ≡ Some w) × (v.items ≡ w.items ++ number ∷ [])
+  pub within : (class : ℕ) (v : Vec Asked) → classes.0 ≤ class → class < classes.1 → IsUsed used class → slice_get new class ≡ Some v →
+      (w : Vec Asked) × (slice_get old class ≡ Some w) × (v.items ≡ w.items ++ asked ∷ [])
   pub beyond : (class : ℕ) → (class < classes.0) ⊎ (classes.1 ≤ class) → slice_get new class ≡ slice_get old class
 
--- There is a list for each class, with the numbers of its candidates where the class is marked.
-pub record AreLists (used : List Bool) (count : ℕ) (lists : List (Vec ℕ)) : Type 0 where
-  pub long : length lists ≡ count
-  pub each : (class : ℕ) (v : Vec ℕ) → slice_get lists class ≡ Some v → IsUsed used class → v.items ≡ candidates class
+-- There is a list for each class, with the candidates among the lines where the class is marked.
+pub record AreLists (used : List Bool) (lines : List Asked) (lists : List (Vec Asked)) : Type 0 where
+  pub long : length lists ≡ 169
+  pub each : (class : ℕ) (v : Vec Asked) → slice_get lists class ≡ Some v → IsUsed used class → v.items ≡ filter (is_candidate class) lines
+
+-- So there is, and a list of those lines that are of an operand alone.
+pub record AreLaidOut (used : List Bool) (lines : List Asked) (lists : List (Vec Asked)) (alone : List Asked) : Type 0 where
+  pub by_class : AreLists used lines lists
+  pub apart : alone ≡ filter is_alone lines

@@ -1,5 +1,5 @@
 -- How many rewrites of a body there are by each rule that do each thing to the number of operators, as they are counted. For private functions (this project).
-use Rattle.std.specs.Prelude.{◌≡◌, ◌+◌, ◌*◌, ◌^◌, ◌≤◌, ◌<◌, ◌==◌, ◌++◌, if◌then◌else◌, ℕ, zero, suc, List, [], ◌∷◌, Bool, true, false, length, Option, Some, None, option_map, option_to_list, Contains, Result, Ok, Err, slice_get}
+use Rattle.std.specs.Prelude.{◌≡◌, ◌+◌, ◌*◌, ◌^◌, ◌≤◌, ◌<◌, ◌==◌, ◌++◌, if◌then◌else◌, ℕ, zero, suc, List, [], ◌∷◌, Bool, false, length, Option, Some, None, option_map, option_to_list, Contains, Result, Ok, Err, slice_get}
 use Rattle.std.specs.List.{filter}
 use Rattle.std.specs.Option.{option_flatten}
 use Rattle.wasm_code.specs.declared.operator.Operator.{Operator}
@@ -81,14 +81,6 @@ by_alone tree asked form = None
 
 abbrev pub alone_slot : Tree → Asked → Option ℕ
 alone_slot tree asked = by_alone tree asked asked.form
-
--- whether the line is such a one
-abbrev pub form_alone : Form → Bool
-form_alone (Alone doubles) = true
-form_alone form = false
-
-abbrev pub is_alone : Asked → Bool
-is_alone asked = form_alone asked.form
 
 -- those of some lines
 abbrev pub alone_slots : Tree → List Asked → List ℕ

@@ -10,7 +10,7 @@ use Rattle.wasm_code.specs.declared.operator.Operator.TheVariants.{Instr}
 use Rattle.peephole_machine.specs.declared.integer.IntegerType.{IntegerType}
 use Rattle.peephole_machine.specs.Values.{Context}
 use Rattle.rewrite_rules.specs.declared.pattern.Number.{Number}
-use Rattle.rewrite_rules.specs.declared.pattern.Number.TheVariants.{Literal, Ones, Slot}
+use Rattle.rewrite_rules.specs.declared.pattern.Number.TheVariants.{Literal, Ones, Bits, Sign, Slot}
 use Rattle.rewrite_rules.specs.declared.pattern.Part.{Part}
 use Rattle.rewrite_rules.specs.declared.pattern.Part.TheVariants.{Hole, Constant}
 use Rattle.rewrite_rules.specs.Numbers.{constant_at}
@@ -66,9 +66,14 @@ HaveSameCode operators one other = (code : List Instruction) × Stands operators
 
 -- ---- constants
 
--- it is the constant whose number is that with the index
+-- it is that with the index
+abbrev pub is_slot_number : Number → ℕ → Bool
+is_slot_number (Slot m) n = m == n
+is_slot_number e n = false
+
+-- it is the constant with that number
 abbrev pub is_slot : Part → ℕ → Bool
-is_slot (Constant t (Slot m)) n = m == n
+is_slot (Constant t e) n = is_slot_number e n
 is_slot p n = false
 
 -- a constant's number
@@ -159,10 +164,12 @@ MatchesAreTheCode =
 
 -- ---- patterns of left sides
 
--- a number that is told of the constant alone: a literal, all ones, or one of two slots
+-- a number that is told of the constant alone: a literal, all ones, one of the width, or one of two slots
 abbrev pub is_own : Number → Bool
 is_own (Literal n) = true
 is_own Ones = true
+is_own Bits = true
+is_own Sign = true
 is_own (Slot i) = i == 0 || i == 1
 is_own e = false
 

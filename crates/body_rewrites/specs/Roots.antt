@@ -6,9 +6,13 @@ use Rattle.wasm_code.specs.declared.operator.Operator.TheVariants.{Instr}
 use Rattle.wasm_types.specs.declared.types.PrimitiveTypeInfo.{PrimitiveTypeInfo}
 use Rattle.peephole_machine.specs.declared.integer.IntegerType.{IntegerType}
 use Rattle.peephole_machine.specs.declared.integer.IntegerType.TheVariants as integer
+use Rattle.peephole_machine.specs.declared.operation.Operation.TheVariants as operation
 use Rattle.peephole_machine.specs.Values.{Context}
+use Rattle.rewrite_rules.specs.declared.pattern.Operator.TheVariants as operator
 use Rattle.rewrite_rules.specs.declared.pattern.Part.{Part}
 use Rattle.rewrite_rules.specs.declared.pattern.Part.TheVariants.{Hole, Constant, Drawn, Apply}
+use Rattle.rewrite_rules.specs.declared.table.Step.{Step}
+use Rattle.rewrite_rules.specs.declared.table.Step.TheVariants as step
 use Rattle.rewrite_rules.specs.declared.table.Widths.{Widths}
 use Rattle.rewrite_rules.specs.declared.table.Widths.TheVariants.{Own}
 use Rattle.rewrite_rules.specs.declared.table.Own as own_rules
@@ -54,6 +58,19 @@ part_root (Hole n) = root.Tree
 part_root (Constant t e) = constant_root t
 part_root (Drawn t) = root.Any
 part_root (Apply o) = one_row (row_number o)
+
+-- that of a step that stands last, for the width
+abbrev pub step_root : IntegerType → Step → Root
+step_root t (step.Operand n) = root.Tree
+step_root t (step.Constant e) = constant_root t
+step_root t step.Drawn = root.Any
+step_root t (step.Binary f) = one_row (row_number (operator.Whole (operation.Binary t f)))
+step_root t (step.Compare f) = one_row (row_number (operator.Whole (operation.Compare t f)))
+step_root t step.Eqz = one_row (row_number (operator.Whole (operation.Eqz t)))
+step_root t step.Select = one_row (row_number operator.Select)
+step_root t (step.Whole f) = one_row (row_number (operator.Whole f))
+step_root t (step.Exact n i) = one_row n
+step_root t step.End = root.Any
 
 -- of parts, the last one first
 abbrev pub first_root : List Part → Root

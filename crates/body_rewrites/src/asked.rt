@@ -1,8 +1,9 @@
 //! Lines of the table, as operators are asked for them.
-ghost use Rattle.std.specs.Prelude.{◌≡◌, ◌++◌, OnOk, IfOk};
+ghost use Rattle.std.specs.Prelude.{◌≡◌, ◌++◌, slice_get, OnOk, IfOk};
 ghost use Rattle.body_rewrites.specs.Alone.{form_of};
 ghost use Rattle.body_rewrites.specs.Rewrites.{asked_widths};
-ghost use Rattle.body_rewrites.specs.Asking.{asked_as, asked_for, all_asked};
+ghost use Rattle.body_rewrites.specs.Asking.{asked_as, asked_for, asked_in, all_asked};
+ghost use Rattle.rewrite_rules.specs.Table.{ROWS};
 ghost use Rattle.body_rewrites.specs.Listing.{widths_told};
 
 use crate::alone::form_of;
@@ -65,8 +66,8 @@ impl Asked {
     }
 }
 
-// The widths that a row is asked for: one, and another one where there is one.
-fn widths_of(widths: Widths) -> (IntegerType, Option<IntegerType>)
+/// The widths that a row is asked for: one, and another one where there is one.
+pub(crate) fn widths_of(widths: Widths) -> (IntegerType, Option<IntegerType>)
     ensures { asked_widths widths ≡ widths_told result.0 result.1 }
 {
     match widths {
@@ -78,8 +79,8 @@ fn widths_of(widths: Widths) -> (IntegerType, Option<IntegerType>)
     }
 }
 
-// The line of the row with the number for the width.
-fn asked_as(number: usize, row: TableRow, form: Form, width: IntegerType) -> Asked
+/// The line of the row with the number for the width.
+pub(crate) fn asked_as(number: usize, row: TableRow, form: Form, width: IntegerType) -> Asked
     requires { form ≡ form_of row }
     ensures { result ≡ asked_as number row width }
 {
@@ -108,15 +109,24 @@ fn add_asked(number: usize, row: TableRow, list: &mut Vec<Asked>) -> Result<(), 
     }
 }
 
+/// Adds the lines of the row with the number, where there is one. The only error is that memory was refused.
+pub(crate) fn add_numbered(number: usize, list: &mut Vec<Asked>) -> Result<(), AllocError>
+    ensures { OnOk result
+        (list.new.items ≡ list.old.items ++ asked_in number (slice_get ROWS number)) }
+{
+    match TableRow::numbered(number) {
+        Some(row) => add_asked(number, row, list),
+        None => Ok(()),
+    }
+}
+
 /// All lines of the table, by the row and the width. The only error is that memory was refused.
 pub(crate) fn all_asked(alloc: Global) -> Result<Vec<Asked>, AllocError>
     ensures { IfOk result (λ list. list.items ≡ all_asked) }
 {
     let mut list = Vec::new(alloc);
     for number in 0..row_count() {
-        if let Some(row) = TableRow::numbered(number) {
-            add_asked(number, row, &mut list)?;
-        }
+        add_numbered(number, &mut list)?;
     }
     Ok(list)
 }

@@ -1,17 +1,16 @@
 //! The lines of the table, laid out for counting what they make of the operators of a body.
-ghost use Rattle.std.specs.Prelude.{◌≡◌, ◌++◌, ◌<◌, ◌≤◌, ◌||◌, [], ℕ, true, length, option_to_list, slice_get, IfOk, IfSome, IfNone, OnOk};
+ghost use Rattle.std.specs.Prelude.{◌≡◌, ◌++◌, ◌<◌, ◌||◌, [], length, option_to_list, slice_get, IfOk, IfSome, IfNone, OnOk};
 ghost use Rattle.std.specs.List.{filter};
 ghost use Rattle.wasm_types.specs.declared.types.PrimitiveTypeInfo.TheVariants as PrimitiveTypeInfo;
-ghost use Rattle.rewrite_rules.specs.Names.{rule_of};
 ghost use Rattle.body_rewrites.specs.Listing.{AreRules};
-ghost use Rattle.body_rewrites.specs.Asking.{all_asked, candidates, AddsNumber, AreRootClasses, AreCandidateClasses, AreEmpty, IsUsed, AreLists};
-ghost use Rattle.body_rewrites.specs.Counting.{sample, is_alone, alone_slot, alone_slots, AreUsed};
+ghost use Rattle.body_rewrites.specs.Asking.{all_asked, candidates, is_alone, IsUsed};
+ghost use Rattle.body_rewrites.specs.Counting.{sample, alone_slot, alone_slots, AreUsed};
 
 use crate::alone::takes;
-use crate::asked::{Asked, Form, all_asked};
+use crate::asked::{Asked, Form};
 use crate::counts::slot_of;
 use crate::growth::Growth;
-use crate::root::Root;
+use crate::layout::lay_out;
 use crate::roots::class_at;
 use crate::trees::Tree;
 use rewrite_rules::rules_of_rows;
@@ -23,13 +22,12 @@ use wasm_types::PrimitiveTypeInfo;
 /// The lines of the table, laid out for counting what they make of the operators of a body.
 #[derive(Drop)]
 pub(crate) struct Counter {
-    lines: Vec<Asked>,
     // For each row the number of its rule.
     rules: Vec<u16>,
     // The classes of the body's instructions.
     used: Vec<bool>,
-    // For each of these the numbers of the lines that may apply where such an instruction stands, but those of an operand alone.
-    lists: Vec<Vec<u16>>,
+    // For each of these the lines that may apply where such an instruction stands, but those of an operand alone.
+    lists: Vec<Vec<Asked>>,
     // The places of the counts of what the lines of an operand alone make of a tree, by its type, and by whether it writes or asks.
     calm_i32: Vec<usize>,
     busy_i32: Vec<usize>,
@@ -48,8 +46,8 @@ impl Model for Counter {
 
     ghost view = { λ c. c.used.items };
 
-    ghost invariant = { λ c. (c.lines.items ≡ all_asked) × AreRules c.rules.items
-        × (length c.used.items ≡ 169) × AreLists c.used.items 169 c.lists.items
+    ghost invariant = { λ c. AreRules c.rules.items
+        × (length c.used.items ≡ 169) × AreLists c.used.items all_asked c.lists.items
         × (c.calm_i32.items ≡ alone_slots (sample I32 false) all_asked)
         × (c.busy_i32.items ≡ alone_slots (sample I32 true) all_asked)
         × (c.calm_i64.items ≡ alone_slots (sample I64 false) all_asked)
@@ -73,84 +71,6 @@ fn mark_classes(operators: &[OperatorAndByteOffset], used: &mut [bool])
     for at in 0..operators.len() {
         used[class_at(operators, at)] = true;
     }
-}
-
-// The class behind the last one, of which there are 169.
-fn behind_class(last: usize) -> usize
-    ensures same { (class : ℕ) → class < 169 → class ≤ last → class < result }
-    ensures only { (class : ℕ) → class < result → class ≤ last }
-    ensures inside { result ≤ 169 }
-{
-    if last < 168 { last + 1 } else { 169 }
-}
-
-// The first class and the one behind the last of the instructions where a line with the root may apply.
-fn classes_of_root(root: Root) -> (usize, usize)
-    ensures are { AreRootClasses root result }
-    ensures inside { result.1 ≤ 169 }
-{
-    match root {
-        Root::Classes(first, last) => (first, behind_class(last)),
-        Root::Tree => (0, 169),
-        Root::Any => (0, 169),
-    }
-}
-
-// The same of the line; none where its left side is an operand alone.
-fn classes_of(asked: &Asked) -> (usize, usize)
-    ensures are { AreCandidateClasses asked.now result }
-    ensures inside { result.1 ≤ 169 }
-{
-    match asked.form {
-        Form::Own(_) => classes_of_root(asked.root),
-        Form::Alone(_) => (0, 0),
-        Form::Other => classes_of_root(asked.root),
-    }
-}
-
-// Adds the number to the list of each used class, from the first one to before the end.
-fn add_number(
-    number: usize,
-    classes: (usize, usize),
-    used: &[bool],
-    lists: &mut [Vec<u16>],
-) -> Result<(), AllocError>
-    requires number { number < 65536 }
-    requires used { classes.1 ≤ length used.now }
-    requires lists { classes.1 ≤ length lists.old }
-    ensures { OnOk result (AddsNumber number used.now classes lists.old lists.new) }
-{
-    for class in classes.0..classes.1 {
-        if used[class] {
-            lists[class].push(number as u16)?;
-        }
-    }
-    Ok(())
-}
-
-// An empty list for each class.
-fn empty_lists(alloc: Global) -> Result<Vec<Vec<u16>>, AllocError>
-    ensures { IfOk result (λ lists. AreEmpty 169 lists.items) }
-{
-    let mut lists = Vec::new(alloc);
-    for _ in 0..169usize {
-        lists.push(Vec::new(alloc))?;
-    }
-    Ok(lists)
-}
-
-// The numbers of the lines that may apply where an instruction of each used class stands, but those of an operand alone.
-fn lists_of(alloc: Global, lines: &[Asked], used: &[bool]) -> Result<Vec<Vec<u16>>, AllocError>
-    requires lines { lines.now ≡ all_asked }
-    requires used { length used.now ≡ 169 }
-    ensures { IfOk result (λ lists. AreLists used.now 169 lists.items) }
-{
-    let mut lists = empty_lists(alloc)?;
-    for number in 0..lines.len() {
-        let classes = classes_of(&lines[number]);
-        add_number(number, classes, used, &mut lists)?;
-    }
-    Ok(lists)
 }
 
 // A tree of the type that writes, or does nothing but leave its value.
@@ -203,30 +123,6 @@ fn add_slot(
     }
 }
 
-// Whether the line's left side is an operand alone.
-fn is_alone(asked: &Asked) -> bool
-    ensures { result ≡ is_alone asked.now }
-{
-    match asked.form {
-        Form::Alone(_) => true,
-        Form::Own(_) => false,
-        Form::Other => false,
-    }
-}
-
-// Those lines.
-fn alone_lines(alloc: Global, lines: &[Asked]) -> Result<Vec<Asked>, AllocError>
-    ensures { IfOk result (λ list. list.items ≡ filter is_alone lines.now) }
-{
-    let mut list = Vec::new(alloc);
-    for asked in lines {
-        if is_alone(asked) {
-            list.push(asked.again())?;
-        }
-    }
-    Ok(list)
-}
-
 // The places of the counts for what lines of an operand alone make of such a tree; `lines` are those lines.
 fn alone_slots(
     alloc: Global,
@@ -246,7 +142,7 @@ fn alone_slots(
 }
 
 // The list with the number. Condition: there is one.
-fn list_at(lists: &[Vec<u16>], number: usize) -> &[u16]
+fn list_at(lists: &[Vec<Asked>], number: usize) -> &[Asked]
     requires { number < length lists.now }
     ensures { IfSome (slice_get lists.now number) (λ list. result.now ≡ list.items) }
 {
@@ -268,11 +164,9 @@ impl Counter {
     ) -> Result<Counter, AllocError>
         ensures { IfOk result (λ counter. AreUsed operators.now counter) }
     {
-        let lines = all_asked(alloc)?;
         let rules = rules_of_rows(alloc)?;
         let used = used_classes(alloc, operators)?;
-        let lists = lists_of(alloc, lines.as_slice(), used.as_slice())?;
-        let lone = alone_lines(alloc, lines.as_slice())?;
+        let (lists, lone) = lay_out(alloc, used.as_slice())?;
         let alone = lone.as_slice();
         let rows = rules.as_slice();
         let calm_i32 = alone_slots(alloc, rows, alone, sample(PrimitiveTypeInfo::I32, false))?;
@@ -280,7 +174,6 @@ impl Counter {
         let calm_i64 = alone_slots(alloc, rows, alone, sample(PrimitiveTypeInfo::I64, false))?;
         let busy_i64 = alone_slots(alloc, rows, alone, sample(PrimitiveTypeInfo::I64, true))?;
         Ok(Counter {
-            lines,
             rules,
             used,
             lists,
@@ -291,13 +184,6 @@ impl Counter {
         })
     }
 
-    /// The lines, by the row and the width.
-    pub(crate) fn lines(&self) -> &[Asked]
-        ensures { result.now ≡ all_asked }
-    {
-        self.lines.as_slice()
-    }
-
     /// For each row the number of its rule.
     pub(crate) fn rules(&self) -> &[u16]
         ensures { AreRules result.now }
@@ -305,8 +191,8 @@ impl Counter {
         self.rules.as_slice()
     }
 
-    /// The numbers of the lines that may apply where an instruction of the class stands, but those of an operand alone.
-    pub(crate) fn candidates(&self, class: usize) -> &[u16]
+    /// The lines that may apply where an instruction of the class stands, but those of an operand alone.
+    pub(crate) fn candidates(&self, class: usize) -> &[Asked]
         requires { IsUsed self.now class }
         ensures { result.now ≡ candidates class }
     {

@@ -1,18 +1,18 @@
 //! How many rewrites of a body there are by each rule that do each thing to the number of operators.
 ghost use Rattle.std.specs.Prelude.{◌≡◌, ◌↔◌, ◌<◌, ◌*◌, ◌≤◌, ◌∷◌, [], List, length, replicate, slice_get, Some, IfOk, IfSome, IfNone, IsTrue};
 ghost use Rattle.std.specs.List.{filter};
-ghost use Rattle.rewrite_rules.specs.Names.{names};
+ghost use Rattle.rewrite_rules.specs.Names.{names, rule_of};
 ghost use Rattle.rewrite_rules.specs.Rule.{rule_number};
 ghost use Rattle.rewrite_rules.specs.Table.{ROWS};
 ghost use Rattle.body_rewrites.specs.declared.rewrite.Rewrite.{Rewrite};
 ghost use Rattle.body_rewrites.specs.Places.{context_of, HasItsTrees};
 ghost use Rattle.body_rewrites.specs.Rewrites.{asked_below, by_rows};
-ghost use Rattle.body_rewrites.specs.Asking.{all_asked, rewrite_of, rewrites_of, listed, picked, candidates, AreAsked, IsAskedSo, IsHere, IsUsed};
+ghost use Rattle.body_rewrites.specs.Asking.{all_asked, rewrite_of, rewrites_of, AreAsked, IsAskedSo, IsHere};
 ghost use Rattle.body_rewrites.specs.Listing.{AreThose, AreRules, HasGrowth};
 ghost use Rattle.body_rewrites.specs.Choice.{IsOf};
-ghost use Rattle.body_rewrites.specs.Counting.{growth_number, slot_of, slot_in, slots_in, alone_told, AddsCounts, count_in, HaveRoom, HasCount, AreCounts, CountsFound, AreUsed, is_of, asked_of, FindsIn};
+ghost use Rattle.body_rewrites.specs.Counting.{growth_number, slot_of, slot_in, slots_in, alone_told, AddsCounts, count_in, HaveRoom, HasCount, AreCounts, CountsFound, AreUsed, is_number, is_of, asked_of, FindsIn};
 
-use crate::asked::Asked;
+use crate::asked::{Asked, add_numbered};
 use crate::counter::Counter;
 use crate::cutting::tree_at;
 use crate::found::Found;
@@ -26,7 +26,7 @@ use rewrite_rules::laws::{
     holes_are_told, parts_are_the_code, rows_are_few, rules_are_named, sides_are_parts,
     table_is_right, types_are_told,
 };
-use rewrite_rules::{Rule, rule_count};
+use rewrite_rules::{Rule, row_count};
 use std::alloc::{AllocError, Global};
 
 // The number of what becomes of the number of operators.
@@ -53,7 +53,7 @@ fn slot_in(rows: &[u16], found: Found) -> Option<usize>
     requires { AreRules rows.now }
     ensures { result ≡ slot_in found }
 {
-    match rows.get(found.rewrite.row).copied() {
+    match rule_at(rows, found.rewrite.row) {
         Some(number) => Some(slot_of(number, found.growth)),
         None => None,
     }
@@ -88,35 +88,18 @@ fn count_line(body: &Body<'_>, rows: &[u16], asked: &Asked, here: Here, counts: 
     }
 }
 
-// Counts what the line with the number makes at the operator, where there is one.
-fn count_number(body: &Body<'_>, counter: &Counter, number: usize, here: Here, counts: &mut [u128])
+// Counts what the lines make at the operator.
+fn count_lines(body: &Body<'_>, rows: &[u16], lines: &[Asked], here: Here, counts: &mut [u128])
     requires trees { HasItsTrees body.now }
+    requires rules { AreRules rows.now }
+    requires lines { AreAsked lines.now }
     requires here { IsHere (context_of body.now) body.now.operators.now here }
-    requires room { HaveRoom 1 counts.old }
+    requires room { HaveRoom (length lines.now) counts.old }
     ensures { CountsFound (context_of body.now) body.now.operators.now
-        (rewrites_of here.at (listed (slice_get all_asked number))) counts.old counts.new }
+        (rewrites_of here.at lines.now) counts.old counts.new }
 {
-    if let Some(asked) = counter.lines().get(number) {
-        count_line(body, counter.rules(), asked, here, counts);
-    }
-}
-
-// Counts what the lines with the numbers make at the operator.
-fn count_numbers(
-    body: &Body<'_>,
-    counter: &Counter,
-    numbers: &[u16],
-    here: Here,
-    counts: &mut [u128],
-)
-    requires trees { HasItsTrees body.now }
-    requires here { IsHere (context_of body.now) body.now.operators.now here }
-    requires room { HaveRoom (length numbers.now) counts.old }
-    ensures { CountsFound (context_of body.now) body.now.operators.now
-        (rewrites_of here.at (picked all_asked numbers.now)) counts.old counts.new }
-{
-    for number in numbers {
-        count_number(body, counter, *number as usize, here, counts);
+    for asked in lines {
+        count_line(body, rows, asked, here, counts);
     }
 }
 
@@ -169,8 +152,8 @@ fn count_at(body: &Body<'_>, counter: &Counter, at: usize, counts: &mut [u128])
     lefts_are_instances();
     trees_leave();
     let here = here_at(body, at);
-    let numbers = counter.candidates(here.class);
-    count_numbers(body, counter, numbers, here, counts);
+    let lines = counter.candidates(here.class);
+    count_lines(body, counter.rules(), lines, here, counts);
     count_alone(body, counter, at, counts);
 }
 
@@ -189,12 +172,32 @@ fn count_body(body: &Body<'_>, counter: &Counter, counts: &mut [u128])
     }
 }
 
-// A zero for each rule and each thing that becomes of the number of operators.
-fn zeros(alloc: Global) -> Result<Vec<u128>, AllocError>
+// The number of the rule that the row is of, where there is such a row; `rows` are the rules of the rows.
+fn rule_at(rows: &[u16], row: usize) -> Option<u16>
+    requires { AreRules rows.now }
+    ensures { result ≡ rule_of row }
+{
+    rows.get(row).copied()
+}
+
+// How many rules there are; `rows` are the rules of the rows.
+fn rule_count(rows: &[u16]) -> usize
+    requires { AreRules rows.now }
+    ensures { result ≡ length names }
+{
+    match rule_at(rows, row_count() - 1) {
+        Some(last) => last as usize + 1,
+        None => 0,
+    }
+}
+
+// A zero for each rule and each thing that becomes of the number of operators; `rows` are the rules of the rows.
+fn zeros(alloc: Global, rows: &[u16]) -> Result<Vec<u128>, AllocError>
+    requires { AreRules rows.now }
     ensures { IfOk result (λ zeros. zeros.items ≡ replicate (3 * length names) 0) }
 {
     rows_are_few();
-    vec![in alloc; 0; 3 * rule_count()]
+    vec![in alloc; 0; 3 * rule_count(rows)]
 }
 
 /// How many rewrites of the body there are by each rule that do each thing to the number of operators. They are of 128 bits, since
@@ -210,7 +213,7 @@ pub(crate) fn counts_of_body(
         (length body.now.operators.now) counts.items) }
 {
     rules_are_named();
-    let mut counts = zeros(alloc)?;
+    let mut counts = zeros(alloc, counter.rules())?;
     count_body(body, counter, &mut counts);
     Ok(counts)
 }
@@ -233,12 +236,12 @@ pub(crate) fn count_of(counts: &[u128], growth: Growth, rule: Rule) -> u128
     counts[rule_slot(growth, rule)]
 }
 
-// Whether the line is of the rule; `rows` are the rules of the rows.
-fn is_of(rows: &[u16], asked: &Asked, rule: Rule) -> bool
+// Whether the row with the number is of the rule; `rows` are the rules of the rows.
+fn is_of(rows: &[u16], row: usize, rule: Rule) -> bool
     requires { AreRules rows.now }
-    ensures { result ≡ is_of rule asked.now }
+    ensures { result ≡ is_number (rule_number rule) (rule_of row) }
 {
-    match rows.get(asked.number).copied() {
+    match rule_at(rows, row) {
         Some(number) => number as usize == rule.number(),
         None => false,
     }
@@ -249,9 +252,9 @@ fn lines_of(alloc: Global, counter: &Counter, rule: Rule) -> Result<Vec<Asked>, 
     ensures { IfOk result (λ list. list.items ≡ filter (is_of rule) all_asked) }
 {
     let mut list = Vec::new(alloc);
-    for asked in counter.lines() {
-        if is_of(counter.rules(), asked, rule) {
-            list.push(asked.again())?;
+    for number in 0..row_count() {
+        if is_of(counter.rules(), number, rule) {
+            add_numbered(number, &mut list)?;
         }
     }
     Ok(list)

@@ -14,6 +14,7 @@ mod growth;
 mod here;
 mod instructions;
 pub mod laws;
+mod layout;
 mod line_growth;
 mod line_making;
 mod listing;

@@ -1,38 +1,19 @@
 //! What stands in the holes of a pattern that stands in a body, and the numbers of its constants.
 ghost use Rattle.std.specs.Prelude.{◌≡◌, ◌↔◌, ◌≤◌, ℕ, List, length, IsTrue, IfSome, IfNone};
 ghost use Rattle.peephole_machine.specs.Values.{Context};
+ghost use Rattle.rewrite_rules.specs.declared.pattern.Part.{Part};
 ghost use Rattle.body_rewrites.specs.Trees.{AreTrees};
 ghost use Rattle.wasm_code.specs.declared.operator.Operator.{Operator as BodyOperator};
 ghost use Rattle.body_rewrites.specs.Cutting.{AreCut};
 ghost use Rattle.body_rewrites.specs.Operands.{IsOperandOf};
-ghost use Rattle.body_rewrites.specs.Matching.{is_hole, is_slot, operand_at, operand_of, number_at, slot_at, HaveSame, HaveSameCode, HasSomePart, HasSomeCode, HasSomeCut, IsAlike, AreAllAlike, AreOwn, HasSomeTrees, HasMatch, HasSomeMatch};
+ghost use Rattle.body_rewrites.specs.Matching.{operand_at, operand_of, number_at, slot_at, HaveSame, HaveSameCode, HasSomePart, HasSomeCode, HasSomeCut, IsAlike, AreAllAlike, AreOwn, HasSomeTrees, HasMatch, HasSomeMatch};
 
 use crate::cutting::{cuts, tree_at};
 use crate::parts::Parts;
 use crate::trees::{Tree, instr_at};
 use arrayvec::ArrayVec;
-use rewrite_rules::{Number, Part};
+use rewrite_rules::Part;
 use wasm_code::{Imm, Instr, OperatorAndByteOffset};
-
-// Whether the part is the hole with the index.
-fn is_hole(part: Part, index: u8) -> bool
-    ensures { result ≡ is_hole part index }
-{
-    match part {
-        Part::Hole(hole) => hole == index,
-        _ => false,
-    }
-}
-
-// Whether the part is the constant whose number is that with the index.
-fn is_slot(part: Part, index: u8) -> bool
-    ensures { result ≡ is_slot part index }
-{
-    match part {
-        Part::Constant(_, Number::Slot(slot)) => slot == index,
-        _ => false,
-    }
-}
 
 // Where the code in the hole with the index begins, and before which operator it ends.
 pub(crate) fn operand_at(
@@ -46,7 +27,7 @@ pub(crate) fn operand_at(
 {
     let mut at = end;
     for i in 0..parts.len() {
-        if is_hole(parts.at(i), index) {
+        if parts.is_hole(i, index) {
             return (starts[i], at);
         }
         at = starts[i];
@@ -79,7 +60,7 @@ fn slot_at(
     ensures { result ≡ slot_at operators.now parts.now starts.now index }
 {
     for i in 0..parts.len() {
-        if is_slot(parts.at(i), index) {
+        if parts.is_slot(i, index) {
             return number_at(operators, starts[i]);
         }
     }
@@ -243,21 +224,17 @@ pub(crate) fn find(
     Some(Match { starts, numbers })
 }
 
-/// The tree in the hole with the index: its type, and what its code may do; none where the pattern has no such hole.
-pub(crate) fn operand(
-    trees: &[Option<Tree>],
-    parts: &Parts<'_>,
-    starts: &[usize],
-    end: usize,
-    index: u8,
-) -> Option<Tree>
-    requires { length starts.now ≡ length parts.now }
+/// The tree that stands there, which is the operand in a hole: its type, and what its code may do; none where the pattern has no such
+/// hole.
+pub(crate) fn operand(trees: &[Option<Tree>], place: (usize, usize)) -> Option<Tree>
     ensures { (context : Context) (operators : List (BodyOperator × ℕ))
+        (parts : List Part) (starts : List ℕ) (end index : ℕ)
+        → place ≡ operand_at parts starts end index
         → AreTrees context operators trees.now
-        → AreCut context operators parts.now starts.now end
-        → IsOperandOf context operators parts.now starts.now end index result }
+        → AreCut context operators parts starts end
+        → IsOperandOf context operators parts starts end index result }
 {
-    let (_, behind) = operand_at(parts, starts, end, index);
+    let (_, behind) = place;
     if behind == 0 {
         return None;
     }

@@ -1,9 +1,11 @@
 //! The parts of a line's side, read from its end.
 ghost use Rattle.std.specs.Prelude.{◌≡◌, ◌≤◌, ◌<◌, length, reverse, slice_get, Some};
+ghost use Rattle.rewrite_rules.specs.declared.pattern.Part.{Part};
 ghost use Rattle.rewrite_rules.specs.Table.{parts_for};
+ghost use Rattle.body_rewrites.specs.Matching.{is_hole, is_slot, is_slot_number};
 
 use peephole_machine::IntegerType;
-use rewrite_rules::{Part, Side, Step};
+use rewrite_rules::{Number, Part, Side, Step};
 use std::marker::Model;
 
 /// The parts that a side of a line has for a width, the last one first.
@@ -27,16 +29,26 @@ impl<'a> Model for Parts<'a> {
         × (length p.side.now ≡ 7) };
 }
 
-// How many steps stand before the end.
-fn count_of(side: &[Step], width: IntegerType) -> usize
-    ensures { result ≡ length (parts_for width side.now) }
+/// How many steps stand before the end.
+pub(crate) fn count_of(side: &[Step]) -> usize
+    ensures { (width : IntegerType) → result ≡ length (parts_for width side.now) }
 {
     for i in 0..side.len() {
-        if side[i].part(width).is_none() {
+        if let Step::End = side[i] {
             return i;
         }
     }
     side.len()
+}
+
+// Whether it is that with the index.
+fn is_slot_number(number: Number, index: u8) -> bool
+    ensures { result ≡ is_slot_number number index }
+{
+    match number {
+        Number::Slot(slot) => slot == index,
+        _ => false,
+    }
 }
 
 impl<'a> Parts<'a> {
@@ -44,7 +56,7 @@ impl<'a> Parts<'a> {
     pub(crate) fn new(side: &'a Side, width: IntegerType) -> Parts<'a>
         ensures { result ≡ reverse (parts_for width side.now) }
     {
-        let count = count_of(side, width);
+        let count = count_of(side);
         Parts { side, width, count }
     }
 
@@ -64,6 +76,29 @@ impl<'a> Parts<'a> {
         match self.side[self.count - 1 - number].part(self.width) {
             Some(part) => part,
             None => unreachable!(),
+        }
+    }
+    /// Whether it is the hole with the index. It makes no part.
+    pub(crate) fn is_hole(&self, number: usize, index: u8) -> bool
+        requires { number < length self.now }
+        ensures { (part : Part) → slice_get self.now number ≡ Some part
+            → result ≡ is_hole part index }
+    {
+        match self.side[self.count - 1 - number] {
+            Step::Operand(hole) => hole == index,
+            _ => false,
+        }
+    }
+
+    /// Whether it is the constant whose number is that with the index. It makes no part.
+    pub(crate) fn is_slot(&self, number: usize, index: u8) -> bool
+        requires { number < length self.now }
+        ensures { (part : Part) → slice_get self.now number ≡ Some part
+            → result ≡ is_slot part index }
+    {
+        match self.side[self.count - 1 - number] {
+            Step::Constant(number) => is_slot_number(number, index),
+            _ => false,
         }
     }
 }

@@ -2,6 +2,7 @@
 ghost use Rattle.std.specs.Prelude.{◌≡◌, ◌≤◌, ℕ, List, length, IfSome, IfNone};
 ghost use Rattle.wasm_code.specs.declared.operator.Operator.{Operator as BodyOperator};
 ghost use Rattle.peephole_machine.specs.Values.{Context};
+ghost use Rattle.rewrite_rules.specs.declared.pattern.Part.{Part};
 ghost use Rattle.body_rewrites.specs.Trees.{AreTrees};
 ghost use Rattle.body_rewrites.specs.Cutting.{AreCut};
 ghost use Rattle.body_rewrites.specs.Matching.{begin_of};
@@ -79,23 +80,6 @@ fn type_of(tree: Option<Tree>) -> Option<PrimitiveTypeInfo>
     }
 }
 
-// What is known of the operands in the holes.
-fn known_of(trees: &[Option<Tree>], parts: &Parts<'_>, starts: &[usize], end: usize) -> Known
-    requires { length starts.now ≡ length parts.now }
-    ensures { (context : Context) (operators : List (BodyOperator × ℕ))
-        → AreTrees context operators trees.now
-        → AreCut context operators parts.now starts.now end
-        → AreKnown context operators parts.now starts.now end result.types result.effects }
-{
-    let one = operand(trees, parts, starts, end, 0);
-    let two = operand(trees, parts, starts, end, 1);
-    let three = operand(trees, parts, starts, end, 2);
-    Known {
-        types: [type_of(one), type_of(two), type_of(three)],
-        effects: [effects_of(one), effects_of(two), effects_of(three)],
-    }
-}
-
 // Which operators stand in each hole.
 fn operands_of(parts: &Parts<'_>, starts: &[usize], end: usize) -> [(usize, usize); 3]
     requires { length starts.now ≡ length parts.now }
@@ -106,6 +90,24 @@ fn operands_of(parts: &Parts<'_>, starts: &[usize], end: usize) -> [(usize, usiz
         operand_at(parts, starts, end, 1),
         operand_at(parts, starts, end, 2),
     ]
+}
+
+// What is known of the operands in the holes, which stand there.
+fn known_of(trees: &[Option<Tree>], operands: [(usize, usize); 3]) -> Known
+    ensures { (context : Context) (operators : List (BodyOperator × ℕ))
+        (parts : List Part) (starts : List ℕ) (end : ℕ)
+        → operands ≡ operands_told parts starts end
+        → AreTrees context operators trees.now
+        → AreCut context operators parts starts end
+        → AreKnown context operators parts starts end result.types result.effects }
+{
+    let one = operand(trees, operands[0]);
+    let two = operand(trees, operands[1]);
+    let three = operand(trees, operands[2]);
+    Known {
+        types: [type_of(one), type_of(two), type_of(three)],
+        effects: [effects_of(one), effects_of(two), effects_of(three)],
+    }
 }
 
 // Where the first part begins; where there is none, the end.
@@ -148,7 +150,8 @@ pub fn place_of(body: &Body<'_>, line: &Line, end: usize) -> Option<Place>
         return None;
     };
     let starts = found.starts.as_slice();
-    let known = known_of(body.trees, &parts, starts, end);
+    let operands = operands_of(&parts, starts, end);
+    let known = known_of(body.trees, operands);
     let told = Found {
         types: &known.types,
         effects: &known.effects,
@@ -160,7 +163,7 @@ pub fn place_of(body: &Body<'_>, line: &Line, end: usize) -> Option<Place>
     }
     Some(Place {
         start: start_of(starts, end),
-        operands: operands_of(&parts, starts, end),
+        operands,
         numbers: found.numbers,
     })
 }

@@ -1,15 +1,16 @@
 //! What has to stand at an operator where a line of the table applies, and what stands there.
 ghost use Rattle.std.specs.Prelude.{◌≡◌, ◌≤◌};
+ghost use Rattle.rewrite_rules.specs.declared.pattern.Operator.TheVariants as operator;
 ghost use Rattle.rewrite_rules.specs.Instance.{row_number};
-ghost use Rattle.body_rewrites.specs.Roots.{class_of, class_told, IsClassAt, one_row, constant_root, part_root, first_root, own_root, root_of, fits};
+ghost use Rattle.body_rewrites.specs.Roots.{class_of, class_told, IsClassAt, one_row, constant_root, step_root, first_root, own_root, root_of, fits};
 ghost use Rattle.body_rewrites.specs.Places.{left_parts};
 
-use crate::parts::Parts;
+use crate::parts::count_of;
 use crate::places::Line;
 use crate::root::Root;
 use crate::trees::instr_at;
-use peephole_machine::IntegerType;
-use rewrite_rules::{Own, Part, Widths};
+use peephole_machine::{IntegerType, Operation};
+use rewrite_rules::{Operator, Own, Step, Widths};
 use wasm_code::OperatorAndByteOffset;
 
 // The class of the instructions of a row: its number, and one for all rows that no line of the table names.
@@ -50,26 +51,29 @@ fn constant_root(t: IntegerType) -> Root
     }
 }
 
-// Where the part stands last.
-fn part_root(part: Part) -> Root
-    ensures { result ≡ part_root part }
+// An operation.
+fn one_operation(operation: Operation) -> Root
+    ensures { result ≡ one_row (row_number (operator.Whole operation)) }
 {
-    match part {
-        Part::Hole(_) => Root::Tree,
-        Part::Constant(t, _) => constant_root(t),
-        Part::Drawn(_) => Root::Any,
-        Part::Apply(operator) => one_row(operator.row()),
-    }
+    one_row(Operator::Whole(operation).row())
 }
 
-// Where these parts stand, the last one of which is the first one.
-fn first_root(parts: &Parts<'_>) -> Root
-    ensures { result ≡ first_root parts.now }
+// Where the step stands last, for the width.
+fn step_root(step: Step, width: IntegerType) -> Root
+    ensures { result ≡ step_root width step }
 {
-    if parts.len() == 0 {
-        return Root::Any;
+    match step {
+        Step::Operand(_) => Root::Tree,
+        Step::Constant(_) => constant_root(width),
+        Step::Drawn => Root::Any,
+        Step::Binary(operator) => one_operation(Operation::Binary(width, operator)),
+        Step::Compare(comparison) => one_operation(Operation::Compare(width, comparison)),
+        Step::Eqz => one_operation(Operation::Eqz(width)),
+        Step::Select => one_row(3),
+        Step::Whole(operation) => one_operation(operation),
+        Step::Exact(row, _) => one_row(row),
+        Step::End => Root::Any,
     }
-    part_root(parts.at(0))
 }
 
 // Where a rule beside the table applies.
@@ -92,7 +96,12 @@ fn own_root(own: Own) -> Root
 fn left_root(line: &Line) -> Root
     ensures { result ≡ first_root (left_parts line.now) }
 {
-    first_root(&Parts::new(line.row.left(), line.width))
+    let side = line.row.left();
+    let count = count_of(side);
+    if count == 0 {
+        return Root::Any;
+    }
+    step_root(side[count - 1], line.width)
 }
 
 /// Where the line applies.

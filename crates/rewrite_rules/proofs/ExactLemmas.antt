@@ -1,6 +1,6 @@
 -- Exact rows that compute: what they take, give and do where what runs the module is exact.
-use Rattle.std.proofs.Common.{◌≡◌, ℕ, Bool, true, false, List, [], ◌∷◌, ◌++◌, map, Option, Some, None, refl, sym, ap, ap₂, ◌∙◌, true≢false}
-use Rattle.std.specs.Prelude.{◌&&◌, ◌==◌, is_some, option_and_then, if◌then◌else◌}
+use Rattle.std.proofs.Common.{◌≡◌, ℕ, Bool, true, false, List, [], ◌∷◌, map, Option, Some, None, refl, sym, ap, ap₂, ◌∙◌, true≢false}
+use Rattle.std.specs.Prelude.{◌&&◌, ◌==◌, option_and_then, if◌then◌else◌}
 use Rattle.std.specs.List.{All}
 use Rattle.std.proofs.lemmas.List.{append-nil}
 use Rattle.std.proofs.lemmas.Bool.{and_parts}
@@ -20,11 +20,11 @@ use Rattle.wasm_types.specs.declared.types.PrimitiveTypeInfo.{PrimitiveTypeInfo}
 use Rattle.peephole_machine.specs.declared.operand.OperandKind.TheVariants as kind
 use Rattle.peephole_machine.specs.declared.operand.OperandColumn.{OperandColumn}
 use Rattle.peephole_machine.specs.declared.operand.OperandColumn.TheVariants as column
-use Rattle.peephole_machine.specs.OtherRow.{Operand, typed, OtherType, Named, names_in, operands_in, results_by, both_of, value_type, type_by_row, column_by, other_type}
+use Rattle.peephole_machine.specs.OtherRow.{Operand, typed, Named, names_in, operands_in, results_by, both_of, value_type, type_by_row, column_by, other_type}
 use Rattle.peephole_machine.specs.ExactRow.{ExactRow, computes, loads, stores, exact_row}
 use Rattle.peephole_machine.specs.Integer.{IntegerOperator}
-use Rattle.peephole_machine.specs.Values.{of_bits, same_type, accept, results_on, other_types, Value, IsValue, types, Context, State, own_globals, Answer, Gives, HasTypes, Ends, IsExact, exactly}
-use Rattle.peephole_machine.specs.IntegerRow.{IntegerRow, operation, other, is_other, operator_row, bare_operator, bare_row, variable_row, typed_select, byte_row, opcode_row, row_or_other, integer_row, row_types}
+use Rattle.peephole_machine.specs.Values.{of_bits, accept, results_on, other_types, Value, IsValue, types, Context, State, own_globals, Answer, HasTypes, Ends, IsExact}
+use Rattle.peephole_machine.specs.IntegerRow.{IntegerRow, operation, other, is_other, operator_row, bare_operator, typed_select, byte_row, opcode_row, row_or_other, integer_row, row_types}
 use Rattle.peephole_machine.specs.Machine.{answered, act}
 use Rattle.peephole_machine.specs.RowLemmas.{if_typed_is, same_type_self}
 use Rattle.peephole_machine.specs.StateLemmas.{own_types_are, own_is, others_none}

@@ -1,8 +1,6 @@
 -- Lines with exact rows that are well formed and right, and some that are no operators.
-use Rattle.std.proofs.Common.{◌≡◌, ℕ, true, false, None, List, [], ◌∷◌, refl}
-use Rattle.std.specs.Prelude.{is_some}
+use Rattle.std.proofs.Common.{◌≡◌, true, Some, None, [], ◌∷◌, refl}
 use Rattle.wasm_code.specs.Table.{table, row_at}
-use Rattle.wasm_code.specs.declared.immediate.Imm.TheVariants as imm
 use Rattle.wasm_types.specs.declared.types.PrimitiveTypeInfo.TheVariants as primitive
 use Rattle.peephole_machine.specs.ExactRow.{exact_row}
 use Rattle.peephole_machine.specs.IntegerRow.{integer_row}
@@ -14,7 +12,7 @@ use Rattle.rewrite_rules.specs.Line.{Line, is_formed, is_exact_line}
 -- f32.neg of f32.neg of an operand is the operand
 abbrev neg_twice : Line
 neg_twice = record {
-  left = apply (Exact 111 imm.Nothing) (apply (Exact 111 imm.Nothing) (hole 0 ▹ none) ▹ none);
+  left = apply (Exact 111 None) (apply (Exact 111 None) (hole 0 ▹ none) ▹ none);
   right = hole 0;
   kinds = fixed primitive.F32 ∷ [];
   conditions = [];
@@ -28,18 +26,18 @@ is_of_exact_rows : is_exact_line neg_twice ≡ true
 is_of_exact_rows = refl
 
 -- f32.sqrt is no exact row, nor is i32.add, or a lane without its number
-sqrt_is_none : exact_at 116 imm.Nothing ≡ None
+sqrt_is_none : exact_at 116 None ≡ None
 unfolding exact_operator exact_row integer_row row_at table
 sqrt_is_none = refl
 
-add_is_none : exact_at 77 imm.Nothing ≡ None
+add_is_none : exact_at 77 None ≡ None
 unfolding exact_operator exact_row integer_row row_at table
 add_is_none = refl
 
-lane_is_none : exact_at 210 imm.Nothing ≡ None
+lane_is_none : exact_at 210 None ≡ None
 unfolding exact_operator exact_row integer_row row_at table
 lane_is_none = refl
 
-lane_is_one : is_known (Exact 210 (imm.Lane 3)) ≡ true
+lane_is_one : is_known (Exact 210 (Some 3)) ≡ true
 unfolding exact_operator exact_row integer_row row_at table
 lane_is_one = refl

@@ -24,14 +24,19 @@ shrinking =
     codes "drop_and_self" ∷ codes "drop_select" ∷ codes "drop_and_zero" ∷ codes "drop_mul_zero" ∷ codes "drop_or_ones" ∷
     codes "drop_negation" ∷ codes "drop_wrap_extended" ∷ codes "or_of_complements" ∷ codes "and_of_complements" ∷ codes "join_sums" ∷
     codes "test_difference" ∷ codes "or_again" ∷ codes "below_one" ∷ codes "difference_back" ∷ codes "drop_double_complement" ∷
-    codes "turn_select_back" ∷ codes "gather_product" ∷ codes "gather_mask" ∷ codes "shifts_to_extension" ∷ []
+    codes "turn_select_back" ∷ codes "gather_product" ∷ codes "gather_mask" ∷ codes "shifts_to_extension" ∷ codes "drop_zero_in_front" ∷
+    codes "drop_one_in_front" ∷ codes "drop_ones_in_front" ∷ codes "decide_in_front" ∷ codes "drop_complement_in_front" ∷
+    codes "drop_quotient_by_one" ∷ codes "drop_remainder_by_one" ∷ codes "drop_whole_turn" ∷ codes "and_again" ∷ codes "or_once_more" ∷
+    codes "turn_signs_back" ∷ codes "equality_back" ∷ codes "wrap_to_extend" ∷ codes "wrap_alone" ∷
+    codes "drop_count_of_test" ∷ codes "complement_of_popcnt" ∷ codes "shifts_to_rotl" ∷ codes "shifts_to_rotr" ∷ []
 
 keeping : List (List ℕ)
 keeping =
     codes "commute" ∷ codes "turn_comparison" ∷ codes "associate_left" ∷ codes "associate_right" ∷ codes "shift_to_product" ∷
     codes "product_to_shift" ∷ codes "difference_to_sum" ∷ codes "sum_to_difference" ∷ codes "quotient_to_shift" ∷
     codes "shift_to_quotient" ∷ codes "remainder_to_mask" ∷ codes "mask_to_remainder" ∷ codes "rotl_to_rotr" ∷ codes "rotr_to_rotl" ∷
-    codes "difference_to_tests" ∷ codes "tests_to_difference" ∷ codes "negate_by_difference" ∷ []
+    codes "difference_to_tests" ∷ codes "tests_to_difference" ∷ codes "negate_by_difference" ∷ codes "mask_to_wrap" ∷
+    codes "wrap_to_mask" ∷ []
 
 -- and all others grow
 growth : List ℕ → Growth

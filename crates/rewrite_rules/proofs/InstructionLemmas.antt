@@ -1,5 +1,5 @@
 -- The operators of patterns that are well formed are instructions of the standard.
-use Rattle.std.proofs.Common.{◌≡◌, ℕ, true, List, [], ◌∷◌, ◌++◌, refl, ap, ◌∙◌, subst}
+use Rattle.std.proofs.Common.{◌≡◌, true, List, [], ◌∷◌, refl, ap, ◌∙◌, subst}
 use Rattle.std.specs.Prelude.{option_map}
 use Rattle.std.specs.List.{All}
 use Rattle.std.proofs.lemmas.Option.{slice_get-map}
@@ -19,6 +19,7 @@ use Rattle.rewrite_rules.specs.declared.pattern.Operator.{Operator}
 use Rattle.rewrite_rules.specs.declared.pattern.Operator.TheVariants.{Whole, Select, Exact}
 use Rattle.rewrite_rules.specs.declared.pattern.Part.TheVariants.{Apply}
 use Rattle.rewrite_rules.specs.Pattern.{Kind, is_known, Pattern, Patterns, hole, constant, drawn, apply, none, ◌▹◌, fits, fit}
+use Rattle.rewrite_rules.specs.Exact.{exact_code}
 use Rattle.rewrite_rules.specs.Instance.{row_number, immediate_of}
 use Rattle.rewrite_rules.specs.Parts.{parts_of, parts_in}
 use Rattle.rewrite_rules.specs.Line.{is_formed}
@@ -101,7 +102,7 @@ operator_fits : (o : Operator) → is_known o ≡ true → fits_row (row_at (row
 unfolding row_at table.table
 operator_fits (Whole f) k = whole_fits f
 operator_fits Select k = refl
-operator_fits (Exact n i) k = let (o, told) = known n i k in (exact_is (record { row = n; imm = i }) o told).fits
+operator_fits (Exact n i) k = let (o, told) = known n i k in (exact_is (exact_code n i) o told).fits
 
 mutual
   instructions : (kinds : List Kind) (p : Pattern) → fits kinds p ≡ true → All IsInstruction (parts_of p)

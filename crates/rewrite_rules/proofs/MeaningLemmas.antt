@@ -1,5 +1,5 @@
 -- What an instance of a pattern does: its operands run one after another, and then its value is left, or its root traps; and its types.
-use Rattle.std.proofs.Common.{◌≡◌, ℕ, ◌%◌, ◌^◌, Bool, true, false, List, [], ◌∷◌, ◌++◌, length, map, drop, Some, refl, sym, ap, ap₂, ◌∙◌, append_assoc}
+use Rattle.std.proofs.Common.{◌≡◌, ℕ, ◌%◌, ◌^◌, true, List, [], ◌∷◌, ◌++◌, length, map, drop, Some, refl, sym, ap, ap₂, ◌∙◌, append_assoc}
 use Rattle.std.specs.Prelude.{◌||◌, Result, option_and_then}
 use Rattle.std.specs.Int.{Width, cast_signed, cast_unsigned}
 use Rattle.std.specs.List.{All}
@@ -24,7 +24,7 @@ use Rattle.peephole_machine.specs.OutcomeLemmas.{run_append, run_one}
 use Rattle.peephole_machine.specs.RowLemmas.{row_types_count, step_at}
 use Rattle.rewrite_rules.specs.declared.pattern.Operator.{Operator}
 use Rattle.rewrite_rules.specs.Code.{types_after, Leaves}
-use Rattle.rewrite_rules.specs.Pattern.{is_total, is_known, is_exact, uses_exact, some_exact, Kind, kind_at, operands_of, result_of, Pattern, Patterns, hole, constant, drawn, apply, none, ◌▹◌, holes, holes_in, draws_by, kind_in, kinds_in, same_kinds, fits, fit, never_traps, none_traps, traps_at_root}
+use Rattle.rewrite_rules.specs.Pattern.{is_total, is_known, is_exact, uses_exact, some_exact, Kind, kind_at, operands_of, result_of, Pattern, Patterns, hole, constant, drawn, apply, none, ◌▹◌, holes, holes_in, draws_by, kind_in, kinds_in, fits, fit, never_traps, none_traps, traps_at_root}
 use Rattle.rewrite_rules.specs.Numbers.{value_on, number_of, low, or_zero, first_word}
 use Rattle.rewrite_rules.specs.Instance.{constant_code, operator_code, code_of, codes_of, doing}
 use Rattle.rewrite_rules.proofs.CodeLemmas.{leaves_typed, leaves_above}

@@ -5,7 +5,7 @@ use Rattle.peephole_machine.specs.declared.integer.IntegerType.TheVariants as in
 use Rattle.peephole_machine.specs.declared.operation.Binary.TheVariants.{Add, Mul, And, Or}
 use Rattle.rewrite_rules.specs.declared.pattern.Number.TheVariants.{Literal}
 use Rattle.rewrite_rules.specs.Needs.{needs_of}
-use Rattle.rewrite_rules.proofs.identities.Words.{back, swap, group_left, double, alone, drop_number, parted, select_turned, select_same, sum_back, or_both}
+use Rattle.rewrite_rules.proofs.identities.Words.{back, swap, group_left, double, alone, drop_number, parted, select_turned, select_same, sum_back, again}
 
 -- the operands change places
 swap_needs : needs_of (swap Add integer.I32) ≡ record { still = 0 ∷ 1 ∷ []; left_out = []; repeated = [] }
@@ -44,5 +44,5 @@ back_needs : needs_of (sum_back integer.I32) ≡ record { still = 1 ∷ 1 ∷ []
 back_needs = refl
 
 -- the last one runs last
-both_needs : needs_of (or_both integer.I32) ≡ record { still = 0 ∷ 0 ∷ []; left_out = []; repeated = 0 ∷ 0 ∷ [] }
+both_needs : needs_of (again Or integer.I32) ≡ record { still = 0 ∷ 0 ∷ []; left_out = []; repeated = 0 ∷ 0 ∷ [] }
 both_needs = refl

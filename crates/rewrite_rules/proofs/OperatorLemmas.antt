@@ -8,7 +8,6 @@ use Rattle.std.proofs.lemmas.Nat.{pow_pos}
 use Rattle.std.proofs.Math.Nat.{mod-lt}
 use mir.Val.{bits}
 use Rattle.wasm_code.specs.Table.{table, row_at}
-use Rattle.wasm_code.specs.declared.immediate.Imm.{Imm}
 use Rattle.wasm_types.specs.declared.types.PrimitiveTypeInfo.{PrimitiveTypeInfo}
 use Rattle.peephole_machine.specs.declared.integer.IntegerType.{IntegerType}
 use Rattle.peephole_machine.specs.declared.integer.IntegerType.TheVariants as integer
@@ -30,12 +29,12 @@ use Rattle.peephole_machine.specs.ExactLemmas.{of_bits_fits}
 use Rattle.rewrite_rules.specs.declared.pattern.Operator.{Operator}
 use Rattle.rewrite_rules.specs.declared.pattern.Operator.TheVariants.{Whole, Select, Exact}
 use Rattle.rewrite_rules.specs.Code.{operation_traps}
-use Rattle.rewrite_rules.specs.Exact.{ExactOperator, exact_at}
+use Rattle.rewrite_rules.specs.Exact.{ExactOperator, exact_code, exact_at}
 use Rattle.rewrite_rules.specs.Pattern.{is_total, is_known, is_exact, Kind, fixed, kind_at, operands_told, result_told, operands_of, result_of}
 use Rattle.rewrite_rules.specs.Numbers.{or_cause, or_zero, exact_value, value_on}
 use Rattle.rewrite_rules.specs.Instance.{operator_code}
 use Rattle.rewrite_rules.proofs.EffectLemmas.{has_value}
-use Rattle.rewrite_rules.proofs.ExactLemmas.{IsExactOperator, exact_is, exact_typed, exact_acts}
+use Rattle.rewrite_rules.proofs.ExactLemmas.{exact_is, exact_typed, exact_acts}
 
 -- ---- rows
 
@@ -43,10 +42,10 @@ use Rattle.rewrite_rules.proofs.ExactLemmas.{IsExactOperator, exact_is, exact_ty
 abbrev pub row_for : Operator → IntegerRow
 row_for (Whole f) = row.operation (operator_of f)
 row_for Select = row.select
-row_for (Exact n i) = row.other (record { row = n; imm = i })
+row_for (Exact n i) = row.other (exact_code n i)
 
 -- the exact row that is known
-pub known : (n : ℕ) (i : Imm) → is_known (Exact n i) ≡ true → (o : ExactOperator) × (exact_at n i ≡ Some o)
+pub known : (n : ℕ) (i : Option ℕ) → is_known (Exact n i) ≡ true → (o : ExactOperator) × (exact_at n i ≡ Some o)
 known n i e = there (exact_at n i) e
   where
     there : (m : Option ExactOperator) → is_some m ≡ true → (o : ExactOperator) × (m ≡ Some o)
@@ -108,8 +107,8 @@ unfolding integer_row table row_at
 extend_row integer.I32 = (refl, refl)
 extend_row integer.I64 = (refl, refl)
 
-exact_row : (n : ℕ) (i : Imm) → is_known (Exact n i) ≡ true → IsRow (Exact n i)
-exact_row n i e = let (o, told) = known n i e in (exact_is (record { row = n; imm = i }) o told).other_is
+exact_row : (n : ℕ) (i : Option ℕ) → is_known (Exact n i) ≡ true → IsRow (Exact n i)
+exact_row n i e = let (o, told) = known n i e in (exact_is (exact_code n i) o told).other_is
 
 pub row_is : (o : Operator) → is_known o ≡ true → integer_row (operator_code o) ≡ row_for o
 unfolding integer_row table row_at
@@ -152,7 +151,7 @@ module _ (u : PrimitiveTypeInfo) (numeric : is_numeric u ≡ true) where
       let (o, told) = known n i e in
       ap (row_types context (row_for (Exact n i)))
       (same_at u (operands_told (exact_at n i)) ∙ ap operands_told told)
-      ∙ (exact_typed (record { row = n; imm = i }) o (exact_is (record { row = n; imm = i }) o told) context
+      ∙ (exact_typed (exact_code n i) o (exact_is (exact_code n i) o told) context
       ∙ ap (λ m. Some (result_told m ∷ [])) (sym told))
 
 -- ---- what it does
@@ -201,8 +200,8 @@ module _ (context : Context) (u : PrimitiveTypeInfo) (numeric : is_numeric u ≡
   act_on Select k r vs s h t hv = acts Select k refl vs s t
   act_on (Exact n i) k r vs s h t hv =
       let (o, told) = known n i k in
-      let is = exact_is (record { row = n; imm = i }) o told in
-      exact_acts (record { row = n; imm = i }) o is context vs s (r refl) h
+      let is = exact_is (exact_code n i) o told in
+      exact_acts (exact_code n i) o is context vs s (r refl) h
       (t ∙ (same_at u (operands_told (exact_at n i)) ∙ ap operands_told told)) hv
       ∙ ap (λ m. finished (result_told m) (exact_value m (map (λ v. v.number) vs)) s) (sym told)
 
@@ -241,7 +240,7 @@ value_fits u Select k (v ∷ w ∷ c ∷ []) e h =
 value_fits u Select k (v ∷ w ∷ c ∷ d ∷ vs) e h = absurd cc
 value_fits u (Exact n i) k vs e h =
     let (o, told) = known n i k in
-    let is = exact_is (record { row = n; imm = i }) o told in
+    let is = exact_is (exact_code n i) o told in
     let ns = map (λ (v : Value). v.number) vs in
     subst (λ m. IsOfType (result_told m) (or_zero (exact_value m ns))) (sym told)
     (subst (λ m. IsOfType o.result m) (sym (is.value_is ns)) (of_bits_fits o.result (is.value ns)))

@@ -5,8 +5,10 @@ pub mod NumberLemmas
 pub mod ExtensionNumbers
 pub mod ComparisonNumbers
 pub mod WidthLemmas
+pub mod SignNumbers
 pub mod GroupIdentities
 pub mod NeutralIdentities
 pub mod ConstantIdentities
 pub mod ComparisonIdentities
+pub mod CountIdentities
 pub mod TableLemmas

@@ -1,9 +1,10 @@
--- Operators that are exact rows of the instruction table: what they take and give, and their value, by the row and its immediate
+-- Operators that are exact rows of the instruction table: what they take and give, and their value, by the row and its lane
 -- (WebAssembly Core Specification 3.0, Validation, Instructions, and Execution, Numerics; which rows are exact: this project).
 use Rattle.std.specs.Prelude.{ℕ, ◌&&◌, if◌then◌else◌, List, [], ◌∷◌, Option, Some, None}
 use Rattle.wasm_code.specs.Instruction.{Instruction, fits_row}
 use Rattle.wasm_code.specs.Table.{row_at}
 use Rattle.wasm_code.specs.declared.immediate.Imm.{Imm}
+use Rattle.wasm_code.specs.declared.immediate.Imm.TheVariants as imm
 use Rattle.wasm_code.specs.declared.immediate.ValType.{ValType}
 use Rattle.wasm_code.specs.declared.immediate.ValType.TheVariants as value
 use Rattle.wasm_code.specs.declared.table.ResultKind.{ResultKind}
@@ -11,7 +12,6 @@ use Rattle.wasm_code.specs.declared.table.ResultKind.TheVariants as by
 use Rattle.wasm_code.specs.declared.table.Row.{Row}
 use Rattle.wasm_types.specs.declared.types.PrimitiveTypeInfo.{PrimitiveTypeInfo}
 use Rattle.wasm_types.specs.declared.types.PrimitiveTypeInfo.TheVariants.{I32, I64, F32, F64, V128}
-use Rattle.peephole_machine.specs.declared.operand.OperandKind.{OperandKind}
 use Rattle.peephole_machine.specs.declared.operand.OperandKind.TheVariants as kind
 use Rattle.peephole_machine.specs.declared.operand.OperandColumn.{OperandColumn}
 use Rattle.peephole_machine.specs.declared.operand.OperandColumn.TheVariants as column
@@ -67,6 +67,15 @@ exact_operator i =
     if fits_row (row_at i.row) i.imm && is_other (integer_row i)
     then with_value (exact_row i) (operands_by (row_at i.row)) (result_by (row_at i.row)) else None
 
--- the same of a row and an immediate
-abbrev pub exact_at : (row : ℕ) → Imm → Option ExactOperator
-exact_at row i = exact_operator (record { row = row; imm = i })
+-- the immediate with that lane, where there is one
+abbrev pub lane_immediate : Option ℕ → Imm
+lane_immediate None = imm.Nothing
+lane_immediate (Some lane) = imm.Lane lane
+
+-- the instruction of a row with that lane, where it has one
+abbrev pub exact_code : (row : ℕ) → (lane : Option ℕ) → Instruction
+exact_code row lane = record { row = row; imm = lane_immediate lane }
+
+-- the operator that it is
+abbrev pub exact_at : (row : ℕ) → (lane : Option ℕ) → Option ExactOperator
+exact_at row lane = exact_operator (exact_code row lane)

@@ -16,6 +16,7 @@ use Rattle.peephole_programs.specs.validation.StaysValid.{ChecksAs}
 use Rattle.rewrite_rules.specs.declared.pattern.Operator.{Operator}
 use Rattle.rewrite_rules.specs.declared.pattern.Operator.TheVariants.{Whole, Select, Exact}
 use Rattle.rewrite_rules.specs.Code.{Leaves, writes, traps, asks}
+use Rattle.rewrite_rules.specs.Exact.{lane_immediate}
 use Rattle.rewrite_rules.specs.Pattern.{kind_at, Pattern, Patterns, hole, constant, drawn, apply, none, ◌▹◌, holes, draws_by, kind_of}
 use Rattle.rewrite_rules.specs.Numbers.{number_of, low, first_word}
 use Rattle.rewrite_rules.specs.Order.{is_in, Doing, may_move}
@@ -32,11 +33,11 @@ constant_code integer.I64 n = record { row = 37; imm = imm.I64 (cast_signed (wid
 abbrev pub row_number : Operator → ℕ
 row_number (Whole f) = opcode f - 29
 row_number Select = 3
-row_number (Exact row i) = row
+row_number (Exact row lane) = row
 
 -- its immediate
 abbrev pub immediate_of : Operator → Imm
-immediate_of (Exact row i) = i
+immediate_of (Exact row lane) = lane_immediate lane
 immediate_of o = imm.Nothing
 
 -- the instruction of an operator

@@ -1,5 +1,5 @@
 -- Lines of rules: two patterns, and what is asked of the constants; when one is well formed, and when it is right (this project).
-use Rattle.std.specs.Prelude.{◌≡◌, ℕ, ◌+◌, ◌-◌, ◌^◌, ◌==◌, ◌&&◌, ◌||◌, nat_lt, Bool, true, List, [], ◌∷◌, ⊤}
+use Rattle.std.specs.Prelude.{◌≡◌, ℕ, ◌+◌, ◌-◌, ◌%◌, ◌^◌, ◌==◌, ◌&&◌, ◌||◌, nat_lt, Bool, true, List, [], ◌∷◌, ⊤}
 use mir.Val.{bits}
 use Rattle.peephole_machine.specs.declared.integer.IntegerType.{IntegerType}
 use Rattle.peephole_machine.specs.Values.{width_of, IsOfType}
@@ -9,15 +9,18 @@ use Rattle.rewrite_rules.specs.Order.{is_in, every}
 
 -- ---- constants
 
--- what is asked of a constant, by its index
+-- what is asked of constants, by their indices
 pub data Condition : Type 0 where
   -- it is below the width; a power of two; a power of two less one, and not all ones
   is_below_width is_power is_mask : IntegerType → ℕ → Condition
+  -- two whose sum is a multiple of the width
+  are_turns : IntegerType → ℕ → ℕ → Condition
 
 abbrev pub holds : (c : ℕ → ℕ) → Condition → Bool
 holds c (is_below_width t i) = nat_lt (low t (c i)) (bits (width_of t))
 holds c (is_power t i) = 2 ^ lowest_bit t (low t (c i)) == low t (c i)
 holds c (is_mask t i) = nat_lt (low t (c i)) (2 ^ bits (width_of t) - 1) && (2 ^ lowest_bit t (low t (c i) + 1) == low t (c i) + 1)
+holds c (are_turns t i j) = (low t (c i) % bits (width_of t) + low t (c j) % bits (width_of t)) % bits (width_of t) == 0
 
 abbrev pub all_hold : (c : ℕ → ℕ) → List Condition → Bool
 all_hold c [] = true

@@ -11,7 +11,7 @@ use Rattle.rewrite_rules.specs.declared.pattern.Operator.{Operator}
 use Rattle.rewrite_rules.specs.declared.pattern.Operator.TheVariants.{Whole, Select, Exact}
 use Rattle.rewrite_rules.specs.Exact.{ExactOperator, exact_at}
 use Rattle.rewrite_rules.specs.declared.pattern.Number.{Number}
-use Rattle.rewrite_rules.specs.declared.pattern.Number.TheVariants.{Literal, Ones, Slot, Turned, Next, Previous, Negated, Power, Place, Sum}
+use Rattle.rewrite_rules.specs.declared.pattern.Number.TheVariants.{Literal, Ones, Bits, Sign, Slot, Turned, Next, Previous, Negated, Power, Place, Sum}
 use Rattle.rewrite_rules.specs.Pattern.{Pattern, Patterns, hole, constant, drawn, apply, none, ◌▹◌, draws_by}
 
 -- ---- operators
@@ -31,7 +31,7 @@ abbrev pub value_on : Operator → List ℕ → Result ℕ Cause
 value_on (Whole f) ns = or_cause (computed (operator_of f) ns) (cause_of ns)
 value_on Select (n ∷ m ∷ c ∷ []) = Ok (if c == 0 then m else n)
 value_on Select ns = Err stuck
-value_on (Exact row i) ns = exact_value (exact_at row i) ns
+value_on (Exact row lane) ns = exact_value (exact_at row lane) ns
 
 -- ---- numbers
 
@@ -47,6 +47,8 @@ low t n = n % 2 ^ bits (width_of t)
 abbrev pub number_of : IntegerType → (c : ℕ → ℕ) → Number → ℕ
 number_of t c (Literal n) = n
 number_of t c Ones = 2 ^ bits (width_of t) - 1
+number_of t c Bits = bits (width_of t)
+number_of t c Sign = 2 ^ (bits (width_of t) - 1)
 number_of t c (Slot i) = c i
 number_of t c (Turned i) = bits (width_of t) - low t (c i) % bits (width_of t)
 number_of t c (Next i) = low t (c i) + 1

@@ -18,16 +18,16 @@ use Rattle.rewrite_rules.specs.Exact.{ExactOperator, exact_at}
 abbrev pub is_total : Operator → Bool
 is_total (Whole f) = not (operation_traps f)
 is_total Select = true
-is_total (Exact row i) = true
+is_total (Exact row lane) = true
 
--- it is one that is known: a row and an immediate may be none that is exact
+-- it is one that is known: a row and a lane may be none that is exact
 abbrev pub is_known : Operator → Bool
-is_known (Exact row i) = is_some (exact_at row i)
+is_known (Exact row lane) = is_some (exact_at row lane)
 is_known o = true
 
 -- it is an exact row, which does as it does in exact worlds alone
 abbrev pub is_exact : Operator → Bool
-is_exact (Exact row i) = true
+is_exact (Exact row lane) = true
 is_exact o = false
 
 -- ---- types
@@ -55,12 +55,12 @@ result_told (Some o) = o.result
 abbrev pub operands_of : Operator → List Kind
 operands_of (Whole f) = map fixed (operator_of f).operands
 operands_of Select = any ∷ any ∷ fixed primitive.I32 ∷ []
-operands_of (Exact row i) = map fixed (operands_told (exact_at row i))
+operands_of (Exact row lane) = map fixed (operands_told (exact_at row lane))
 
 abbrev pub result_of : Operator → Kind
 result_of (Whole f) = fixed (type_of (operator_of f).result)
 result_of Select = any
-result_of (Exact row i) = fixed (result_told (exact_at row i))
+result_of (Exact row lane) = fixed (result_told (exact_at row lane))
 
 -- ---- patterns
 

@@ -18,14 +18,14 @@ use Rattle.rewrite_rules.specs.declared.table.Step.TheVariants.{Operand, Constan
 use Rattle.rewrite_rules.specs.declared.table.Widths.{Widths}
 use Rattle.rewrite_rules.specs.declared.table.Widths.TheVariants.{Both, Only, Any, Operands, Own}
 use Rattle.rewrite_rules.specs.declared.table.Condition as asked
-use Rattle.rewrite_rules.specs.declared.table.Condition.TheVariants.{BelowWidth, Power, Mask}
+use Rattle.rewrite_rules.specs.declared.table.Condition.TheVariants.{BelowWidth, Power, Mask, Turns}
 use Rattle.rewrite_rules.specs.declared.table.Row.{Row}
 use Rattle.rewrite_rules.specs.declared.table.TheConstants.{ORDERS, GROUPS, LONGER, FORMS, NEUTRAL, POWERS, TWICE}
-use Rattle.rewrite_rules.specs.declared.table.TheConstants.{ALONE, TESTS, OPPOSITES, PARTS, SHORTER, BACK}
+use Rattle.rewrite_rules.specs.declared.table.TheConstants.{ALONE, TESTS, OPPOSITES, PARTS, SHORTER, BACK, FRONT, AGAIN, SIGNS, EQUALS, COUNTED, TURNED}
 use Rattle.rewrite_rules.specs.Pattern.{Kind, fixed, any, operands_of, Pattern, Patterns, hole, constant, drawn, apply, none, ◌▹◌}
 use Rattle.rewrite_rules.specs.Instance.{row_number, immediate_of}
 use Rattle.rewrite_rules.specs.Parts.{parts_of}
-use Rattle.rewrite_rules.specs.Line.{Line, Condition, is_below_width, is_power, is_mask}
+use Rattle.rewrite_rules.specs.Line.{Line, Condition, is_below_width, is_power, is_mask, are_turns}
 
 -- ---- sides
 
@@ -122,6 +122,7 @@ abbrev pub condition_for : IntegerType → asked.Condition → Condition
 condition_for t (BelowWidth i) = is_below_width t i
 condition_for t (Power i) = is_power t i
 condition_for t (Mask i) = is_mask t i
+condition_for t (Turns i j) = are_turns t i j
 
 abbrev pub conditions_for : IntegerType → Option asked.Condition → List Condition
 conditions_for t None = []
@@ -169,7 +170,9 @@ row_in e = record { widths = e.1; condition = e.2; left = e.3; right = e.4 }
 
 -- those of each constant
 unfoldable pub parts : List (List Entry)
-parts = ORDERS ∷ GROUPS ∷ LONGER ∷ FORMS ∷ NEUTRAL ∷ POWERS ∷ TWICE ∷ ALONE ∷ TESTS ∷ OPPOSITES ∷ PARTS ∷ SHORTER ∷ BACK ∷ []
+parts =
+    ORDERS ∷ GROUPS ∷ LONGER ∷ FORMS ∷ NEUTRAL ∷ POWERS ∷ TWICE ∷ ALONE ∷ TESTS ∷ OPPOSITES ∷ PARTS ∷ SHORTER ∷ BACK ∷ FRONT ∷ AGAIN ∷
+    SIGNS ∷ EQUALS ∷ COUNTED ∷ TURNED ∷ []
 
 abbrev pub part_at : ℕ → List Entry
 part_at n = get_or parts n []

@@ -2,7 +2,7 @@
 use Rattle.std.specs.Prelude.{ℕ, ◌==◌, List, ◌++◌, codes, if◌then◌else◌}
 use Rattle.std.specs.Fmt.{decimal}
 use Rattle.rewrite_rules.specs.declared.pattern.Number.{Number}
-use Rattle.rewrite_rules.specs.declared.pattern.Number.TheVariants.{Literal, Ones, Slot, Turned, Next, Previous, Negated, Power, Place, Sum}
+use Rattle.rewrite_rules.specs.declared.pattern.Number.TheVariants.{Literal, Ones, Bits, Sign, Slot, Turned, Next, Previous, Negated, Power, Place, Sum}
 use Rattle.rewrite_rules.specs.declared.table.Condition.{Condition}
 use Rattle.rewrite_rules.specs.declared.table.Condition.TheVariants as asked
 
@@ -13,6 +13,8 @@ slot_text i = if i == 0 then codes "c" else (if i == 1 then codes "d" else codes
 abbrev pub number_text : Number → List ℕ
 number_text (Literal n) = decimal n
 number_text Ones = codes "-1"
+number_text Bits = codes "N"
+number_text Sign = codes "2^(N - 1)"
 number_text (Slot i) = slot_text i
 number_text (Turned i) = codes "N - " ++ slot_text i
 number_text (Next i) = slot_text i ++ codes " + 1"
@@ -26,3 +28,4 @@ abbrev pub condition_text : Condition → List ℕ
 condition_text (asked.BelowWidth i) = slot_text i ++ codes " < N"
 condition_text (asked.Power i) = slot_text i ++ codes " is a power of two"
 condition_text (asked.Mask i) = slot_text i ++ codes " is a mask"
+condition_text (asked.Turns i j) = slot_text i ++ (codes " + " ++ (slot_text j ++ codes " is a multiple of N"))

@@ -5,8 +5,8 @@ ghost use Rattle.rewrite_rules.specs.Lines.{shown, shown_at};
 ghost use Rattle.rewrite_rules.specs.Names.{begin_at};
 
 use crate::table::{
-    ALONE, BACK, FORMS, GROUPS, LONGER, NEUTRAL, OPPOSITES, ORDERS, PARTS, POWERS, Row, SHORTER,
-    TESTS, TWICE, TableLine,
+    AGAIN, ALONE, BACK, COUNTED, EQUALS, FORMS, FRONT, GROUPS, LONGER, NEUTRAL, OPPOSITES, ORDERS,
+    PARTS, POWERS, Row, SHORTER, SIGNS, TESTS, TURNED, TWICE, TableLine,
 };
 
 // The lines of each constant, each of which stands once in memory.
@@ -35,6 +35,18 @@ static PARTS_LINES: [TableLine; PARTS.len()] = PARTS;
 static SHORTER_LINES: [TableLine; SHORTER.len()] = SHORTER;
 
 static BACK_LINES: [TableLine; BACK.len()] = BACK;
+
+static FRONT_LINES: [TableLine; FRONT.len()] = FRONT;
+
+static AGAIN_LINES: [TableLine; AGAIN.len()] = AGAIN;
+
+static SIGNS_LINES: [TableLine; SIGNS.len()] = SIGNS;
+
+static EQUALS_LINES: [TableLine; EQUALS.len()] = EQUALS;
+
+static COUNTED_LINES: [TableLine; COUNTED.len()] = COUNTED;
+
+static TURNED_LINES: [TableLine; TURNED.len()] = TURNED;
 
 // The line with that number among these.
 fn line_in(lines: &'static [TableLine], number: usize) -> Option<&'static TableLine>
@@ -122,6 +134,42 @@ fn in_back(number: usize) -> Option<&'static TableLine>
     line_in(&BACK_LINES, number)
 }
 
+fn in_front(number: usize) -> Option<&'static TableLine>
+    ensures { shown_at result ≡ slice_get FRONT number }
+{
+    line_in(&FRONT_LINES, number)
+}
+
+fn in_again(number: usize) -> Option<&'static TableLine>
+    ensures { shown_at result ≡ slice_get AGAIN number }
+{
+    line_in(&AGAIN_LINES, number)
+}
+
+fn in_signs(number: usize) -> Option<&'static TableLine>
+    ensures { shown_at result ≡ slice_get SIGNS number }
+{
+    line_in(&SIGNS_LINES, number)
+}
+
+fn in_equals(number: usize) -> Option<&'static TableLine>
+    ensures { shown_at result ≡ slice_get EQUALS number }
+{
+    line_in(&EQUALS_LINES, number)
+}
+
+fn in_counted(number: usize) -> Option<&'static TableLine>
+    ensures { shown_at result ≡ slice_get COUNTED number }
+{
+    line_in(&COUNTED_LINES, number)
+}
+
+fn in_turned(number: usize) -> Option<&'static TableLine>
+    ensures { shown_at result ≡ slice_get TURNED number }
+{
+    line_in(&TURNED_LINES, number)
+}
+
 // The same, by the number of the constant.
 fn line_of(part: usize, number: usize) -> Option<&'static TableLine>
     ensures { shown_at result ≡ slice_get (part_at part) number }
@@ -140,12 +188,18 @@ fn line_of(part: usize, number: usize) -> Option<&'static TableLine>
         10 => in_parts(number),
         11 => in_shorter(number),
         12 => in_back(number),
+        13 => in_front(number),
+        14 => in_again(number),
+        15 => in_signs(number),
+        16 => in_equals(number),
+        17 => in_counted(number),
+        18 => in_turned(number),
         _ => None,
     }
 }
 
 // How many lines each constant has.
-const COUNTS: [usize; 13] = [
+const COUNTS: [usize; 19] = [
     ORDERS.len(),
     GROUPS.len(),
     LONGER.len(),
@@ -159,6 +213,12 @@ const COUNTS: [usize; 13] = [
     PARTS.len(),
     SHORTER.len(),
     BACK.len(),
+    FRONT.len(),
+    AGAIN.len(),
+    SIGNS.len(),
+    EQUALS.len(),
+    COUNTED.len(),
+    TURNED.len(),
 ];
 
 // The line with that number in the table.
@@ -208,7 +268,13 @@ const LINE_COUNT: usize = ORDERS.len()
     + OPPOSITES.len()
     + PARTS.len()
     + SHORTER.len()
-    + BACK.len();
+    + BACK.len()
+    + FRONT.len()
+    + AGAIN.len()
+    + SIGNS.len()
+    + EQUALS.len()
+    + COUNTED.len()
+    + TURNED.len();
 
 /// How many rows there are.
 pub fn row_count() -> usize

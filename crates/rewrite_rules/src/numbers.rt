@@ -63,6 +63,8 @@ impl Number {
         let number = match self {
             Number::Literal(number) => number,
             Number::Ones => u64::MAX,
+            Number::Bits => width(t),
+            Number::Sign => power(width(t) - 1),
             Number::Slot(index) => constant(constants, index),
             Number::Turned(index) => width(t) - low(t, constant(constants, index)) % width(t),
             Number::Next(index) => low(t, constant(constants, index)).wrapping_add(1),
@@ -97,6 +99,11 @@ impl Condition {
             Condition::Mask(index) => {
                 let number = low(t, constant(constants, index));
                 number < low(t, u64::MAX) && is_power(t, number + 1)
+            }
+            Condition::Turns(index, other) => {
+                let first = low(t, constant(constants, index)) % width(t);
+                let second = low(t, constant(constants, other)) % width(t);
+                (first + second) % width(t) == 0
             }
         }
     }

@@ -10,8 +10,8 @@ pub enum Operator {
     Whole(Operation),
     /// The select whose type isn't written.
     Select,
-    /// One on floats or vectors that is exact on bits: a row of the instruction table, by its number, and its immediate.
-    Exact(u16, Imm),
+    /// One on floats or vectors that is exact on bits: a row of the instruction table, by its number, and its lane, where it has one.
+    Exact(u16, Option<u8>),
 }
 
 /// A number that goes by a pattern's constants and by the width, N bits; its low bits count.
@@ -21,6 +21,10 @@ pub enum Number {
     Literal(u64),
     /// 2^N - 1.
     Ones,
+    /// N.
+    Bits,
+    /// 2^(N - 1).
+    Sign,
     /// The constant with that index, c.
     Slot(u8),
     /// N less c, of which only what is left behind whole times N counts.
@@ -74,7 +78,8 @@ impl Operator {
         match self {
             Operator::Whole(_) => Imm::Nothing,
             Operator::Select => Imm::Nothing,
-            Operator::Exact(_, immediate) => immediate,
+            Operator::Exact(_, Some(lane)) => Imm::Lane(lane),
+            Operator::Exact(_, None) => Imm::Nothing,
         }
     }
 }

@@ -7,8 +7,7 @@ ghost use Rattle.std.specs.Prelude.{◌≡◌};
 ghost use Rattle.rewrite_rules.specs.Table.{part_for, width_by};
 
 use crate::pattern::{Number, Operator, Part};
-use peephole_machine::{Binary, Comparison, IntegerType, Operation};
-use wasm_code::Imm;
+use peephole_machine::{Binary, Comparison, IntegerType, Operation, Unary};
 use wasm_types::PrimitiveTypeInfo;
 
 /// A step of a side.
@@ -30,8 +29,8 @@ pub enum Step {
     Select,
     /// An operator with types of its own.
     Whole(Operation),
-    /// One on floats or vectors that is exact on bits: a row of the instruction table, by its number, and its immediate.
-    Exact(u16, Imm),
+    /// One on floats or vectors that is exact on bits: a row of the instruction table, by its number, and its lane, where it has one.
+    Exact(u16, Option<u8>),
     /// No more steps.
     End,
 }
@@ -50,9 +49,7 @@ impl Step {
             Step::Eqz => Operation::Eqz(width),
             Step::Whole(operation) => operation,
             Step::Select => return Some(Part::Apply(Operator::Select)),
-            Step::Exact(row, immediate) => return Some(Part::Apply(Operator::Exact(
-                row, immediate,
-            ))),
+            Step::Exact(row, lane) => return Some(Part::Apply(Operator::Exact(row, lane))),
             Step::End => return None,
         };
         Some(Part::Apply(Operator::Whole(operation)))
@@ -117,6 +114,8 @@ pub enum Condition {
     Power(u8),
     /// It is a power of two less one, and not all ones.
     Mask(u8),
+    /// The sum of two is a multiple of the width in bits.
+    Turns(u8, u8),
 }
 
 /// A row of the table.
@@ -137,13 +136,15 @@ pub struct Row {
 pub type TableLine = (Option<&'static str>, Widths, Option<Condition>, Side, Side);
 
 // A step as rows write it: `c` and `d` are the numbers of the constants on the left side, `N` is the width in bits, and `log c` the place
-// of the lowest bit of `c`. An operator has its instruction's name; where its types are its own, the whole one, in parentheses.
+// of the lowest bit of `c`, and `sign` the highest bit alone. An operator has its instruction's name; where its types are its own, the whole one, in parentheses.
 macro_rules! step {
     (x) => { Step::Operand(0) };
     (y) => { Step::Operand(1) };
     (z) => { Step::Operand(2) };
     ($n:literal) => { Step::Constant(Number::Literal($n)) };
     (ones) => { Step::Constant(Number::Ones) };
+    (N) => { Step::Constant(Number::Bits) };
+    (sign) => { Step::Constant(Number::Sign) };
     (c) => { Step::Constant(Number::Slot(0)) };
     (d) => { Step::Constant(Number::Slot(1)) };
     ((N-c)) => { Step::Constant(Number::Turned(0)) };
@@ -160,7 +161,9 @@ macro_rules! step {
     (add) => { Step::Binary(Binary::Add) };
     (sub) => { Step::Binary(Binary::Sub) };
     (mul) => { Step::Binary(Binary::Mul) };
+    (div_s) => { Step::Binary(Binary::DivS) };
     (div_u) => { Step::Binary(Binary::DivU) };
+    (rem_s) => { Step::Binary(Binary::RemS) };
     (rem_u) => { Step::Binary(Binary::RemU) };
     (and) => { Step::Binary(Binary::And) };
     (or) => { Step::Binary(Binary::Or) };
@@ -181,6 +184,10 @@ macro_rules! step {
     (ge_s) => { Step::Compare(Comparison::GeS) };
     (ge_u) => { Step::Compare(Comparison::GeU) };
     ((i32.eqz)) => { Step::Whole(Operation::Eqz(IntegerType::I32)) };
+    ((i32.ctz)) => { Step::Whole(Operation::Unary(IntegerType::I32, Unary::Ctz)) };
+    ((i64.ctz)) => { Step::Whole(Operation::Unary(IntegerType::I64, Unary::Ctz)) };
+    ((i32.popcnt)) => { Step::Whole(Operation::Unary(IntegerType::I32, Unary::Popcnt)) };
+    ((i64.popcnt)) => { Step::Whole(Operation::Unary(IntegerType::I64, Unary::Popcnt)) };
     ((i32.wrap_i64)) => { Step::Whole(Operation::WrapI64) };
     ((i64.extend_i32_s)) => { Step::Whole(Operation::ExtendI32S) };
     ((i64.extend_i32_u)) => { Step::Whole(Operation::ExtendI32U) };
@@ -211,6 +218,7 @@ macro_rules! condition {
     (c < N) => { Some(Condition::BelowWidth(0)) };
     (c is power) => { Some(Condition::Power(0)) };
     (c is mask) => { Some(Condition::Mask(0)) };
+    (c + d is turns) => { Some(Condition::Turns(0, 1)) };
 }
 
 // The name of the rule that begins with a line, if one does.
@@ -436,4 +444,105 @@ pub const BACK: [TableLine; 11] = [
     row!(for I64: [x 48 shl 48 shr_s] => [x (i64.extend16_s)]),
     row!(for I64: [x 32 shl 32 shr_s] => [x (i64.extend32_s)]),
     own!("set_to_tee": SetToTee),
+];
+
+/// A number in front of an operand that changes nothing there, or decides alone.
+pub const FRONT: [TableLine; 11] = [
+    row!("drop_zero_in_front": [0 x add] => [x]),
+    row!([0 x or] => [x]),
+    row!([0 x xor] => [x]),
+    row!("drop_one_in_front": [1 x mul] => [x]),
+    row!("drop_ones_in_front": [ones x and] => [x]),
+    row!("decide_in_front": [0 x and] => [0]),
+    row!([0 x mul] => [0]),
+    row!([ones x or] => [ones]),
+    row!("drop_complement_in_front": [ones x xor ones xor] => [x]),
+    row!([ones x ones xor xor] => [x]),
+    row!([ones ones x xor xor] => [x]),
+];
+
+/// What is done once more, by one, or all the way round.
+pub const AGAIN: [TableLine; 17] = [
+    row!("drop_quotient_by_one": [x 1 div_u] => [x]),
+    row!([x 1 div_s] => [x]),
+    row!("drop_remainder_by_one": [x 1 rem_u] => [0]),
+    row!([x 1 rem_s] => [0]),
+    row!([x ones rem_s] => [0]),
+    row!("drop_whole_turn": [x N rotl] => [x]),
+    row!([x N rotr] => [x]),
+    row!([x N shl] => [x]),
+    row!([x N shr_s] => [x]),
+    row!([x N shr_u] => [x]),
+    row!("and_again": [x x y and and] => [x y and]),
+    row!([x y x and and] => [x y and]),
+    row!([x y and x and] => [x y and]),
+    row!([x y and y and] => [x y and]),
+    row!("or_once_more": [x y x or or] => [x y or]),
+    row!([x y or x or] => [x y or]),
+    row!([x y or y or] => [x y or]),
+];
+
+/// A comparison as the one without sign, or with it, of numbers with their highest bit turned.
+pub const SIGNS: [TableLine; 16] = [
+    row!("turn_signs": [x y lt_s] => [x sign xor y sign xor lt_u]),
+    row!([x y le_s] => [x sign xor y sign xor le_u]),
+    row!([x y gt_s] => [x sign xor y sign xor gt_u]),
+    row!([x y ge_s] => [x sign xor y sign xor ge_u]),
+    row!([x y lt_u] => [x sign xor y sign xor lt_s]),
+    row!([x y le_u] => [x sign xor y sign xor le_s]),
+    row!([x y gt_u] => [x sign xor y sign xor gt_s]),
+    row!([x y ge_u] => [x sign xor y sign xor ge_s]),
+    row!("turn_signs_back": [x sign xor y sign xor lt_u] => [x y lt_s]),
+    row!([x sign xor y sign xor le_u] => [x y le_s]),
+    row!([x sign xor y sign xor gt_u] => [x y gt_s]),
+    row!([x sign xor y sign xor ge_u] => [x y ge_s]),
+    row!([x sign xor y sign xor lt_s] => [x y lt_u]),
+    row!([x sign xor y sign xor le_s] => [x y le_u]),
+    row!([x sign xor y sign xor gt_s] => [x y gt_u]),
+    row!([x sign xor y sign xor ge_s] => [x y ge_u]),
+];
+
+/// Whether operands are equal, by their difference or by the bits in which they differ; and a number wrapped, extended or masked.
+pub const EQUALS: [TableLine; 15] = [
+    row!("equality_to_difference": [x y eq] => [x y sub eqz]),
+    row!([x y ne] => [x y sub 0 ne]),
+    row!("equality_to_xor": [x y eq] => [x y xor eqz]),
+    row!([x y ne] => [x y xor 0 ne]),
+    row!("equality_back": [x y sub 0 ne] => [x y ne]),
+    row!([x y xor eqz] => [x y eq]),
+    row!([x y xor 0 ne] => [x y ne]),
+    row!("mask_to_wrap" for I64: [x 0xffffffff and] => [x (i32.wrap_i64) (i64.extend_i32_u)]),
+    row!("wrap_to_mask" for I64: [x (i32.wrap_i64) (i64.extend_i32_u)] => [x 0xffffffff and]),
+    row!("extend_by_wrap" for I64: [x (i64.extend32_s)] => [x (i32.wrap_i64) (i64.extend_i32_s)]),
+    row!("wrap_to_extend" for I64: [x (i32.wrap_i64) (i64.extend_i32_s)] => [x (i64.extend32_s)]),
+    row!("mask_wrapped" for I64: [x (i32.wrap_i64)] => [x 0xffffffff and (i32.wrap_i64)]),
+    row!("extend_wrapped" for I64: [x (i32.wrap_i64)] => [x (i64.extend32_s) (i32.wrap_i64)]),
+    row!("wrap_alone" for I64: [x 0xffffffff and (i32.wrap_i64)] => [x (i32.wrap_i64)]),
+    row!(for I64: [x (i64.extend32_s) (i32.wrap_i64)] => [x (i32.wrap_i64)]),
+];
+
+/// A quotient by one, and bits that are counted.
+pub const COUNTED: [TableLine; 14] = [
+    row!("div_u_by_one": [x] => [x 1 div_u]),
+    row!("div_s_by_one": [x] => [x 1 div_s]),
+    row!("test_by_popcnt" for I32: [x eqz] => [x (i32.popcnt) eqz]),
+    row!(for I64: [x eqz] => [x (i64.popcnt) eqz]),
+    row!("test_by_ctz" for I32: [x eqz] => [x (i32.ctz) N eq]),
+    row!(for I64: [x eqz] => [x (i64.ctz) N eq]),
+    row!("drop_count_of_test" for I32: [x (i32.popcnt) eqz] => [x eqz]),
+    row!(for I64: [x (i64.popcnt) eqz] => [x eqz]),
+    row!(for I32: [x (i32.ctz) N eq] => [x eqz]),
+    row!(for I64: [x (i64.ctz) N eq] => [x eqz]),
+    row!("popcnt_of_complement" for I32: [x (i32.popcnt)] => [N x ones xor (i32.popcnt) sub]),
+    row!(for I64: [x (i64.popcnt)] => [N x ones xor (i64.popcnt) sub]),
+    row!("complement_of_popcnt" for I32: [N x ones xor (i32.popcnt) sub] => [x (i32.popcnt)]),
+    row!(for I64: [N x ones xor (i64.popcnt) sub] => [x (i64.popcnt)]),
+];
+
+/// A turn as two shifts.
+pub const TURNED: [TableLine; 4] = [
+    row!("rotl_to_shifts": [x c rotl] => [x c shl x (N-c) shr_u or]),
+    row!("rotr_to_shifts": [x c rotr] => [x c shr_u x (N-c) shl or]),
+    row!("shifts_to_rotl": [x c shl x d shr_u or] => [x c rotl] if c + d is turns),
+    row!("shifts_to_rotr": [x c shr_u x d shl or] => [x c rotr] if c + d is turns),
 ];

@@ -8,7 +8,7 @@ use peephole_machine::IntegerType;
 use std::test::Fail;
 
 /// Names of rules, and their numbers, as callers in C have them.
-const NAMES: [(&str, usize); 10] = [
+const NAMES: [(&str, usize); 15] = [
     ("commute", 0),
     ("turn_comparison", 1),
     ("associate_left", 2),
@@ -19,6 +19,11 @@ const NAMES: [(&str, usize); 10] = [
     ("tee_to_set", 75),
     ("join_sums", 76),
     ("set_to_tee", 88),
+    ("drop_zero_in_front", 89),
+    ("or_once_more", 98),
+    ("turn_signs", 99),
+    ("wrap_alone", 110),
+    ("shifts_to_rotr", 121),
 ];
 
 #[test]
@@ -29,10 +34,10 @@ fn tells_rules_by_their_names(rt: HostRuntime) -> Result<(), Fail> {
         assert!(rt; rule.name() == name);
         assert!(rt; Rule::from_number(number) == Some(rule));
     }
-    assert!(rt; rule_count() == 89);
-    assert!(rt; all_rules(rt.alloc())?.get(88).copied() == Rule::from_number(88));
+    assert!(rt; rule_count() == 122);
+    assert!(rt; all_rules(rt.alloc())?.get(121).copied() == Rule::from_number(121));
     assert!(rt; rule_names(rt.alloc())?.get(76).copied() == Some("join_sums"));
-    assert!(rt; Rule::from_number(89).is_none());
+    assert!(rt; Rule::from_number(122).is_none());
     assert!(rt; "no_rule".parse::<Rule>().is_err());
     Ok(())
 }
@@ -50,9 +55,11 @@ fn tells_of_which_rule_a_row_is(rt: HostRuntime) -> Result<(), Fail> {
 }
 
 /// Numbers of lines, the constants that they are of, and their values for 32 and 64 bits.
-const VALUES: [(Number, [u64; 2], u64, u64); 10] = [
+const VALUES: [(Number, [u64; 2], u64, u64); 12] = [
     (Number::Literal(7), [0, 0], 7, 7),
     (Number::Ones, [0, 0], 0xffff_ffff, 0xffff_ffff_ffff_ffff),
+    (Number::Bits, [0, 0], 32, 64),
+    (Number::Sign, [0, 0], 0x8000_0000, 0x8000_0000_0000_0000),
     (Number::Slot(1), [3, 5], 5, 5),
     (Number::Turned(0), [3, 0], 29, 61),
     (Number::Next(0), [0xffff_ffff, 0], 0, 0x1_0000_0000),
@@ -78,7 +85,7 @@ fn tells_the_values_of_numbers(rt: HostRuntime) -> Result<(), Fail> {
 }
 
 /// What is asked of a constant, the constant, and whether it holds for 32 and for 64 bits.
-const CONDITIONS: [(Condition, u64, bool, bool); 7] = [
+const CONDITIONS: [(Condition, u64, bool, bool); 9] = [
     (Condition::BelowWidth(0), 31, true, true),
     (Condition::BelowWidth(0), 32, false, true),
     (Condition::Power(0), 0x8000_0000, true, true),
@@ -86,6 +93,8 @@ const CONDITIONS: [(Condition, u64, bool, bool); 7] = [
     (Condition::Power(0), 12, false, false),
     (Condition::Mask(0), 0xff, true, true),
     (Condition::Mask(0), 0xffff_ffff, false, true),
+    (Condition::Turns(0, 0), 16, true, false),
+    (Condition::Turns(0, 1), 64, true, true),
 ];
 
 #[test]

@@ -3,7 +3,6 @@
 use crate::{Growth, Number, Row, Step, TableRow, Widths, row_at};
 use peephole_machine::{Binary, IntegerType, Operation};
 use std::test::Fail;
-use wasm_code::Imm;
 use wasm_types::PrimitiveTypeInfo;
 
 /// Numbers of rows, and their texts.
@@ -106,9 +105,9 @@ fn exact_row(
 fn prints_exact_rows(rt: HostRuntime) -> Result<(), Fail> {
     let x = Step::Operand(0);
     let end = Step::End;
-    let f32_neg = Step::Exact(111, Imm::Nothing);
-    let bits = Step::Exact(159, Imm::Nothing);
-    let float = Step::Exact(161, Imm::Nothing);
+    let f32_neg = Step::Exact(111, None);
+    let bits = Step::Exact(159, None);
+    let float = Step::Exact(161, None);
     let sign = Step::Constant(Number::Literal(0x8000_0000));
     let xor = Step::Whole(Operation::Binary(IntegerType::I32, Binary::Xor));
     let f32 = (PrimitiveTypeInfo::F32, PrimitiveTypeInfo::F32);
@@ -135,8 +134,8 @@ fn prints_exact_rows(rt: HostRuntime) -> Result<(), Fail> {
                 [
                     x,
                     Step::Operand(1),
-                    Step::Exact(212, Imm::Lane(3)),
-                    Step::Exact(211, Imm::Lane(3)),
+                    Step::Exact(212, Some(3)),
+                    Step::Exact(211, Some(3)),
                 ],
                 [Step::Operand(1), end, end, end],
             ),

@@ -7,7 +7,7 @@ use crate::pattern::Number;
 use crate::table::{Condition, Own, Row, Side, Step, Widths};
 use instruction_names::instruction_name;
 use std::fmt;
-use wasm_code::{Imm, row_info};
+use wasm_code::row_info;
 
 /// A side as a term. Its text has each operator in front of its operands, and operators among these in parentheses, such as
 /// `add x (mul y 2)`. `x`, `y` and `z` are any operands, `c` and `d` the constants on the left side, `N` is the width in bits, and `r`
@@ -31,9 +31,9 @@ struct Leaf(Step);
 #[derive(Clone, Copy)]
 struct Name(Step);
 
-// The lane that an immediate names, behind a space.
+// The lane, if there is one, behind a space.
 #[derive(Clone, Copy)]
-struct Lane(Imm);
+struct Lane(Option<u8>);
 
 // The operators of a side whose operands begin with the step at that place, the outermost first: their names, each behind a parenthesis
 // if it is an operand of another one, and in front of its own operands.
@@ -62,6 +62,8 @@ impl fmt::Display for Number {
         match *self {
             Number::Literal(number) => write!(f, "{number}"),
             Number::Ones => write!(f, "-1"),
+            Number::Bits => write!(f, "N"),
+            Number::Sign => write!(f, "2^(N - 1)"),
             Number::Slot(index) => write!(f, "{}", Slot(index)),
             Number::Turned(index) => write!(f, "N - {}", Slot(index)),
             Number::Next(index) => write!(f, "{} + 1", Slot(index)),
@@ -78,7 +80,9 @@ impl fmt::Display for Nested {
     fn fmt<W: fmt::Write>(&self, f: &mut fmt::Formatter<W>) -> fmt::Result {
         let number = self.0;
         match number {
-            Number::Literal(_) | Number::Ones | Number::Slot(_) => write!(f, "{number}"),
+            Number::Literal(_) | Number::Ones | Number::Bits | Number::Slot(_) => {
+                write!(f, "{number}")
+            }
             _ => write!(f, "({number})"),
         }
     }
@@ -101,8 +105,8 @@ impl fmt::Display for Leaf {
 impl fmt::Display for Lane {
     fn fmt<W: fmt::Write>(&self, f: &mut fmt::Formatter<W>) -> fmt::Result {
         match self.0 {
-            Imm::Lane(lane) => write!(f, " {lane}"),
-            _ => Ok(()),
+            Some(lane) => write!(f, " {lane}"),
+            None => Ok(()),
         }
     }
 }
@@ -114,9 +118,9 @@ impl fmt::Display for Name {
             Step::Compare(comparison) => f.write_str(comparison_name(comparison)),
             Step::Eqz => f.write_str("eqz"),
             Step::Select => f.write_str("select"),
-            Step::Exact(row, immediate) => {
+            Step::Exact(row, lane) => {
                 let name = instruction_name(row);
-                write!(f, "{name}{}", Lane(immediate))
+                write!(f, "{name}{}", Lane(lane))
             }
             Step::Whole(operation) => {
                 let width = type_name(type_in_front(operation));
@@ -237,6 +241,9 @@ impl fmt::Display for Condition {
             Condition::BelowWidth(index) => write!(f, "{} < N", Slot(index)),
             Condition::Power(index) => write!(f, "{} is a power of two", Slot(index)),
             Condition::Mask(index) => write!(f, "{} is a mask", Slot(index)),
+            Condition::Turns(index, other) => {
+                write!(f, "{} + {} is a multiple of N", Slot(index), Slot(other))
+            }
         }
     }
 }

@@ -598,6 +598,179 @@ turn_select_back | local.get 0; local.get 1; local.get 2; i64.eqz; select | 4 | 
 turn_select_back | i32.const 5; local.tee 0; local.get 0; local.get 1; i32.eqz; select | 5 | i32 | -
 turn_select_back | local.get 0; i32.load; local.get 1; i32.load; local.get 0; i32.eqz; select | 6 | i32 | -
 turn_select_back | local.get 0; local.get 2; local.get 1; i32.eqz; select | 4 | i32 | -
+# drop_zero_in_front, drop_one_in_front, drop_ones_in_front: the operand may do anything.
+drop_zero_in_front | T.const 0; T.const 7; T.add | 2 | T | T.const 7
+drop_zero_in_front | T.const 0; T.const 7; T.or | 2 | T | T.const 7
+drop_zero_in_front | T.const 0; T.const 7; T.xor | 2 | T | T.const 7
+drop_zero_in_front | nop; i32.const 0; i32.const 5; local.tee 0; i32.add; drop | 4 | i32 | nop; i32.const 5; local.tee 0; drop
+drop_zero_in_front | T.const 0; T.const 7; T.sub | 2 | T | -
+drop_zero_in_front | T.const 0; T.const 7; T.and | 2 | T | -
+drop_zero_in_front | T.const 1; T.const 7; T.add | 2 | T | -
+drop_zero_in_front | local.get 0; i32.const 0; i32.add | 2 | i32 | -
+drop_one_in_front | T.const 1; T.const 7; T.mul | 2 | T | T.const 7
+drop_one_in_front | i64.const 1; local.get 0; i64.extend_i32_u; i64.mul | 3 | i64 | local.get 0; i64.extend_i32_u
+drop_one_in_front | T.const 1; T.const 7; T.div_u | 2 | T | -
+drop_one_in_front | T.const -1; T.const 7; T.mul | 2 | T | -
+drop_ones_in_front | T.const -1; T.const 7; T.and | 2 | T | T.const 7
+drop_ones_in_front | T.const -1; T.const 7; T.or | 2 | T | -
+drop_ones_in_front | i64.const 4294967295; local.get 2; i64.and | 2 | i64 | -
+# decide_in_front: the operand is left out, and may do nothing.
+decide_in_front | T.const 0; T.const 7; T.and | 2 | T | T.const 0
+decide_in_front | T.const 0; T.const 7; T.mul | 2 | T | T.const 0
+decide_in_front | T.const -1; T.const 7; T.or | 2 | T | T.const -1
+decide_in_front | T.const 0; T.const 7; T.or | 2 | T | -
+decide_in_front | T.const -1; T.const 7; T.and | 2 | T | -
+decide_in_front | i32.const 0; local.get 0; local.get 1; i32.div_u; i32.mul | 4 | i32 | -
+decide_in_front | i32.const 0; i32.const 5; local.tee 0; i32.and | 3 | i32 | -
+decide_in_front | i32.const 0; memory.size 0; i32.and | 2 | i32 | i32.const 0
+# drop_complement_in_front
+drop_complement_in_front | T.const -1; T.const 7; T.xor; T.const -1; T.xor | 4 | T | T.const 7
+drop_complement_in_front | T.const -1; T.const 7; T.const -1; T.xor; T.xor | 4 | T | T.const 7
+drop_complement_in_front | T.const -1; T.const -1; T.const 7; T.xor; T.xor | 4 | T | T.const 7
+drop_complement_in_front | i32.const -1; i32.const -1; local.get 0; call 0; i32.xor; i32.xor | 5 | i32 | local.get 0; call 0
+drop_complement_in_front | T.const 7; T.const -1; T.xor; T.const -1; T.xor | 4 | T | -
+drop_complement_in_front | T.const -1; T.const 7; T.xor; T.const 1; T.xor | 4 | T | -
+drop_complement_in_front | T.const -1; T.const -1; T.const 7; T.or; T.xor | 4 | T | -
+# drop_quotient_by_one, drop_remainder_by_one
+drop_quotient_by_one | T.const 7; T.const 1; T.div_u | 2 | T | T.const 7
+drop_quotient_by_one | local.get 0; local.get 1; i32.div_u; i32.const 1; i32.div_u | 4 | i32 | local.get 0; local.get 1; i32.div_u
+drop_quotient_by_one | T.const 7; T.const 1; T.div_s | 2 | T | T.const 7
+drop_quotient_by_one | T.const 7; T.const -1; T.div_s | 2 | T | -
+drop_quotient_by_one | T.const 7; T.const 2; T.div_u | 2 | T | -
+drop_quotient_by_one | T.const 7; T.const 0; T.div_u | 2 | T | -
+drop_quotient_by_one | T.const 7; T.const 1; T.rem_u | 2 | T | -
+drop_remainder_by_one | T.const 7; T.const 1; T.rem_u | 2 | T | T.const 0
+drop_remainder_by_one | T.const 7; T.const 1; T.rem_s | 2 | T | T.const 0
+drop_remainder_by_one | T.const 7; T.const -1; T.rem_s | 2 | T | T.const 0
+drop_remainder_by_one | T.const 7; T.const -1; T.rem_u | 2 | T | -
+drop_remainder_by_one | T.const 7; T.const 0; T.rem_u | 2 | T | -
+drop_remainder_by_one | T.const 7; T.const 1; T.div_u | 2 | T | -
+drop_remainder_by_one | local.get 0; local.get 1; i32.div_u; i32.const 1; i32.rem_u | 4 | i32 | -
+drop_remainder_by_one | i32.const 5; local.tee 0; i32.const 1; i32.rem_u | 3 | i32 | -
+# drop_whole_turn: turned or shifted by as many bits as the width, and by no others.
+drop_whole_turn | i32.const 7; i32.const 32; i32.rotl | 2 | i32 | i32.const 7
+drop_whole_turn | i32.const 7; i32.const 32; i32.rotr | 2 | i32 | i32.const 7
+drop_whole_turn | i64.const 7; i64.const 64; i64.rotl | 2 | i64 | i64.const 7
+drop_whole_turn | i64.const 7; i64.const 64; i64.rotr | 2 | i64 | i64.const 7
+drop_whole_turn | i32.const 5; local.tee 0; i32.const 32; i32.rotl | 3 | i32 | i32.const 5; local.tee 0
+drop_whole_turn | i64.const 7; i64.const 32; i64.rotl | 2 | i64 | -
+drop_whole_turn | i32.const 7; i32.const 64; i32.rotr | 2 | i32 | -
+drop_whole_turn | i32.const 7; i32.const 32; i32.shl | 2 | i32 | i32.const 7
+drop_whole_turn | i64.const 7; i64.const 64; i64.shr_s | 2 | i64 | i64.const 7
+drop_whole_turn | i32.const 7; i32.const 32; i32.shr_u | 2 | i32 | i32.const 7
+drop_whole_turn | i64.const 7; i64.const 32; i64.shr_u | 2 | i64 | -
+drop_whole_turn | i32.const 7; i32.const 32; i32.mul | 2 | i32 | -
+# and_again, or_once_more: the operand that stands twice runs once less, and may write nothing and ask nothing.
+and_again | T.const 1; T.const 1; T.const 2; T.and; T.and | 4 | T | T.const 1; T.const 2; T.and
+and_again | T.const 1; T.const 2; T.const 1; T.and; T.and | 4 | T | T.const 1; T.const 2; T.and
+and_again | T.const 1; T.const 2; T.and; T.const 1; T.and | 4 | T | T.const 1; T.const 2; T.and
+and_again | local.get 0; local.get 1; i32.and; local.get 1; i32.and | 4 | i32 | local.get 0; local.get 1; i32.and
+and_again | local.get 0; i32.const 9; i32.add; i32.const 5; i32.and; i32.const 5; i32.and | 6 | i32 | local.get 0; i32.const 9; i32.add; i32.const 5; i32.and
+and_again | T.const 1; T.const 3; T.const 2; T.and; T.and | 4 | T | -
+and_again | T.const 1; T.const 1; T.const 2; T.or; T.and | 4 | T | -
+and_again | T.const 1; T.const 2; T.and; T.const 3; T.and | 4 | T | -
+and_again | memory.size 0; local.get 0; i32.and; memory.size 0; i32.and | 4 | i32 | -
+and_again | i32.const 5; local.tee 0; local.get 1; i32.and; i32.const 5; local.tee 0; i32.and | 6 | i32 | -
+or_once_more | T.const 1; T.const 2; T.const 1; T.or; T.or | 4 | T | T.const 1; T.const 2; T.or
+or_once_more | T.const 1; T.const 2; T.or; T.const 1; T.or | 4 | T | T.const 1; T.const 2; T.or
+or_once_more | local.get 2; local.get 3; i64.or; local.get 3; i64.or | 4 | i64 | local.get 2; local.get 3; i64.or
+or_once_more | local.get 2; i64.eqz; i32.const 9; i32.or; i32.const 9; i32.or | 5 | i32 | local.get 2; i64.eqz; i32.const 9; i32.or
+or_once_more | T.const 1; T.const 1; T.const 2; T.or; T.or | 4 | T | -
+or_once_more | T.const 1; T.const 2; T.or; T.const 3; T.or | 4 | T | -
+or_once_more | T.const 1; T.const 2; T.and; T.const 1; T.or | 4 | T | -
+or_once_more | local.get 0; i32.const 5; local.tee 0; i32.or; local.get 0; i32.or | 5 | i32 | -
+# turn_signs, turn_signs_back: the operands may do anything.
+turn_signs | i32.const 1; i32.const 2; i32.lt_s | 2 | i32 | i32.const 1; i32.const -2147483648; i32.xor; i32.const 2; i32.const -2147483648; i32.xor; i32.lt_u
+turn_signs | i32.const 1; i32.const 2; i32.le_s | 2 | i32 | i32.const 1; i32.const -2147483648; i32.xor; i32.const 2; i32.const -2147483648; i32.xor; i32.le_u
+turn_signs | i32.const 1; i32.const 2; i32.gt_u | 2 | i32 | i32.const 1; i32.const -2147483648; i32.xor; i32.const 2; i32.const -2147483648; i32.xor; i32.gt_s
+turn_signs | i32.const 1; i32.const 2; i32.ge_u | 2 | i32 | i32.const 1; i32.const -2147483648; i32.xor; i32.const 2; i32.const -2147483648; i32.xor; i32.ge_s
+turn_signs | i64.const 1; i64.const 2; i64.gt_s | 2 | i64 | i64.const 1; i64.const -9223372036854775808; i64.xor; i64.const 2; i64.const -9223372036854775808; i64.xor; i64.gt_u
+turn_signs | i64.const 1; i64.const 2; i64.ge_s | 2 | i64 | i64.const 1; i64.const -9223372036854775808; i64.xor; i64.const 2; i64.const -9223372036854775808; i64.xor; i64.ge_u
+turn_signs | i64.const 1; i64.const 2; i64.lt_u | 2 | i64 | i64.const 1; i64.const -9223372036854775808; i64.xor; i64.const 2; i64.const -9223372036854775808; i64.xor; i64.lt_s
+turn_signs | i64.const 1; i64.const 2; i64.le_u | 2 | i64 | i64.const 1; i64.const -9223372036854775808; i64.xor; i64.const 2; i64.const -9223372036854775808; i64.xor; i64.le_s
+turn_signs | local.get 0; call 0; i32.const 5; local.tee 0; i32.lt_s | 4 | i32 | local.get 0; call 0; i32.const -2147483648; i32.xor; i32.const 5; local.tee 0; i32.const -2147483648; i32.xor; i32.lt_u
+turn_signs | T.const 1; T.const 2; T.eq | 2 | T | -
+turn_signs_back | i32.const 1; i32.const -2147483648; i32.xor; i32.const 2; i32.const -2147483648; i32.xor; i32.lt_u | 6 | i32 | i32.const 1; i32.const 2; i32.lt_s
+turn_signs_back | i64.const 1; i64.const -9223372036854775808; i64.xor; i64.const 2; i64.const -9223372036854775808; i64.xor; i64.ge_s | 6 | i64 | i64.const 1; i64.const 2; i64.ge_u
+turn_signs_back | i64.const 1; i64.const -2147483648; i64.xor; i64.const 2; i64.const -2147483648; i64.xor; i64.lt_u | 6 | i64 | -
+turn_signs_back | i32.const 1; i32.const -2147483648; i32.xor; i32.const 2; i32.const 1; i32.xor; i32.lt_u | 6 | i32 | -
+turn_signs_back | i32.const 1; i32.const -2147483648; i32.xor; i32.const 2; i32.const -2147483648; i32.xor; i32.eq | 6 | i32 | -
+# equality_to_difference, equality_to_xor, equality_back
+equality_to_difference | T.const 1; T.const 2; T.eq | 2 | T | T.const 1; T.const 2; T.sub; T.eqz
+equality_to_difference | T.const 1; T.const 2; T.ne | 2 | T | T.const 1; T.const 2; T.sub; T.const 0; T.ne
+equality_to_difference | T.const 1; T.const 2; T.le_u | 2 | T | -
+equality_to_xor | T.const 1; T.const 2; T.eq | 2 | T | T.const 1; T.const 2; T.xor; T.eqz
+equality_to_xor | T.const 1; T.const 2; T.ne | 2 | T | T.const 1; T.const 2; T.xor; T.const 0; T.ne
+equality_to_xor | T.const 1; T.const 2; T.lt_u | 2 | T | -
+equality_back | T.const 1; T.const 2; T.xor; T.eqz | 3 | T | T.const 1; T.const 2; T.eq
+equality_back | T.const 1; T.const 2; T.xor; T.const 0; T.ne | 4 | T | T.const 1; T.const 2; T.ne
+equality_back | T.const 1; T.const 2; T.sub; T.const 0; T.ne | 4 | T | T.const 1; T.const 2; T.ne
+equality_back | T.const 1; T.const 2; T.sub; T.eqz | 3 | T | -
+equality_back | T.const 1; T.const 2; T.or; T.const 0; T.ne | 4 | T | -
+equality_back | T.const 1; T.const 2; T.xor; T.const 1; T.ne | 4 | T | -
+# mask_to_wrap, wrap_to_mask, extend_by_wrap, wrap_to_extend: halves of an i64.
+mask_to_wrap | local.get 2; i64.const 4294967295; i64.and | 2 | i64 | local.get 2; i32.wrap_i64; i64.extend_i32_u
+mask_to_wrap | local.get 2; i64.const -1; i64.and | 2 | i64 | -
+mask_to_wrap | local.get 2; i64.const 4294967295; i64.or | 2 | i64 | -
+mask_to_wrap | local.get 0; i32.const -1; i32.and | 2 | i64 | -
+wrap_to_mask | local.get 2; i32.wrap_i64; i64.extend_i32_u | 2 | i64 | local.get 2; i64.const 4294967295; i64.and
+wrap_to_mask | local.get 2; i32.wrap_i64; i64.extend_i32_s | 2 | i64 | -
+extend_by_wrap | local.get 2; i64.extend32_s | 1 | i64 | local.get 2; i32.wrap_i64; i64.extend_i32_s
+extend_by_wrap | local.get 2; i64.extend16_s | 1 | i64 | -
+wrap_to_extend | local.get 2; i32.wrap_i64; i64.extend_i32_s | 2 | i64 | local.get 2; i64.extend32_s
+wrap_to_extend | local.get 2; i32.wrap_i64; i64.extend_i32_u | 2 | i64 | -
+# mask_wrapped, extend_wrapped, wrap_alone
+mask_wrapped | local.get 2; i32.wrap_i64 | 1 | i64 | local.get 2; i64.const 4294967295; i64.and; i32.wrap_i64
+mask_wrapped | local.get 0; i64.extend_i32_u | 1 | i64 | -
+extend_wrapped | local.get 2; i32.wrap_i64 | 1 | i64 | local.get 2; i64.extend32_s; i32.wrap_i64
+extend_wrapped | local.get 0; i64.extend_i32_u | 1 | i64 | -
+wrap_alone | local.get 2; i64.const 4294967295; i64.and; i32.wrap_i64 | 3 | i64 | local.get 2; i32.wrap_i64
+wrap_alone | i64.const 5; local.tee 2; i64.extend32_s; i32.wrap_i64 | 3 | i64 | i64.const 5; local.tee 2; i32.wrap_i64
+wrap_alone | local.get 2; i64.const 2147483647; i64.and; i32.wrap_i64 | 3 | i64 | -
+wrap_alone | local.get 2; i64.extend16_s; i32.wrap_i64 | 2 | i64 | -
+# div_u_by_one, div_s_by_one: any operand.
+div_u_by_one | T.const 7 | 0 | T | T.const 7; T.const 1; T.div_u
+div_u_by_one | local.get 0; call 0 | 1 | i32 | local.get 0; call 0; i32.const 1; i32.div_u
+div_u_by_one | local.get 4 | 0 | i32 | -
+div_s_by_one | T.const 7 | 0 | T | T.const 7; T.const 1; T.div_s
+div_s_by_one | local.get 6 | 0 | i32 | -
+# test_by_popcnt, test_by_ctz, drop_count_of_test
+test_by_popcnt | T.const 7; T.eqz | 1 | T | T.const 7; T.popcnt; T.eqz
+test_by_popcnt | T.const 7; T.clz | 1 | T | -
+test_by_ctz | i32.const 7; i32.eqz | 1 | i32 | i32.const 7; i32.ctz; i32.const 32; i32.eq
+test_by_ctz | i64.const 7; i64.eqz | 1 | i64 | i64.const 7; i64.ctz; i64.const 64; i64.eq
+test_by_ctz | T.const 7; T.ctz | 1 | T | -
+drop_count_of_test | T.const 7; T.popcnt; T.eqz | 2 | T | T.const 7; T.eqz
+drop_count_of_test | i32.const 5; local.tee 0; i32.ctz; i32.const 32; i32.eq | 4 | i32 | i32.const 5; local.tee 0; i32.eqz
+drop_count_of_test | i64.const 7; i64.ctz; i64.const 64; i64.eq | 3 | i64 | i64.const 7; i64.eqz
+drop_count_of_test | i64.const 7; i64.ctz; i64.const 32; i64.eq | 3 | i64 | -
+drop_count_of_test | T.const 7; T.clz; T.eqz | 2 | T | -
+drop_count_of_test | T.const 7; T.ctz; T.eqz | 2 | T | -
+# popcnt_of_complement, complement_of_popcnt
+popcnt_of_complement | i32.const 7; i32.popcnt | 1 | i32 | i32.const 32; i32.const 7; i32.const -1; i32.xor; i32.popcnt; i32.sub
+popcnt_of_complement | i64.const 7; i64.popcnt | 1 | i64 | i64.const 64; i64.const 7; i64.const -1; i64.xor; i64.popcnt; i64.sub
+popcnt_of_complement | T.const 7; T.clz | 1 | T | -
+complement_of_popcnt | i32.const 32; i32.const 7; i32.const -1; i32.xor; i32.popcnt; i32.sub | 5 | i32 | i32.const 7; i32.popcnt
+complement_of_popcnt | i64.const 64; i64.const 7; i64.const -1; i64.xor; i64.popcnt; i64.sub | 5 | i64 | i64.const 7; i64.popcnt
+complement_of_popcnt | i64.const 32; i64.const 7; i64.const -1; i64.xor; i64.popcnt; i64.sub | 5 | i64 | -
+complement_of_popcnt | i32.const 32; i32.const 7; i32.const 1; i32.xor; i32.popcnt; i32.sub | 5 | i32 | -
+# rotl_to_shifts, rotr_to_shifts: the operand runs twice; shifts_to_rotl, shifts_to_rotr: by numbers that are a whole turn together.
+rotl_to_shifts | i32.const 7; i32.const 5; i32.rotl | 2 | i32 | i32.const 7; i32.const 5; i32.shl; i32.const 7; i32.const 27; i32.shr_u; i32.or
+rotl_to_shifts | local.get 2; i64.const 5; i64.rotl | 2 | i64 | local.get 2; i64.const 5; i64.shl; local.get 2; i64.const 59; i64.shr_u; i64.or
+rotl_to_shifts | local.get 0; i32.const 40; i32.rotl | 2 | i32 | local.get 0; i32.const 40; i32.shl; local.get 0; i32.const 24; i32.shr_u; i32.or
+rotl_to_shifts | i32.const 5; local.tee 0; i32.const 5; i32.rotl | 3 | i32 | -
+rotl_to_shifts | T.const 7; T.const 5; T.shl | 2 | T | -
+rotr_to_shifts | i32.const 7; i32.const 5; i32.rotr | 2 | i32 | i32.const 7; i32.const 5; i32.shr_u; i32.const 7; i32.const 27; i32.shl; i32.or
+rotr_to_shifts | local.get 2; i64.const 0; i64.rotr | 2 | i64 | local.get 2; i64.const 0; i64.shr_u; local.get 2; i64.const 64; i64.shl; i64.or
+shifts_to_rotl | i32.const 7; i32.const 5; i32.shl; i32.const 7; i32.const 27; i32.shr_u; i32.or | 6 | i32 | i32.const 7; i32.const 5; i32.rotl
+shifts_to_rotl | local.get 2; i64.const 69; i64.shl; local.get 2; i64.const 59; i64.shr_u; i64.or | 6 | i64 | local.get 2; i64.const 69; i64.rotl
+shifts_to_rotl | local.get 0; i32.const 5; i32.shl; local.get 0; i32.const 26; i32.shr_u; i32.or | 6 | i32 | -
+shifts_to_rotl | local.get 2; i64.const 5; i64.shl; local.get 2; i64.const 27; i64.shr_u; i64.or | 6 | i64 | -
+shifts_to_rotl | local.get 0; i32.const 5; i32.shl; local.get 1; i32.const 27; i32.shr_u; i32.or | 6 | i32 | -
+shifts_to_rotl | local.get 0; i32.const 5; i32.shl; local.get 0; i32.const 27; i32.shr_s; i32.or | 6 | i32 | -
+shifts_to_rotr | i32.const 7; i32.const 5; i32.shr_u; i32.const 7; i32.const 27; i32.shl; i32.or | 6 | i32 | i32.const 7; i32.const 5; i32.rotr
+shifts_to_rotr | local.get 2; i64.const 0; i64.shr_u; local.get 2; i64.const 64; i64.shl; i64.or | 6 | i64 | local.get 2; i64.const 0; i64.rotr
+shifts_to_rotr | local.get 0; i32.const 5; i32.shr_u; local.get 0; i32.const 5; i32.shl; i32.or | 6 | i32 | -
 ";
 
 /// What a rule draws.

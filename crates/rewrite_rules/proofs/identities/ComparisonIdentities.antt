@@ -1,6 +1,8 @@
 -- Lines of comparisons, tests and selects are right.
-use Rattle.std.proofs.Common.{◌≡◌, ℕ, zero, suc, ◌+◌, ◌-◌, ◌%◌, ◌^◌, ◌<◌, ◌≤◌, Bool, true, false, refl, sym, ap, ◌∙◌, arith}
-use Rattle.std.specs.Prelude.{◌==◌, not, nat_lt, if◌then◌else◌}
+use Rattle.std.proofs.Common.{◌≡◌, ℕ, zero, suc, ◌+◌, ◌-◌, ◌%◌, ◌^◌, ◌<◌, ◌≤◌, Bool, true, false, refl, sym, ap, ◌∙◌, subst, true≢false, arith}
+use Rattle.std.specs.Prelude.{◌==◌, not, nat_lt, if◌then◌else◌, bit_xor}
+use Rattle.std.specs.Int.Bits.{xor_self, xor_add_and}
+use Rattle.std.proofs.lemmas.Nat.{and_comm, and_le_l, xor_lt}
 use Rattle.std.proofs.lemmas.Bool.{eqb-true, eq-eqb, ne_eqb, ltb-true, ltb-false, le-ltb}
 use Rattle.std.proofs.Math.Nat.{mod-eq_of_lt, mod_self, add-mod_right}
 use mir.Val.{bits}
@@ -9,9 +11,11 @@ use Rattle.peephole_machine.specs.declared.operation.Comparison.{Comparison}
 use Rattle.peephole_machine.specs.Values.{width_of}
 use Rattle.peephole_machine.specs.Integer.{holds}
 use Rattle.peephole_machine.specs.Operation.{comparison_of}
+use Rattle.rewrite_rules.specs.Numbers.{low}
 use Rattle.rewrite_rules.specs.Line.{IsRight}
 use Rattle.rewrite_rules.proofs.identities.Words as line
 use Rattle.rewrite_rules.proofs.identities.ComparisonNumbers.{AreOpposite}
+use Rattle.rewrite_rules.proofs.identities.SignNumbers.{AreTurned}
 use Rattle.rewrite_rules.proofs.identities.WidthLemmas.{small, zero_low, lit_low, ok, truth}
 
 -- ---- comparisons
@@ -88,6 +92,41 @@ difference_none M a b k l = go (a == b) (nat_lt a b) refl refl
 
 pub difference_tests_equal : (t : IntegerType) → IsRight (line.tested_difference t)
 difference_tests_equal t h c us vs a e = ap truth (difference_none (2 ^ bits (width_of t)) (h 0) (h 1) (small t (h 0) (a 0)) (small t (h 1) (a 1)))
+
+-- so are the bits in which they differ
+xor_none : (a b : ℕ) → (bit_xor a b == 0) ≡ (a == b)
+xor_none a b = go (a == b) refl
+  where
+    go : (p : Bool) → (a == b) ≡ p → (bit_xor a b == 0) ≡ p
+    go true e = eq-eqb (bit_xor a b) 0 (ap (bit_xor a) (sym (eqb-true a b e)) ∙ xor_self a)
+    go false e =
+        let sum = xor_add_and a b in
+        let left = and_le_l a b in
+        let right = subst (λ n. n ≤ b) (and_comm b a) (and_le_l b a) in
+        ne_eqb (bit_xor a b) 0 (λ z. absurd (true≢false (sym (eq-eqb a b (omega arith)) ∙ e)))
+
+pub difference_some : (t : IntegerType) → IsRight (line.difference_some t)
+difference_some t h c us vs a e =
+    let M = 2 ^ bits (width_of t) in
+    sym (ap (λ k. truth (not ((h 0 + (M - h 1)) % M == k))) (zero_low t)
+    ∙ ap (λ b. truth (not b)) (difference_none M (h 0) (h 1) (small t (h 0) (a 0)) (small t (h 1) (a 1))))
+
+xor_low : (t : IntegerType) (n m : ℕ) → n < 2 ^ bits (width_of t) → m < 2 ^ bits (width_of t) → (low t (bit_xor n m) == 0) ≡ (n == m)
+xor_low t n m k l = ap (λ x. x == 0) (mod-eq_of_lt (xor_lt (bits (width_of t)) n m k l)) ∙ xor_none n m
+
+pub bits_none : (t : IntegerType) → IsRight (line.bits_none t)
+bits_none t h c us vs a e = sym (ap truth (xor_low t (h 0) (h 1) (small t (h 0) (a 0)) (small t (h 1) (a 1))))
+
+pub bits_some : (t : IntegerType) → IsRight (line.bits_some t)
+bits_some t h c us vs a e =
+    sym (ap (λ k. truth (not (low t (bit_xor (h 0) (h 1)) == k))) (zero_low t)
+    ∙ ap (λ b. truth (not b)) (xor_low t (h 0) (h 1) (small t (h 0) (a 0)) (small t (h 1) (a 1))))
+
+-- ---- with the highest bit turned
+
+pub turns_signs : (f g : Comparison) → ((t : IntegerType) → AreTurned t (comparison_of f) (comparison_of g)) → (t : IntegerType) →
+    IsRight (line.sign_turned f g t)
+turns_signs f g k t h c us vs a e = ap truth (k t (h 0) (h 1) (small t (h 0) (a 0)) (small t (h 1) (a 1)))
 
 pub one_below : (t : IntegerType) → IsRight (line.is_below_one t)
 one_below t h c us vs a e = ap (λ k. truth (nat_lt (h 0) k)) (lit_low t 1 (omega arith)) ∙ ap truth (go (h 0))

@@ -12,6 +12,7 @@ use Rattle.rewrite_rules.specs.Numbers.{low}
 use Rattle.rewrite_rules.specs.Line.{IsRight}
 use Rattle.rewrite_rules.proofs.identities.Words as line
 use Rattle.rewrite_rules.proofs.identities.GroupLemmas.{add_grouped, mul_grouped, and_grouped, or_grouped, xor_grouped, sum_times, or_and}
+use Rattle.rewrite_rules.proofs.identities.GroupLemmas.{once_in_front, once_behind}
 use Rattle.rewrite_rules.proofs.identities.NumberLemmas.{twice_complement, and_complement, or_complement}
 use Rattle.rewrite_rules.proofs.identities.WidthLemmas.{small, zero_low, ones_low, ok, same}
 
@@ -92,10 +93,54 @@ cancels_sub t h c us vs a e =
 pub cancels_xor : (t : IntegerType) → IsRight (line.cancelled Xor t)
 cancels_xor t h c us vs a e = ap (λ k. ok (low t k)) (xor_self (h 0))
 
-pub or_both_is : (t : IntegerType) → IsRight (line.or_both t)
-or_both_is t h c us vs a e =
-    ap ok (or_grouped (bits (width_of t)) (h 0) (h 0) (h 1)
-    ∙ ap (λ n. low t (bit_or n (h 1))) (ap (low t) (or_self (h 0)) ∙ mod-eq_of_lt (small t (h 0) (a 0))))
+pub complement_first : (t : IntegerType) → IsRight (line.first_in_front t)
+complement_first t h c us vs a e =
+    let m = low t (2 ^ bits (width_of t) - 1) in
+    ap (λ k. ok (low t (bit_xor (low t k) m))) (xor_comm m (h 0)) ∙ sym (complement_twice t h c vs us a e)
+
+pub complement_second : (t : IntegerType) → IsRight (line.second_in_front t)
+complement_second t h c us vs a e =
+    let m = low t (2 ^ bits (width_of t) - 1) in
+    ap (λ k. ok (low t k)) (xor_comm m (low t (bit_xor (h 0) m))) ∙ sym (complement_twice t h c vs us a e)
+
+pub complement_both : (t : IntegerType) → IsRight (line.both_in_front t)
+complement_both t h c us vs a e =
+    let m = low t (2 ^ bits (width_of t) - 1) in
+    ap (λ k. ok (low t (bit_xor m (low t k)))) (xor_comm m (h 0)) ∙ complement_second t h c us vs a e
+
+-- ---- once more
+
+pub and_again : (t : IntegerType) → IsRight (line.again And t)
+and_again t h c us vs a e =
+    let k = bits (width_of t) in
+    ap ok (once_in_front (2 ^ k) bit_and (and_grouped k) and_self (h 0) (h 1) (small t (h 0) (a 0)))
+
+pub or_again : (t : IntegerType) → IsRight (line.again Or t)
+or_again t h c us vs a e =
+    let k = bits (width_of t) in
+    ap ok (once_in_front (2 ^ k) bit_or (or_grouped k) or_self (h 0) (h 1) (small t (h 0) (a 0)))
+
+pub and_again_turned : (t : IntegerType) → IsRight (line.again_turned And t)
+and_again_turned t h c us vs a e = ap (λ k. ok (low t (bit_and (h 0) (low t k)))) (and_comm (h 1) (h 0)) ∙ and_again t h c us vs a e
+
+pub or_again_turned : (t : IntegerType) → IsRight (line.again_turned Or t)
+or_again_turned t h c us vs a e = ap (λ k. ok (low t (bit_or (h 0) (low t k)))) (or_comm (h 1) (h 0)) ∙ or_again t h c us vs a e
+
+pub and_first_again : (t : IntegerType) → IsRight (line.first_again And t)
+and_first_again t h c us vs a e = ap (λ k. ok (low t k)) (and_comm (low t (bit_and (h 0) (h 1))) (h 0)) ∙ and_again t h c us vs a e
+
+pub or_first_again : (t : IntegerType) → IsRight (line.first_again Or t)
+or_first_again t h c us vs a e = ap (λ k. ok (low t k)) (or_comm (low t (bit_or (h 0) (h 1))) (h 0)) ∙ or_again t h c us vs a e
+
+pub and_last_again : (t : IntegerType) → IsRight (line.last_again And t)
+and_last_again t h c us vs a e =
+    let k = bits (width_of t) in
+    ap ok (once_behind (2 ^ k) bit_and (and_grouped k) and_self (h 0) (h 1) (small t (h 1) (a 1)))
+
+pub or_last_again : (t : IntegerType) → IsRight (line.last_again Or t)
+or_last_again t h c us vs a e =
+    let k = bits (width_of t) in
+    ap ok (once_behind (2 ^ k) bit_or (or_grouped k) or_self (h 0) (h 1) (small t (h 1) (a 1)))
 
 pub sum_goes_back : (t : IntegerType) → IsRight (line.sum_back t)
 sum_goes_back t h c us vs a e =

@@ -1,9 +1,9 @@
 -- Operators whose operands may be grouped either way, and those that go over the parts of an operand, on the low bits of numbers.
-use Rattle.std.proofs.Common.{◌≡◌, ℕ, ◌+◌, ◌*◌, ◌%◌, ◌^◌, sym, ap, ap₂, ◌∙◌, arith}
+use Rattle.std.proofs.Common.{◌≡◌, ℕ, ◌+◌, ◌*◌, ◌%◌, ◌^◌, ◌<◌, sym, ap, ap₂, ◌∙◌, arith}
 use Rattle.std.specs.Prelude.{bit_and, bit_or, bit_xor, max, min}
 use Rattle.std.specs.Int.{bit_at}
 use Rattle.std.specs.Int.Bits.{xor_assoc}
-use Rattle.std.proofs.Math.Nat.{add_assoc, mul_assoc, mod-mod, mod-add-mod, add-mod-mod, add-mul}
+use Rattle.std.proofs.Math.Nat.{add_assoc, mul_assoc, mod-mod, mod-eq_of_lt, mod-add-mod, add-mod-mod, add-mul}
 use Rattle.std.proofs.lemmas.Nat.{and_assoc, and_mod, or_mod, xor_mod, mul-mod_first, mul-mod_second}
 use Rattle.std.proofs.lemmas.Nat.Bits.{bit_at_or, same_from_bits, bit_at_and}
 
@@ -46,6 +46,14 @@ or_grouped k = bitwise k bit_or (λ a b. or_mod a b k) or_assoc
 
 pub xor_grouped : (k : ℕ) → IsGrouped (2 ^ k) bit_xor
 xor_grouped k = bitwise k bit_xor (λ a b. xor_mod a b k) xor_assoc
+
+-- ---- operators that change nothing a second time
+
+pub once_in_front : (M : ℕ) (g : ℕ → ℕ → ℕ) → IsGrouped M g → ((a : ℕ) → g a a ≡ a) → (a b : ℕ) → a < M → g a (g a b % M) % M ≡ g a b % M
+once_in_front M g grouped self a b l = grouped a a b ∙ ap (λ n. g n b % M) (ap (λ n. n % M) (self a) ∙ mod-eq_of_lt l)
+
+pub once_behind : (M : ℕ) (g : ℕ → ℕ → ℕ) → IsGrouped M g → ((a : ℕ) → g a a ≡ a) → (a b : ℕ) → b < M → g (g a b % M) b % M ≡ g a b % M
+once_behind M g grouped self a b l = sym (grouped a b b) ∙ ap (λ n. g a n % M) (ap (λ n. n % M) (self b) ∙ mod-eq_of_lt l)
 
 -- ---- over the parts of a sum, or of a union
 

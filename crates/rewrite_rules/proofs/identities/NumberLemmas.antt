@@ -108,7 +108,7 @@ difference_is M n (suc m) h =
 pub product_is : (k n m : ℕ) → m < k → (n * 2 ^ (m % k)) % 2 ^ k ≡ (n * (2 ^ m % 2 ^ k)) % 2 ^ k
 product_is k n m h = ap (λ x. (n * 2 ^ x) % 2 ^ k) (mod-eq_of_lt h) ∙ sym (mul-mod_second n (2 ^ m) (2 ^ k))
 
-below_power : (k : ℕ) → k < 2 ^ k
+pub below_power : (k : ℕ) → k < 2 ^ k
 below_power zero = omega arith
 below_power (suc k) =
     let h = below_power k in

@@ -6,12 +6,12 @@ use Rattle.std.proofs.lemmas.Bool.{and_parts}
 use Rattle.peephole_machine.specs.declared.integer.IntegerType.{IntegerType}
 use Rattle.peephole_machine.specs.declared.integer.IntegerType.TheVariants as integer
 use Rattle.peephole_machine.specs.declared.operation.Binary.{Binary}
-use Rattle.peephole_machine.specs.declared.operation.Binary.TheVariants.{Add, Sub, Mul, And, Or, Xor, Shl, ShrS, ShrU, Rotl, Rotr}
+use Rattle.peephole_machine.specs.declared.operation.Binary.TheVariants.{Add, Sub, Mul, DivS, DivU, And, Or, Xor, Shl, ShrS, ShrU, Rotl, Rotr}
 use Rattle.peephole_machine.specs.declared.operation.Comparison.{Comparison}
 use Rattle.peephole_machine.specs.declared.operation.Comparison.TheVariants.{Eq, Ne, LtS, LtU, GtS, GtU, LeS, LeU, GeS, GeU}
 use Rattle.peephole_machine.specs.Operation.{comparison_of}
 use Rattle.rewrite_rules.specs.declared.pattern.Number.{Number}
-use Rattle.rewrite_rules.specs.declared.pattern.Number.TheVariants.{Literal, Ones}
+use Rattle.rewrite_rules.specs.declared.pattern.Number.TheVariants.{Literal, Ones, Bits}
 use Rattle.rewrite_rules.specs.declared.table.Widths.{Widths}
 use Rattle.rewrite_rules.specs.declared.table.Widths.TheVariants.{Both, Only, Any, Operands, Own}
 use Rattle.rewrite_rules.specs.declared.table.Row.{Row}
@@ -21,11 +21,13 @@ use Rattle.rewrite_rules.specs.Laws.{LinesKeepCode, TableIsRight}
 use Rattle.rewrite_rules.proofs.identities.Words as line
 use Rattle.rewrite_rules.proofs.identities.ExtensionNumbers as number
 use Rattle.rewrite_rules.proofs.identities.ComparisonNumbers as opposite
+use Rattle.rewrite_rules.proofs.identities.SignNumbers as sign
 use Rattle.rewrite_rules.proofs.identities.WidthLemmas.{ok}
 use Rattle.rewrite_rules.proofs.identities.GroupIdentities as group
 use Rattle.rewrite_rules.proofs.identities.NeutralIdentities as neutral
 use Rattle.rewrite_rules.proofs.identities.ConstantIdentities as constant
 use Rattle.rewrite_rules.proofs.identities.ComparisonIdentities as compare
+use Rattle.rewrite_rules.proofs.identities.CountIdentities as count
 
 -- ---- well formed
 
@@ -74,6 +76,11 @@ puts f e k = turned (line.drop_number f e) (neutral.drops f e k)
 drops_test : (f g : Comparison) → ((t : IntegerType) → opposite.AreOpposite t (comparison_of f) (comparison_of g)) → (t : IntegerType) →
     IsRight (line.back (line.negate f g) t)
 drops_test f g o = turned (line.negate f g) (compare.negates f g o)
+
+-- a comparison without sign as the one with it, with the highest bit turned
+turns_round : (f g : Comparison) → ((t : IntegerType) → sign.AreTurned t (comparison_of f) (comparison_of g)) → (t : IntegerType) →
+    IsRight (line.sign_turned g f t)
+turns_round f g k = compare.turns_signs g f (λ t. sign.turned_round (comparison_of f) (comparison_of g) t (k t))
 
 -- what is shown of one, and of the others
 infixr 50 ◌▸◌
@@ -218,7 +225,7 @@ rows_right =
     -- shorter at once
     ▸ constant.sum_joins
     ▸ compare.difference_tests_equal
-    ▸ group.or_both_is
+    ▸ group.or_again
     ▸ constant.product_negates
     ▸ compare.one_below
     ▸ group.sum_goes_back
@@ -234,6 +241,89 @@ rows_right =
     ▸ (λ h c us vs a e. sym (ap (λ z. ok (cast_unsigned w64 z % 2 ^ 64)) (number.low_16_of_64 (h 0))))
     ▸ (λ h c us vs a e. sym (ap (λ z. ok (cast_unsigned w64 z % 2 ^ 64)) (number.low_32_of_64 (h 0))))
     ▸ tt
+    -- a number in front of an operand
+    ▸ neutral.drops_front Add (Literal 0) neutral.add_commutes neutral.add_0
+    ▸ neutral.drops_front Or (Literal 0) neutral.or_commutes neutral.or_0
+    ▸ neutral.drops_front Xor (Literal 0) neutral.xor_commutes neutral.xor_0
+    ▸ neutral.drops_front Mul (Literal 1) neutral.mul_commutes neutral.mul_1
+    ▸ neutral.drops_front And Ones neutral.and_commutes neutral.and_1
+    ▸ neutral.and_front
+    ▸ neutral.mul_front
+    ▸ neutral.or_front
+    ▸ group.complement_first
+    ▸ group.complement_second
+    ▸ group.complement_both
+    -- once more, by one, or all the way round
+    ▸ neutral.drops DivU (Literal 1) neutral.div_u_1
+    ▸ neutral.drops DivS (Literal 1) neutral.div_s_1
+    ▸ constant.remainder_one
+    ▸ constant.remainder_signed_one
+    ▸ constant.remainder_ones
+    ▸ neutral.drops Rotl Bits neutral.rotl_n
+    ▸ neutral.drops Rotr Bits neutral.rotr_n
+    ▸ neutral.drops Shl Bits neutral.shl_n
+    ▸ neutral.drops ShrS Bits neutral.shr_s_n
+    ▸ neutral.drops ShrU Bits neutral.shr_u_n
+    ▸ group.and_again
+    ▸ group.and_again_turned
+    ▸ group.and_first_again
+    ▸ group.and_last_again
+    ▸ group.or_again_turned
+    ▸ group.or_first_again
+    ▸ group.or_last_again
+    -- with the highest bit turned
+    ▸ compare.turns_signs LtS LtU sign.lt_turned
+    ▸ compare.turns_signs LeS LeU sign.le_turned
+    ▸ compare.turns_signs GtS GtU sign.gt_turned
+    ▸ compare.turns_signs GeS GeU sign.ge_turned
+    ▸ turns_round LtS LtU sign.lt_turned
+    ▸ turns_round LeS LeU sign.le_turned
+    ▸ turns_round GtS GtU sign.gt_turned
+    ▸ turns_round GeS GeU sign.ge_turned
+    ▸ turned (line.sign_turned LtS LtU) (compare.turns_signs LtS LtU sign.lt_turned)
+    ▸ turned (line.sign_turned LeS LeU) (compare.turns_signs LeS LeU sign.le_turned)
+    ▸ turned (line.sign_turned GtS GtU) (compare.turns_signs GtS GtU sign.gt_turned)
+    ▸ turned (line.sign_turned GeS GeU) (compare.turns_signs GeS GeU sign.ge_turned)
+    ▸ turned (line.sign_turned LtU LtS) (turns_round LtS LtU sign.lt_turned)
+    ▸ turned (line.sign_turned LeU LeS) (turns_round LeS LeU sign.le_turned)
+    ▸ turned (line.sign_turned GtU GtS) (turns_round GtS GtU sign.gt_turned)
+    ▸ turned (line.sign_turned GeU GeS) (turns_round GeS GeU sign.ge_turned)
+    -- whether operands are equal, and halves of an i64
+    ▸ turned line.tested_difference compare.difference_tests_equal
+    ▸ compare.difference_some
+    ▸ compare.bits_none
+    ▸ compare.bits_some
+    ▸ turned line.difference_some compare.difference_some
+    ▸ turned line.bits_none compare.bits_none
+    ▸ turned line.bits_some compare.bits_some
+    ▸ (λ h c us vs a e. ap ok (number.masked_half (h 0)))
+    ▸ (λ h c us vs a e. sym (ap ok (number.masked_half (h 0))))
+    ▸ (λ h c us vs a e. ap ok (number.signed_half (h 0)))
+    ▸ (λ h c us vs a e. sym (ap ok (number.signed_half (h 0))))
+    ▸ (λ h c us vs a e. sym (ap ok (number.half_of_masked (h 0))))
+    ▸ (λ h c us vs a e. sym (ap ok (number.half_of_signed (h 0))))
+    ▸ (λ h c us vs a e. ap ok (number.half_of_masked (h 0)))
+    ▸ (λ h c us vs a e. ap ok (number.half_of_signed (h 0)))
+    -- a quotient by one, and bits that are counted
+    ▸ puts DivU (Literal 1) neutral.div_u_1
+    ▸ puts DivS (Literal 1) neutral.div_s_1
+    ▸ count.test_by_popcnt integer.I32
+    ▸ count.test_by_popcnt integer.I64
+    ▸ count.test_by_ctz integer.I32
+    ▸ count.test_by_ctz integer.I64
+    ▸ turned line.test_by_popcnt count.test_by_popcnt integer.I32
+    ▸ turned line.test_by_popcnt count.test_by_popcnt integer.I64
+    ▸ turned line.test_by_ctz count.test_by_ctz integer.I32
+    ▸ turned line.test_by_ctz count.test_by_ctz integer.I64
+    ▸ count.popcnt_of_complement integer.I32
+    ▸ count.popcnt_of_complement integer.I64
+    ▸ turned line.popcnt_of_complement count.popcnt_of_complement integer.I32
+    ▸ turned line.popcnt_of_complement count.popcnt_of_complement integer.I64
+    -- a turn as two shifts
+    ▸ constant.rotl_shifts
+    ▸ constant.rotr_shifts
+    ▸ constant.shifts_rotl
+    ▸ constant.shifts_rotr
     ▸ tt
 
 -- ---- by indices

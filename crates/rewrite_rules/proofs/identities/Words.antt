@@ -4,16 +4,19 @@ use Rattle.wasm_types.specs.declared.types.PrimitiveTypeInfo.TheVariants as prim
 use Rattle.peephole_machine.specs.declared.integer.IntegerType.{IntegerType}
 use Rattle.peephole_machine.specs.declared.integer.IntegerType.TheVariants as integer
 use Rattle.peephole_machine.specs.declared.operation.Binary.{Binary}
-use Rattle.peephole_machine.specs.declared.operation.Binary.TheVariants.{Add, Sub, Mul, DivU, RemU, And, Or, Xor, Shl, ShrU, Rotl, Rotr}
+use Rattle.peephole_machine.specs.declared.operation.Binary.TheVariants.{Add, Sub, Mul, DivU, RemS, RemU, And, Or, Xor, Shl, ShrU, Rotl, Rotr}
+use Rattle.peephole_machine.specs.declared.operation.Unary.{Unary}
+use Rattle.peephole_machine.specs.declared.operation.Unary.TheVariants.{Ctz, Popcnt}
 use Rattle.peephole_machine.specs.declared.operation.Comparison.{Comparison}
 use Rattle.peephole_machine.specs.declared.operation.Comparison.TheVariants.{Eq, Ne, LtU}
+use Rattle.peephole_machine.specs.declared.operation.Operation.{Operation}
 use Rattle.peephole_machine.specs.declared.operation.Operation.TheVariants as operation
 use Rattle.peephole_machine.specs.Values.{type_of}
 use Rattle.rewrite_rules.specs.declared.pattern.Operator.TheVariants.{Whole, Select}
 use Rattle.rewrite_rules.specs.declared.pattern.Number.{Number}
-use Rattle.rewrite_rules.specs.declared.pattern.Number.TheVariants.{Literal, Ones, Slot, Turned, Next, Previous, Negated, Power, Place, Sum}
+use Rattle.rewrite_rules.specs.declared.pattern.Number.TheVariants.{Literal, Ones, Bits, Sign, Slot, Turned, Next, Previous, Negated, Power, Place, Sum}
 use Rattle.rewrite_rules.specs.Pattern.{Kind, fixed, any, Pattern, hole, constant, drawn, apply, none, ◌▹◌}
-use Rattle.rewrite_rules.specs.Line.{Line, Condition, is_below_width, is_power, is_mask}
+use Rattle.rewrite_rules.specs.Line.{Line, Condition, is_below_width, is_power, is_mask, are_turns}
 
 -- ---- words
 
@@ -99,6 +102,13 @@ drop_number f n t = line t (two t f x (constant t n)) x
 abbrev pub alone : Binary → Number → IntegerType → Line
 alone f n t = line t (two t f x (constant t n)) (constant t n)
 
+-- the same of a number in front of the operand
+abbrev pub drop_front : Binary → Number → IntegerType → Line
+drop_front f n t = line t (two t f (constant t n) x) x
+
+abbrev pub alone_front : Binary → Number → IntegerType → Line
+alone_front f n t = line t (two t f (constant t n) x) (constant t n)
+
 abbrev pub behind_drawn : Binary → Number → IntegerType → Line
 behind_drawn f n t = line t (constant t n) (two t f (drawn t) (constant t n))
 
@@ -115,6 +125,16 @@ cancelled f t = line t (two t f x x) (lit t 0)
 abbrev pub twice_complement : IntegerType → Line
 twice_complement t = line t x (two t Xor (two t Xor x (all t)) (all t))
 
+-- the same, with all ones in front: of the first complement, of the second one, of both
+abbrev pub first_in_front : IntegerType → Line
+first_in_front t = line t (two t Xor (two t Xor (all t) x) (all t)) x
+
+abbrev pub second_in_front : IntegerType → Line
+second_in_front t = line t (two t Xor (all t) (two t Xor x (all t))) x
+
+abbrev pub both_in_front : IntegerType → Line
+both_in_front t = line t (two t Xor (all t) (two t Xor (all t) x)) x
+
 -- times two, or one place to the left, is a sum
 abbrev pub product_double : IntegerType → Line
 product_double t = line t (two t Mul x (lit t 2)) (two t Add x x)
@@ -122,9 +142,18 @@ product_double t = line t (two t Mul x (lit t 2)) (two t Add x x)
 abbrev pub shift_double : IntegerType → Line
 shift_double t = line t (two t Shl x (lit t 1)) (two t Add x x)
 
--- a union with what holds the operand already
-abbrev pub or_both : IntegerType → Line
-or_both t = line t (two t Or x (two t Or x y)) (two t Or x y)
+-- an operand once more, where both are taken together already: in front of that, where it is the first or the last one there, or behind it, as well
+abbrev pub again : Binary → IntegerType → Line
+again f t = line t (two t f x (two t f x y)) (two t f x y)
+
+abbrev pub again_turned : Binary → IntegerType → Line
+again_turned f t = line t (two t f x (two t f y x)) (two t f x y)
+
+abbrev pub first_again : Binary → IntegerType → Line
+first_again f t = line t (two t f (two t f x y) x) (two t f x y)
+
+abbrev pub last_again : Binary → IntegerType → Line
+last_again f t = line t (two t f (two t f x y) y) (two t f x y)
 
 -- ---- another operator with another constant
 
@@ -149,12 +178,30 @@ mask_remainder t = line_if t (is_mask t 0) (two t And x (constant t c)) (two t R
 abbrev pub remainder_mask : IntegerType → Line
 remainder_mask t = line_if t (is_power t 0) (two t RemU x (constant t c)) (two t And x (constant t (Previous 0)))
 
+-- what is left by 1
+abbrev pub remainder_by_one : IntegerType → Line
+remainder_by_one t = line t (two t RemU x (lit t 1)) (lit t 0)
+
+-- with sign, by 1 and by -1
+abbrev pub signed_remainder : Number → IntegerType → Line
+signed_remainder n t = line t (two t RemS x (constant t n)) (lit t 0)
+
 -- a turn to one side as a turn to the other
 abbrev pub turn_right : IntegerType → Line
 turn_right t = line t (two t Rotl x (constant t c)) (two t Rotr x (constant t (Turned 0)))
 
 abbrev pub turn_left : IntegerType → Line
 turn_left t = line t (two t Rotr x (constant t c)) (two t Rotl x (constant t (Turned 0)))
+
+-- a turn as two shifts, and two shifts that are a turn
+abbrev pub both_shifts : (f g : Binary) → Number → IntegerType → Pattern
+both_shifts f g n t = two t Or (two t f x (constant t c)) (two t g x (constant t n))
+
+abbrev pub turn_shifts : (turn f g : Binary) → IntegerType → Line
+turn_shifts turn f g t = line t (two t turn x (constant t c)) (both_shifts f g (Turned 0) t)
+
+abbrev pub shifts_turn : (turn f g : Binary) → IntegerType → Line
+shifts_turn turn f g t = line_if t (are_turns t 0 1) (both_shifts f g (Slot 1) t) (two t turn x (constant t c))
 
 -- a difference as a sum with the negated number, and back
 abbrev pub difference_sum : IntegerType → Line
@@ -174,6 +221,42 @@ negated_product t = line t (two t Mul x (all t)) (two t Sub (lit t 0) x)
 -- what was taken away comes back
 abbrev pub sum_back : IntegerType → Line
 sum_back t = line t (two t Add (two t Sub x y) y) x
+
+-- ---- halves
+
+-- an operator on one operand
+abbrev pub one : Operation → Pattern → Pattern
+one f p = apply (Whole f) (p ▹ none)
+
+-- the low half of an i64, by all ones in it, wrapped and extended without sign, and with sign
+abbrev pub low_mask : Line
+low_mask = line integer.I64 (two integer.I64 And x (lit integer.I64 4294967295)) (one operation.ExtendI32U (one operation.WrapI64 x))
+
+abbrev pub low_signed : Line
+low_signed = line integer.I64 (one operation.Extend32S x) (one operation.ExtendI32S (one operation.WrapI64 x))
+
+-- what is wrapped, with another high half
+abbrev pub wrap_masked : Line
+wrap_masked = line integer.I64 (one operation.WrapI64 x) (one operation.WrapI64 (two integer.I64 And x (lit integer.I64 4294967295)))
+
+abbrev pub wrap_signed : Line
+wrap_signed = line integer.I64 (one operation.WrapI64 x) (one operation.WrapI64 (one operation.Extend32S x))
+
+-- ---- counts of bits
+
+abbrev pub counted : Unary → IntegerType → Pattern → Pattern
+counted f t p = one (operation.Unary t f) p
+
+-- whether a number is 0, by the bits that are set, and by how many stand below the lowest one
+abbrev pub test_by_popcnt : IntegerType → Line
+test_by_popcnt t = line t (is_zero t x) (is_zero t (counted Popcnt t x))
+
+abbrev pub test_by_ctz : IntegerType → Line
+test_by_ctz t = line t (is_zero t x) (compared t Eq (counted Ctz t x) (constant t Bits))
+
+-- those that are set, by those that are set in the complement
+abbrev pub popcnt_of_complement : IntegerType → Line
+popcnt_of_complement t = line t (counted Popcnt t x) (two t Sub (constant t Bits) (counted Popcnt t (two t Xor x (all t))))
 
 -- ---- tests
 
@@ -198,6 +281,20 @@ tests_difference t = line t (is_zero integer.I32 (is_zero t x)) (compared t Ne x
 -- a difference that is 0
 abbrev pub tested_difference : IntegerType → Line
 tested_difference t = line t (is_zero t (two t Sub x y)) (compared t Eq x y)
+
+-- whether two operands are equal, or are not, by their difference, and by the bits in which they differ
+abbrev pub difference_some : IntegerType → Line
+difference_some t = line t (compared t Ne x y) (compared t Ne (two t Sub x y) (lit t 0))
+
+abbrev pub bits_none : IntegerType → Line
+bits_none t = line t (compared t Eq x y) (is_zero t (two t Xor x y))
+
+abbrev pub bits_some : IntegerType → Line
+bits_some t = line t (compared t Ne x y) (compared t Ne (two t Xor x y) (lit t 0))
+
+-- a comparison of numbers, as one of numbers with their highest bit turned
+abbrev pub sign_turned : (f g : Comparison) → IntegerType → Line
+sign_turned f g t = line t (compared t f x y) (compared t g (two t Xor x (constant t Sign)) (two t Xor y (constant t Sign)))
 
 -- below 1
 abbrev pub is_below_one : IntegerType → Line

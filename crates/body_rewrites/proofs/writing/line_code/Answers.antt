@@ -1,5 +1,5 @@
 -- The right side's operators are instructions.
-use Rattle.std.proofs.Common.{ap, sym, subst}
+use Rattle.std.proofs.Common.{sym, subst}
 use Rattle.std.specs.List.{All}
 use Rattle.rewrite_rules.specs.Table.{parts_for, IsInstruction}
 use Rattle.body_rewrites.proofs.writing.line_code.Goals as goal

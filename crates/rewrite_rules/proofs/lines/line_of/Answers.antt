@@ -56,5 +56,29 @@ pub returns-in-12 : goal.returns-in-12
 unfolding parts
 returns-in-12 c = c.in_back.ensures ∙ ap (λ part. slice_get (part_at part) c.args.number) (sym c.in-12.is)
 
+pub returns-in-13 : goal.returns-in-13
+unfolding parts
+returns-in-13 c = c.in_front.ensures ∙ ap (λ part. slice_get (part_at part) c.args.number) (sym c.in-13.is)
+
+pub returns-in-14 : goal.returns-in-14
+unfolding parts
+returns-in-14 c = c.in_again.ensures ∙ ap (λ part. slice_get (part_at part) c.args.number) (sym c.in-14.is)
+
+pub returns-in-15 : goal.returns-in-15
+unfolding parts
+returns-in-15 c = c.in_signs.ensures ∙ ap (λ part. slice_get (part_at part) c.args.number) (sym c.in-15.is)
+
+pub returns-in-16 : goal.returns-in-16
+unfolding parts
+returns-in-16 c = c.in_equals.ensures ∙ ap (λ part. slice_get (part_at part) c.args.number) (sym c.in-16.is)
+
+pub returns-in-17 : goal.returns-in-17
+unfolding parts
+returns-in-17 c = c.in_counted.ensures ∙ ap (λ part. slice_get (part_at part) c.args.number) (sym c.in-17.is)
+
+pub returns-in-18 : goal.returns-in-18
+unfolding parts
+returns-in-18 c = c.in_turned.ensures ∙ ap (λ part. slice_get (part_at part) c.args.number) (sym c.in-18.is)
+
 pub returns-in_default : goal.returns-in_default
 returns-in_default c = elsewhere c.args.part c.args.number (omega arith)

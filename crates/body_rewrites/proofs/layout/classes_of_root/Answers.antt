@@ -3,7 +3,7 @@ use Rattle.std.proofs.Common.{sym, subst}
 use Rattle.body_rewrites.specs.Asking.{AreRootClasses}
 use Rattle.body_rewrites.specs.declared.root.Root.{Root}
 use Rattle.body_rewrites.proofs.CandidateLemmas.{classes_are}
-use Rattle.body_rewrites.proofs.counter.classes_of_root.Goals as goal
+use Rattle.body_rewrites.proofs.layout.classes_of_root.Goals as goal
 
 pub returns-in-Classes-clause-are : goal.returns-in-Classes-clause-are
 returns-in-Classes-clause-are c =

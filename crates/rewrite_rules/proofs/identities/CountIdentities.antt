@@ -1,0 +1,107 @@
+-- Lines that count the bits of numbers are right.
+use Rattle.std.proofs.Common.{◌≡◌, ℕ, zero, suc, ◌+◌, ◌-◌, ◌/◌, ◌%◌, ◌^◌, ◌<◌, ◌≤◌, Bool, true, false, refl, sym, ap, ap₂, ◌∙◌, true≢false, arith}
+use Rattle.std.specs.Prelude.{◌==◌, bit_xor}
+use Rattle.std.specs.Int.{Width, trailing_zeros}
+use Rattle.std.specs.Int.Bits.{xor_add_and}
+use Rattle.std.specs.Int.Count.{trailing_of_zero}
+use Rattle.std.proofs.Math.Nat.{mod-eq_of_lt, add-mod_right, pow-suc}
+use Rattle.std.proofs.lemmas.Bool.{eqb-true, eq-eqb, ne_eqb}
+use Rattle.std.proofs.lemmas.Nat.{pow_pos, and_mask, trailing_le}
+use Rattle.std.proofs.lemmas.Nat.Bits.{bit_at-trailing_zeros}
+use mir.Val.{bits}
+use Rattle.peephole_machine.specs.declared.integer.IntegerType.{IntegerType}
+use Rattle.peephole_machine.specs.declared.integer.IntegerType.TheVariants as integer
+use Rattle.peephole_machine.specs.Values.{width_of}
+use Rattle.peephole_machine.specs.Integer.{ones_in}
+use Rattle.rewrite_rules.specs.Numbers.{low}
+use Rattle.rewrite_rules.specs.Line.{IsRight}
+use Rattle.rewrite_rules.proofs.identities.Words as line
+use Rattle.rewrite_rules.proofs.identities.NumberLemmas.{below_power}
+use Rattle.rewrite_rules.proofs.identities.WidthLemmas.{small, ones_low, ok, truth}
+
+-- ---- bits that are set
+
+-- in a number and in its complement all are set
+ones_in_both : (k n : ℕ) → n < 2 ^ k → ones_in k (2 ^ k - 1 - n) + ones_in k n ≡ k
+ones_in_both zero n l = refl
+ones_in_both (suc k) n l =
+    let double = pow-suc 2 k in
+    let p = pow_pos k in
+    let half : n / 2 < 2 ^ k = omega arith in
+    let rest : (2 ^ suc k - 1 - n) / 2 ≡ 2 ^ k - 1 - n / 2 = omega arith in
+    let last : (2 ^ suc k - 1 - n) % 2 + n % 2 ≡ 1 = omega arith in
+    let others = ones_in_both k (n / 2) half in
+    let moved = ap (ones_in k) rest in
+    omega arith
+
+complement_is : (k n : ℕ) → n < 2 ^ k → bit_xor n (2 ^ k - 1) ≡ 2 ^ k - 1 - n
+complement_is k n l =
+    let sum = xor_add_and n (2 ^ k - 1) in
+    let same = and_mask n k ∙ mod-eq_of_lt l in
+    omega arith
+
+of_zero : (k : ℕ) → ones_in k 0 ≡ 0
+of_zero zero = refl
+of_zero (suc k) = let e = of_zero k in omega arith
+
+none_is : (k n : ℕ) → n < 2 ^ k → ones_in k n ≡ 0 → n ≡ 0
+none_is zero n l e = omega arith
+none_is (suc k) n l e =
+    let double = pow-suc 2 k in
+    let half : n / 2 < 2 ^ k = omega arith in
+    let rest : ones_in k (n / 2) ≡ 0 = omega arith in
+    let none = none_is k (n / 2) half rest in
+    let last : n % 2 ≡ 0 = omega arith in
+    omega arith
+
+none_set : (k n : ℕ) → n < 2 ^ k → (ones_in k n == 0) ≡ (n == 0)
+none_set k n l = go (n == 0) refl
+  where
+    go : (p : Bool) → (n == 0) ≡ p → (ones_in k n == 0) ≡ p
+    go true e = eq-eqb (ones_in k n) 0 (ap (ones_in k) (eqb-true n 0 e) ∙ of_zero k)
+    go false e = ne_eqb (ones_in k n) 0 (λ z. absurd (true≢false (sym (eq-eqb n 0 (none_is k n l z)) ∙ e)))
+
+-- ---- bits below the lowest one
+
+all_below : (w : Width) (n : ℕ) → n < 2 ^ bits w → (trailing_zeros w n == bits w) ≡ (n == 0)
+all_below w zero l = eq-eqb (trailing_zeros w 0) (bits w) (trailing_of_zero (bits w))
+all_below w (suc n) l =
+    let place = (bit_at-trailing_zeros w (suc n) (omega arith) l).0 in
+    ne_eqb (trailing_zeros w (suc n)) (bits w) (λ z. absurd (omega arith)) ∙ sym (ne_eqb (suc n) 0 (λ z. absurd (omega arith)))
+
+-- ---- lines
+
+-- a count is a number of few bits itself
+count_low : (t : IntegerType) (n : ℕ) → n ≤ bits (width_of t) → low t n ≡ n
+count_low integer.I32 n l = mod-eq_of_lt (omega arith)
+count_low integer.I64 n l = mod-eq_of_lt (omega arith)
+
+set_low : (t : IntegerType) (n : ℕ) → n < 2 ^ bits (width_of t) → low t (ones_in (bits (width_of t)) n) ≡ ones_in (bits (width_of t)) n
+set_low t n l = let both = ones_in_both (bits (width_of t)) n l in count_low t (ones_in (bits (width_of t)) n) (omega arith)
+
+pub test_by_popcnt : (t : IntegerType) → IsRight (line.test_by_popcnt t)
+test_by_popcnt t h c us vs a e =
+    let l = small t (h 0) (a 0) in
+    sym (ap (λ k. truth (k == 0)) (set_low t (h 0) l) ∙ ap truth (none_set (bits (width_of t)) (h 0) l))
+
+pub test_by_ctz : (t : IntegerType) → IsRight (line.test_by_ctz t)
+test_by_ctz t h c us vs a e =
+    let w = width_of t in
+    sym (ap₂ (λ i j. truth (i == j)) (count_low t (trailing_zeros w (h 0)) (trailing_le (bits w) (h 0))) (count_low t (bits w) (omega arith))
+    ∙ ap truth (all_below w (h 0) (small t (h 0) (a 0))))
+
+pub popcnt_of_complement : (t : IntegerType) → IsRight (line.popcnt_of_complement t)
+popcnt_of_complement t h c us vs a e =
+    let k = bits (width_of t) in
+    let M = 2 ^ k in
+    let l = small t (h 0) (a 0) in
+    let m : ℕ = M - 1 - h 0 in
+    let p = pow_pos k in
+    let below : m < M = omega arith in
+    let both = ones_in_both k (h 0) l in
+    let wide = below_power k in
+    let other : low t (bit_xor (h 0) (low t (M - 1))) ≡ m =
+    ap (λ i. low t (bit_xor (h 0) i)) (ones_low t) ∙ (ap (low t) (complement_is k (h 0) l) ∙ mod-eq_of_lt below) in
+    let sum : k + (M - ones_in k m) ≡ ones_in k (h 0) + M = omega arith in
+    sym (ap₂ (λ i j. ok (low t (i + (M - low t (ones_in k j))))) (count_low t k (omega arith)) other
+    ∙ (ap (λ i. ok (low t (k + (M - i)))) (set_low t m below) ∙ ap ok (ap (low t) sum ∙ add-mod_right (ones_in k (h 0)) M)))
