@@ -11,4 +11,6 @@ mod notation;
 #[cfg(test)]
 mod refused_bodies;
 #[cfg(test)]
+mod rows;
+#[cfg(test)]
 mod rules;
