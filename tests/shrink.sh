@@ -6,8 +6,8 @@
 #
 # With a number of rewrites behind that, each module is rewritten so often by all rules but through_global and then shrunk, and a line
 # says its bytes at first, behind the rewrites and shrunk, the last as a part of the first, how many rewrites shrank it and in how
-# many seconds, and why there are no more. It fails where the shrunk one isn't accepted, or gives another answer than the module as it
-# was. The last line is `N passed, N failed`.
+# many seconds, and why there are no more. It fails where the shrunk one isn't accepted, gives another answer than the module as it
+# was, or has more than 1.3 times its bytes. The last line is `N passed, N failed`.
 #
 # Usage: shrink.sh [SEEDS [REWRITES [PROGRAM]]]. No rewrites where no number is given; with 0 seeds the rules are left out. The program
 # is teddertempo; where neither an argument nor the variable TEDDERTEMPO names one, it is the one that tests/modules.sh built. Needs
@@ -21,22 +21,7 @@ program=$(realpath "$program")
 source tests/modules/calls.sh
 
 # The rules that --shrink needn't turn back, each with the reason.
-longer="its constant may be longer, and what turns it back leaves as many operators"
-declare -A kept=(
-    [through_global]="the global that it appends stays"
-    [shift_to_product]=$longer
-    [shift_to_quotient]=$longer
-    [mask_to_remainder]=$longer
-    [wrap_to_mask]=$longer
-    [sum_to_difference]=$longer
-    [difference_to_sum]=$longer
-    [rotl_to_rotr]=$longer
-    [rotr_to_rotl]=$longer
-    [tests_to_difference]="ne x 0 takes a byte more than eqz (eqz x), and what turns it back leaves as many operators"
-    [test_to_comparison]="of eqz (eqz x) it makes eqz (eq x 0), and drop_negation of that ne x 0, with as many operators as at first"
-    [test_by_ctz]="of eqz (eqz x) it makes eqz (eq (ctz x) N), and drop_negation of that ne (ctz x) N, which takes more bytes"
-    [turn_signs]="a constant may be folded with the sign before it is turned back"
-)
+declare -A kept=([through_global]="the global that it appends stays")
 
 work=$(mktemp -d)
 trap 'rm -rf "$work"' EXIT
@@ -52,10 +37,11 @@ fail() {
 
 size_of() { stat -c %s "$1"; }
 
-# Shrinks a module to shrunk.wasm: where rewrites that are left make it longer, and those were drawn, by the next seed once more, up to
-# four in all. `made` is how many rewrites there were, `stopped` why there are no more. Whether wasm-validate accepts the module.
+# Shrinks a module to shrunk.wasm: where none that was drawn made it smaller, and it still has more bytes than it should, by the next
+# seed once more, up to four in all. `made` is how many rewrites there were, `stopped` why there are no more. Whether wasm-validate
+# accepts the module.
 shrink() {
-    local case=$1 path=$2 seed
+    local case=$1 path=$2 most=$3 seed
     cp "$path" "$work/shrunk.wasm"
     made=0
     for seed in 0 1 2 3; do
@@ -66,7 +52,7 @@ shrink() {
         fi
         made=$((made + $(grep -c '^function [0-9]* *operator [0-9]* *rule ' "$work/notes" || true)))
         stopped=$(sed -n 's/^stopped //p' "$work/notes")
-        if [ "$stopped" = NoRule ]; then break; fi
+        if [ "$stopped" = NoRule ] || [ "$(size_of "$work/shrunk.wasm")" -le "$most" ]; then break; fi
     done
     if ! wasm-validate --enable-threads "$work/shrunk.wasm" > "$work/message" 2>&1; then
         fail "$case" "not valid: $(head -c 300 "$work/message")"
@@ -83,8 +69,8 @@ try_rule() {
         fail "$case" "status $status: $(head -c 300 "$work/message")"
         return
     fi
-    if ! shrink "$case" "$work/one.wasm"; then return; fi
     old=$(size_of "$path")
+    if ! shrink "$case" "$work/one.wasm" "$old"; then return; fi
     new=$(size_of "$work/shrunk.wasm")
     if [ "$new" -le "$old" ]; then
         pass
@@ -101,7 +87,7 @@ modules=${modules//.wasm/}
 declare -A larger=()
 if [ "$seeds" -gt 0 ]; then
     for name in $modules; do
-        shrink "$name" "tests/modules/$name.wasm"
+        shrink "$name" "tests/modules/$name.wasm" 0
         mv "$work/shrunk.wasm" "$work/$name-shrunk.wasm"
         for rule in $("$program" --list-rules | sed -n 's/^[0-9][0-9]* *\([a-z_0-9]*\) .*/\1/p'); do
             for seed in $(seq 0 $((seeds - 1))); do
@@ -126,17 +112,19 @@ if [ "$rewrites" -gt 0 ]; then
             continue
         fi
         start=$(date +%s.%N)
-        if ! shrink "$name" "$work/many.wasm"; then continue; fi
+        old=$(size_of "tests/modules/$name.wasm")
+        if ! shrink "$name" "$work/many.wasm" $((old * 13 / 10)); then continue; fi
         seconds=$(echo "$(date +%s.%N) - $start" | bc)
         cp "$work/shrunk.wasm" "$work/module.wasm"
         answers_of "$work" > "$work/answers"
-        if cmp -s "$work/answers" "$work/wanted"; then
-            pass
-        else
-            fail "$name" "other answers: $(diff "$work/wanted" "$work/answers" | head -3 | tr '\n' ' ')"
-        fi
-        old=$(size_of "tests/modules/$name.wasm")
         new=$(size_of "$work/shrunk.wasm")
+        if ! cmp -s "$work/answers" "$work/wanted"; then
+            fail "$name" "other answers: $(diff "$work/wanted" "$work/answers" | head -3 | tr '\n' ' ')"
+        elif [ $((new * 10)) -gt $((old * 13)) ]; then
+            fail "$name" "more than 1.3 times the bytes"
+        else
+            pass
+        fi
         echo "$name: bytes $old $(size_of "$work/many.wasm") $new, $(echo "scale=2; $new / $old" | bc), $made in $seconds s, $stopped"
     done
 fi

@@ -93,7 +93,8 @@ counting_fails options scope bytes reason is h reading = record {
     kept (Refused (mutations.Read e)) w = refl
     kept (Refused mutations.Memory) w = refl
     kept (Refused (mutations.Write e)) w = refl
-    kept (Refused mutations.TooLong) w = absurd (w tt)
+    kept (Refused mutations.TooLong) w = refl
+    kept (Refused mutations.NotSmaller) w = absurd (w tt)
 
     other : (r : Reason) → IsOfReading r → IsForSize r → ⊥
     other NoRule w size = size

@@ -6,7 +6,7 @@ use Rattle.module_rewrites.specs.Chosen.{GivesUp}
 use Rattle.module_rewrites.specs.Seeded.{seeded}
 use Rattle.module_rewrites.specs.declared.attempt.Reason.{Reason}
 use Rattle.module_rewrites.specs.declared.attempt.Reason.TheVariants.{NoRule, NoOwnFunction, Unreadable, NoFunction, UnknownImport, Refused}
-use Rattle.module_rewrites.specs.declared.mutation.MutationError.TheVariants.{Read, TooLong as LongerModule}
+use Rattle.module_rewrites.specs.declared.mutation.MutationError.TheVariants.{Read, NotSmaller}
 use Rattle.module_commands.specs.Front.{is_component, is_text}
 use Rattle.module_commands.specs.Scope.{scope_of}
 use Rattle.module_commands.specs.declared.failure.Failure.{Failure}
@@ -38,12 +38,12 @@ FailsToTake input TooLong = IfSome input (λ bytes. 1073741824 < length bytes)
 FailsToTake input Memory = Unit {0}
 FailsToTake input e = ⊥
 
--- The module is written as it is for that reason, where rewrites are to make it smaller: no rule applies, or it would have more bytes with each rewrite that is
--- drawn, and has no more than it may (`fits`).
+-- The module is written as it is for that reason, where rewrites are to make it smaller: no rule applies, or it would be no smaller with each rewrite that is
+-- drawn, and has no more bytes than it may (`fits`).
 abbrev pub leaves : (shrink fits : Bool) → Reason → Bool
 leaves shrink fits NoRule = shrink
 leaves shrink fits NoOwnFunction = shrink
-leaves shrink fits (Refused LongerModule) = shrink && fits
+leaves shrink fits (Refused NotSmaller) = shrink && fits
 leaves shrink fits reason = false
 
 -- the same by the options

@@ -11,7 +11,7 @@ use Rattle.module_rewrites.specs.declared.function.FunctionError.TheVariants.{Un
 use Rattle.module_rewrites.specs.declared.operator_code.OperatorCode.{OperatorCode}
 use Rattle.wasm_module.specs.declared.refusal.WriteError.TheVariants as writes
 use Rattle.module_rewrites.specs.declared.mutation.MutationError.{MutationError}
-use Rattle.module_rewrites.specs.declared.mutation.MutationError.TheVariants.{Read, Memory, Write, TooLong}
+use Rattle.module_rewrites.specs.declared.mutation.MutationError.TheVariants.{Read, Memory, Write, TooLong, NotSmaller}
 use Rattle.module_showing.specs.Shown.{row_name}
 use Rattle.module_commands.specs.declared.blocks.BlockLine.{BlockLine}
 use Rattle.module_commands.specs.declared.form.Form.{Form}
@@ -213,6 +213,7 @@ stopped_name (Write writes.TooLarge) = codes "TooLarge"
 stopped_name (Write writes.EmptyType) = codes "EmptyType"
 stopped_name (Write writes.Memory) = codes "Memory"
 stopped_name TooLong = codes "TooLong"
+stopped_name NotSmaller = codes "NotSmaller"
 
 -- a name behind the word `stopped`
 abbrev pub stopped_text : (name : List ℕ) → List ℕ

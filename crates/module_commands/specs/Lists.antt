@@ -40,8 +40,8 @@ pub record WritesOfFunctions (Tells : Module → Layout → ℕ → List ℕ →
 
 -- ---- the rewrites that there are
 
--- those of a body by one of the rules, where they are to make the module smaller those that leave fewer operators, in the order of the operators, the rows and
--- the widths
+-- those of a body by one of the rules, where they are to make the module smaller those that leave no more operators, in the order of the operators, the rows
+-- and the widths
 abbrev pub AreTheRewrites : Context → Scope → List (Operator × ℕ) → List Rewrite → Type 0
 AreTheRewrites context scope operators list = AreThose (IsWantedBy context operators scope.rules (wanted_of scope)) (asked_below (length operators)) list
 

@@ -79,7 +79,7 @@ pub record AreCounted (Reached : ℕ → Type 0) (operators : List (Operator × 
   pub integers_all : Counts (IsIntegerAt operators) end reach.integers.all
   pub integers_within : Counts (λ at. IsIntegerAt operators at × Reached at) end reach.integers.within
 
--- so it is of all operators of the body, by the rules, where they are to make the module smaller by rewrites that leave fewer operators
+-- so it is of all operators of the body, by the rules, where they are to make the module smaller by rewrites that leave no more operators
 abbrev pub AreOfBody : Context → Scope → List (Operator × ℕ) → Reach → Type 0
 AreOfBody context scope operators reach = AreCounted (IsReached context operators scope.rules (wanted_of scope)) operators (length operators) reach
 

@@ -38,7 +38,7 @@ stopped_by (Refused e) = Some e
 stopped_by reason = None
 
 -- The new bytes are the module as it is: rewrites are to make it smaller, and no rule applies, or the words that the seed gives choose no rewrite with which it
--- has no more bytes.
+-- is smaller.
 pub record IsLeft (options : Options) (bytes : List ℕ) (made : List MadeRewrite) (stopped : Option MutationError) (new : List ℕ) : Type 0 where
   pub reason : Reason
   pub is : IsReason (scope_of options) bytes reason

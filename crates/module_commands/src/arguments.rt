@@ -41,7 +41,7 @@ fn count_argument<'a>(alloc: Global) -> Arg<'a>
     ensures local { result.global ≡ false }
 {
     Arg::new(alloc, "count").long("count").value_name("K").help(
-        "How many rewrites are made, one after another: a number, a percentage of the operators as 20%, or each, which is 100%; fewer where no rule applies any more [default: 1; with --shrink as many as there are]",
+        "How many rewrites are made, one after another: a number, a percentage of the operators as 20%, or each, which is 100%; fewer where no rule applies any more [default: 1; with --shrink until none that is drawn makes the module smaller]",
     )
 }
 
@@ -112,7 +112,7 @@ fn shrink_argument<'a>(alloc: Global) -> Arg<'a>
     flag_argument(
         alloc,
         "shrink",
-        "Only rewrites that leave fewer instructions, and no more bytes; the module as it is where there is none",
+        "Only rewrites that leave no more instructions and make the module smaller; the module as it is where there is none",
     )
 }
 

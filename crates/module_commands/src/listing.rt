@@ -155,7 +155,7 @@ fn list_function<W: Write>(
 }
 
 /// Writes a line for each rewrite by one of the rules that there is in a function of the module that can be read; where the options
-/// name a function, in that alone, and where rewrites are to make it smaller, for those alone that leave fewer operators.
+/// name a function, in that alone, and where rewrites are to make it smaller, for those alone that leave no more operators.
 ///
 /// Fails as the module can't be read, and as `chosen_entries` finds no such function.
 #[tactic(auto, using(crate::proofs::FaultsLemmas::read_fails, crate::proofs::FaultsLemmas::index_fails, crate::proofs::FaultsLemmas::report_fails))]

@@ -88,7 +88,7 @@ fn leaves(shrink: bool, fits: bool, reason: &Reason) -> bool
     match reason {
         Reason::NoRule => shrink,
         Reason::NoOwnFunction => shrink,
-        Reason::Refused(MutationError::TooLong) => shrink && fits,
+        Reason::Refused(MutationError::NotSmaller) => shrink && fits,
         _ => false,
     }
 }
@@ -153,8 +153,8 @@ fn left(
 
 /// What is written of the module, rewritten as many times as the options say, by their rules, with a generator made from their seed:
 /// it is valid where it was, and does what it did. Where rewrites are to make it smaller, and no rule applies, or none that is drawn
-/// leaves no more bytes, it is the module as it is. Where the options say so, its custom sections that name places in the code are dropped then. What is shown of the rewrites
-/// where the options ask for it; `watch` sees each of them, too.
+/// makes it so, it is the module as it is. Where the options say so, its custom sections that name places in the code are dropped then.
+/// What is shown of the rewrites where the options ask for it; `watch` sees each of them, too.
 ///
 /// `Nothing` as `count_of_dose` and `rewrite_module` refuse, but where the module is written as it is.
 #[tactic(auto, using(crate::proofs::OutcomeLemmas::rewritten_outcome, crate::proofs::OutcomeLemmas::reason_in, crate::proofs::OutcomeLemmas::gives_up_in, crate::proofs::OutcomeLemmas::counting_fails))]

@@ -39,8 +39,8 @@ pub struct Options {
     pub rules: Vec<Rule>,
     /// The most bytes that a rewritten module may have.
     pub max_size: usize,
-    /// Whether each rewrite makes the module smaller: it leaves fewer operators, and no more bytes than there were. A module of which
-    /// none does is written as it is.
+    /// Whether each rewrite makes the module smaller: it leaves no more operators, and fewer bytes, or as many that come earlier in the
+    /// dictionary. A module of which none does is written as it is.
     pub shrink: bool,
     /// Whether the functions, the rewrites and the sizes are reported.
     pub stats: bool,

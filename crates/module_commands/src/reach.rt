@@ -254,7 +254,8 @@ fn reach_of_function(
 
 /// How much of a module the rules reach: of the operators, the blocks and the integer instructions of all its functions that can be
 /// read, how many there are, and how many one of the rules rewrites, or hold an operator that one rewrites; where rewrites are to make
-/// the module smaller, those that leave fewer operators. A function that can't be read counts nothing. A number that 64 bits don't hold is the greatest that they hold.
+/// the module smaller, those that leave no more operators. A function that can't be read counts nothing. A number that 64 bits don't
+/// hold is the greatest that they hold.
 ///
 /// It takes time linear in the module, but as `reached_operators` says. The only error is `Memory`: an allocation was refused.
 pub fn reach_of(

@@ -209,6 +209,7 @@ fn stopped_name(error: &MutationError) -> &'static str
         MutationError::Write(WriteError::EmptyType) => "EmptyType",
         MutationError::Write(WriteError::Memory) => "Memory",
         MutationError::TooLong => "TooLong",
+        MutationError::NotSmaller => "NotSmaller",
     }
 }
 

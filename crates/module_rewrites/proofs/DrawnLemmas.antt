@@ -12,7 +12,7 @@ use Rattle.body_rewrites.specs.Choice.{after_word}
 use Rattle.body_rewrites.specs.declared.rewrite.Rewrite.{Rewrite}
 use Rattle.module_rewrites.specs.Chosen.{AllInVain, ChoosesAgain, ChoosesBy, ChoosesFrom, ChoosesWithin, GivesUpInOrder, GivesUpOn, TriesInVain}
 use Rattle.module_rewrites.specs.Drawing.{EachInVain, IsFirstBehind, NamesEntry, NamesInVain, by_word, in_order}
-use Rattle.module_rewrites.specs.Scope.{Scope}
+use Rattle.module_rewrites.specs.Scope.{Scope, draws_of}
 use Rattle.module_rewrites.specs.Writing.{MakesAt}
 
 -- the entries of a module are in order
@@ -90,7 +90,7 @@ module _ (scope : Scope) (bytes : List ℕ) (info : Module) (layout : Layout) wh
       (last, now, vain, named, subst (λ (x : Stream). TriesInVain scope bytes info layout x n next) is tried)
 
   -- the next word names one where there is a rewrite that fits
-  pub drawn_here : (first now drawn next : Stream) (count last n function : ℕ) (rewrite : Rewrite) (made : List ℕ) → count < 16 →
+  pub drawn_here : (first now drawn next : Stream) (count last n function : ℕ) (rewrite : Rewrite) (made : List ℕ) → count < draws_of scope bytes →
       NamesInVain (TriesInVain scope bytes info layout) layout.entries count first last now → drawn ≡ after_word now → NamesEntry now layout.entries n →
       function ≡ layout.imported_functions + n → MakesAt scope bytes info layout drawn n rewrite made next →
       ChoosesBy scope bytes info layout None first function rewrite made next
@@ -103,7 +103,7 @@ module _ (scope : Scope) (bytes : List ℕ) (info : Module) (layout : Layout) wh
   }
 
   -- all words that may be drawn named entries in vain
-  pub drawn_in_order : (first now next : Stream) (count last function : ℕ) (rewrite : Rewrite) (made : List ℕ) → count ≡ 16 →
+  pub drawn_in_order : (first now next : Stream) (count last function : ℕ) (rewrite : Rewrite) (made : List ℕ) → count ≡ draws_of scope bytes →
       NamesInVain (TriesInVain scope bytes info layout) layout.entries count first last now →
       ChoosesFrom scope bytes info layout last now function rewrite made next → ChoosesBy scope bytes info layout None first function rewrite made next
   drawn_in_order first now next count last function rewrite made all vain from = record {
@@ -114,7 +114,7 @@ module _ (scope : Scope) (bytes : List ℕ) (info : Module) (layout : Layout) wh
     makes = from.makes;
   }
 
-  pub gives_up_by_words : (first now next : Stream) (count last : ℕ) → count ≡ 16 →
+  pub gives_up_by_words : (first now next : Stream) (count last : ℕ) → count ≡ draws_of scope bytes →
       NamesInVain (TriesInVain scope bytes info layout) layout.entries count first last now → GivesUpInOrder scope bytes info layout last now next →
       GivesUpOn scope bytes info layout None first next
   gives_up_by_words first now next count last all vain order =
@@ -127,7 +127,7 @@ module _ (scope : Scope) (bytes : List ℕ) (info : Module) (layout : Layout) wh
   again_more first now next n k count is vain tried =
       subst (λ i. EachInVain (TriesInVain scope bytes info layout) (λ j. n) i first next) (sym is) (now, vain, tried)
 
-  pub again_here : (first now next : Stream) (n k function : ℕ) (rewrite : Rewrite) (made : List ℕ) → k < 16 →
+  pub again_here : (first now next : Stream) (n k function : ℕ) (rewrite : Rewrite) (made : List ℕ) → k < draws_of scope bytes →
       function ≡ layout.imported_functions + n → EachInVain (TriesInVain scope bytes info layout) (λ j. n) k first now →
       MakesAt scope bytes info layout now n rewrite made next → ChoosesAgain scope bytes info layout n first function rewrite made next
   again_here first now next n k function rewrite made few at vain makes =

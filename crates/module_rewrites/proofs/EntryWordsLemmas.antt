@@ -20,7 +20,7 @@ use Rattle.rewrite_rules.specs.declared.rule.Rule.{Rule}
 use Rattle.body_rewrites.specs.Choice.{Chooses, after_word, growths}
 use Rattle.body_rewrites.specs.HasWords.{HasWords}
 use Rattle.body_rewrites.specs.declared.growth.Growth.{Growth}
-use Rattle.body_rewrites.specs.declared.growth.Growth.TheVariants.{Shrinks}
+use Rattle.body_rewrites.specs.declared.growth.Growth.TheVariants.{Shrinks, Keeps}
 use Rattle.body_rewrites.specs.declared.rewrite.Rewrite.{Rewrite}
 use Rattle.module_rewrites.specs.Drawing.{ContainsByte, contents_length}
 use Rattle.module_rewrites.specs.EntryWords.{DrawsRewrite, HasEntryWords}
@@ -169,7 +169,7 @@ draws_one one law scope bytes info layout s n m r q some few a b =
     (same, law (context_in info a.locals) (after_word s) scope.rules (wanted_of scope) a.operators r q a.chooses chooses)
 
 -- few things are wanted
-wanted_few : (b : Bool) → length (if b then (Shrinks ∷ []) else growths) < 2 ^ 64
+wanted_few : (b : Bool) → length (if b then (Shrinks ∷ Keeps ∷ []) else growths) < 2 ^ 64
 wanted_few true = omega arith
 wanted_few false = omega arith
 

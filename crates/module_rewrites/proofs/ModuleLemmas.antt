@@ -6,9 +6,10 @@ use Rattle.wasm_types.specs.Module.{Module}
 use Rattle.wasm_module.specs.Module.{Layout, IsModule}
 use Rattle.body_rewrites.specs.declared.rewrite.Rewrite.{Rewrite}
 use Rattle.module_rewrites.specs.Mutated.{CannotMutate, HasNoMutation, IsChosen, IsInVain, IsMutated, IsOfSize, IsRefusedForSize, MutatesOne, RefusesChosenEntry, RefusesEntry, RefusesMutation, last_of}
-use Rattle.module_rewrites.specs.Scope.{Scope, most_of}
+use Rattle.module_rewrites.specs.Scope.{Scope}
+use Rattle.module_rewrites.specs.Size.{IsSmallEnough}
 use Rattle.module_rewrites.specs.declared.mutation.MutationError.{MutationError}
-use Rattle.module_rewrites.specs.declared.mutation.MutationError.TheVariants.{Read, Memory, TooLong, Write}
+use Rattle.module_rewrites.specs.declared.mutation.MutationError.TheVariants.{Read, Memory, TooLong, NotSmaller, Write}
 
 -- ---- no rule applies in some of the entries
 
@@ -100,6 +101,7 @@ refuses scope bytes (Read fault) h = absurd h.refuses
 refuses scope bytes Memory h = h
 refuses scope bytes (Write error) h = h
 refuses scope bytes TooLong h = h
+refuses scope bytes NotSmaller h = h
 
 module _ (scope : Scope) (bytes : List ℕ) (info : Module) (layout : Layout) (known : IsModule bytes info layout) where
   -- any function may be rewritten
@@ -116,7 +118,7 @@ module _ (scope : Scope) (bytes : List ℕ) (info : Module) (layout : Layout) (k
   })
 
   pub mutated_any : scope.function ≡ None → (function : ℕ) (rewrite : Rewrite) (new : List ℕ) →
-      MutatesOne scope bytes info layout function rewrite new → length new ≤ most_of scope bytes → IsMutated scope bytes function rewrite new
+      MutatesOne scope bytes info layout function rewrite new → IsSmallEnough scope bytes new → IsMutated scope bytes function rewrite new
   mutated_any any function rewrite new h fits = record {
     info = info;
     layout = layout;
@@ -144,7 +146,7 @@ module _ (scope : Scope) (bytes : List ℕ) (info : Module) (layout : Layout) (k
   })
 
   pub mutated_one : (named : ℕ) → scope.function ≡ Some named → (function : ℕ) (rewrite : Rewrite) (new : List ℕ) →
-      (function ≡ named) × MutatesOne scope bytes info layout function rewrite new → length new ≤ most_of scope bytes →
+      (function ≡ named) × MutatesOne scope bytes info layout function rewrite new → IsSmallEnough scope bytes new →
       IsMutated scope bytes function rewrite new
   mutated_one named one function rewrite new h fits = record {
     info = info;

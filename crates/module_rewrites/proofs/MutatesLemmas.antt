@@ -15,7 +15,7 @@ use Rattle.module_rewrites.specs.Mutates.{Mutates, RewritesEach, IsReadOnceMade}
 use Rattle.module_rewrites.specs.Scope.{Scope}
 use Rattle.module_rewrites.specs.Watched.{Seeing, Standing, SeesOne, SeesEach}
 use Rattle.module_rewrites.specs.declared.mutation.MutationError.{MutationError}
-use Rattle.module_rewrites.specs.declared.mutation.MutationError.TheVariants.{Read, Memory as NoMemory, TooLong, Write}
+use Rattle.module_rewrites.specs.declared.mutation.MutationError.TheVariants.{Read, Memory as NoMemory, TooLong, NotSmaller, Write}
 use Rattle.module_rewrites.specs.declared.times.MadeRewrite.{MadeRewrite}
 
 -- The bytes are the module with so many rewrites made.
@@ -101,6 +101,7 @@ read_once_made law scope bytes (m ∷ made) last (Read e) some h refused = once_
 read_once_made law scope bytes (m ∷ made) last NoMemory some h refused = tt
 read_once_made law scope bytes (m ∷ made) last (Write e) some h refused = tt
 read_once_made law scope bytes (m ∷ made) last TooLong some h refused = tt
+read_once_made law scope bytes (m ∷ made) last NotSmaller some h refused = tt
 
 -- fewer, since the module that the rewrites left is refused
 pub stops : ModulesAreReadAgain → (scope : Scope) (count number : ℕ) (bytes : List ℕ) (stream : Stream) (made : List MadeRewrite) (new : List ℕ)

@@ -43,7 +43,9 @@ use Rattle.module_rewrites.specs.Chosen.{TriesInVain, by_size}
 use Rattle.module_rewrites.specs.Mutated.{HasNoMutation, IsBehindLocals, IsMutated, IsOfSize, MutatesEntry, RefusesEntry, WasRewrittenAt}
 use Rattle.module_rewrites.specs.Scope.{Scope, wanted_of}
 use Rattle.module_rewrites.specs.Writing.{WritesAt}
-use Rattle.module_rewrites.specs.declared.mutation.MutationError.TheVariants.{Write}
+use Rattle.module_rewrites.specs.Size.{IsNotFor}
+use Rattle.module_rewrites.specs.declared.mutation.MutationError.{MutationError}
+use Rattle.module_rewrites.specs.declared.mutation.MutationError.TheVariants.{Read, Memory as NoMemory, Write, TooLong, NotSmaller}
 use Rattle.module_rewrites.proofs.ReadAgainLemmas.{read_again}
 
 abbrev Types : Type 0
@@ -315,3 +317,45 @@ module _ (scope : Scope) (bytes : List ℕ) (info : Module) (layout : Layout) (n
   tried_writing EmptyType large vain = absurd vain
   tried_writing TooLarge large vain =
       by_size (record { rewrite = rewrite; contents = contents; more = more; writes = w; large = inl (large refl) })
+
+  -- the same where the module with it isn't small enough
+  pub refuses_size : (new : List ℕ) → IsRewritten bytes layout n contents more new → (e : MutationError) → IsNotFor scope bytes new e →
+      RefusesEntry scope bytes info layout n e
+  refuses_size new is (Read fault) h = absurd h
+  refuses_size new is NoMemory h = absurd h
+  refuses_size new is (Write fault) h = absurd h
+  refuses_size new is TooLong (h, k) = record {
+    s = s;
+    rewrite = rewrite;
+    contents = contents;
+    more = more;
+    after = after;
+    writes = w;
+    holds = record { new = new; is = is; long = h; smaller = k };
+  }
+  refuses_size new is NotSmaller (on, h) = (
+    on,
+    record { s = s; rewrite = rewrite; contents = contents; more = more; after = after; writes = w; holds = record { new = new; is = is; not = h } },
+  )
+
+  pub tried_size : (new : List ℕ) → IsRewritten bytes layout n contents more new → (e : MutationError) → IsNotFor scope bytes new e →
+      TriesInVain scope bytes info layout s n after
+  tried_size new is (Read fault) h = absurd h
+  tried_size new is NoMemory h = absurd h
+  tried_size new is (Write fault) h = absurd h
+  tried_size new is TooLong (h, k) =
+      by_size (record {
+        rewrite = rewrite;
+        contents = contents;
+        more = more;
+        writes = w;
+        large = inr (inl (record { new = new; is = is; long = h; smaller = k }));
+      })
+  tried_size new is NotSmaller (on, h) =
+      by_size (record {
+        rewrite = rewrite;
+        contents = contents;
+        more = more;
+        writes = w;
+        large = inr (inr (on, record { new = new; is = is; not = h }));
+      })

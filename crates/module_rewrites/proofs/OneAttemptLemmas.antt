@@ -22,6 +22,7 @@ use Rattle.module_rewrites.specs.Function.{IsFunction}
 use Rattle.module_rewrites.specs.Mutated.{HasNoMutation}
 use Rattle.body_rewrites.specs.declared.growth.Growth.{Growth}
 use Rattle.module_rewrites.specs.Scope.{Scope, wanted_of}
+use Rattle.module_rewrites.specs.Size.{IsSmaller}
 use Rattle.module_rewrites.specs.Writing.{MakesAt, WritesAt}
 use Rattle.module_rewrites.proofs.DoesAsBeforeLemmas.{OneReading, one_body}
 use Rattle.module_rewrites.proofs.OneSearchLemmas.{AreApart}
@@ -115,9 +116,12 @@ module _ (one : OneWriting) where
             one.fits bytes info layout n m.contents m.more new is m.made
             (subst (λ (ts : List PrimitiveTypeInfo). IsTooLarge bytes layout n m.contents ts) same.2
             (subst (λ (t : List ℕ). IsTooLarge bytes layout n t d.more) same.1 large))
-        | inr long ↦
+        | inr (inl long) ↦
             let text = module_one bytes layout n d.contents m.contents d.more m.more long.new new same.1 same.2 long.is m.made in
-            omega (arith, ap length text, long.long, m.fits)
+            omega (arith, ap length text, long.long, m.fits.few)
+        | inr (inr (on, large)) ↦
+            let text = module_one bytes layout n d.contents m.contents d.more m.more large.new new same.1 same.2 large.is m.made in
+            large.not (subst (λ (t : List ℕ). IsSmaller t bytes) (sym text) (m.fits.smaller on))
       ]
 
 -- the attempt makes something

@@ -1,6 +1,6 @@
 -- Words choose one rewrite of a module, and one after another.
-use Rattle.std.proofs.Common.{◌≡◌, ◌⊎◌, ◌%◌, ◌^◌, inl, inr, ℕ, Bool, true, false, ◌+◌, ◌-◌, ◌<◌, ◌≤◌, List, [], ◌∷◌, ◌++◌, length, Option, Some, None, refl, sym, ap, ap₂, subst, ◌∙◌, arith}
-use Rattle.std.specs.Prelude.{IfSome, min, if◌then◌else◌}
+use Rattle.std.proofs.Common.{◌≡◌, ◌⊎◌, ◌%◌, ◌^◌, inl, inr, ℕ, ◌+◌, ◌-◌, ◌<◌, ◌≤◌, List, [], ◌∷◌, ◌++◌, length, Option, Some, None, refl, sym, ap, ap₂, subst, ◌∙◌, arith}
+use Rattle.std.specs.Prelude.{IfSome}
 use Rattle.std.specs.List.{sum_by}
 use Rattle.std.proofs.lemmas.Bool.{cases_eq, cases_lt}
 use Rattle.std.proofs.lemmas.List.{append-nil, length-append}
@@ -17,7 +17,7 @@ use Rattle.module_rewrites.specs.ChosenTimes.{ChoosesEach, ChoosesTimes}
 use Rattle.module_rewrites.specs.Drawing.{EachInVain, IsFirstBefore, IsFirstBehind, NamesEntry, by_word, contents_length, in_order}
 use Rattle.module_rewrites.specs.Mutated.{CannotMutate, HasNoMutation, IsChosen, IsOfSize, RefusesChosenEntry, RefusesEntry, RefusesMutation}
 use Rattle.module_rewrites.specs.Mutates.{EndsFor, Mutates}
-use Rattle.module_rewrites.specs.Scope.{Scope, most_of}
+use Rattle.module_rewrites.specs.Scope.{Scope, draws_of}
 use Rattle.module_rewrites.specs.Stopped.{HadMemory}
 use Rattle.module_rewrites.specs.Writing.{MakesAt}
 use Rattle.module_rewrites.specs.declared.mutation.MutationError.{MutationError}
@@ -62,7 +62,7 @@ module _ (one : OneWriting) (scope : Scope) (bytes : List ℕ) (info : Module) (
       let makes = subst (λ i. Makes scope bytes info layout b i) (sym same) q in
       (same, (each_count (TriesInVain scope bytes info layout) (Makes scope bytes info layout) are (λ j. n) f.1 g.1 s a b f.3 p vain makes).1)
   finds_one None s n m a b f g p q =
-      draws_one (TriesInVain scope bytes info layout) (Makes scope bytes info layout) are layout.entries (names_one_entry (some_byte a n p)) s n m a b
+      draws_one (TriesInVain scope bytes info layout) (Makes scope bytes info layout) are layout.entries (names_one_entry (some_byte a n p)) (draws_of scope bytes) s n m a b
       (inside a n p) (inside b m q) p q f g
 
   pub chooses_one : (only : Option ℕ) (s : Stream) (f g : ℕ) (r q : Rewrite) (new other : List ℕ) (after later : Stream) →
@@ -98,14 +98,14 @@ module _ (one : OneWriting) (scope : Scope) (bytes : List ℕ) (info : Module) (
       Makes scope bytes info layout found n → GivesUpOn scope bytes info layout only s left → ⊥
   finds_apart (Some function) s n found left f p g =
       let same : g.0 ≡ n = omega (arith, f.0, g.1) in
-      each_apart (TriesInVain scope bytes info layout) (Makes scope bytes info layout) are (λ j. n) f.1 16 s found left f.2 f.3 p
-      (subst (λ i. EachInVain (TriesInVain scope bytes info layout) (λ j. i) 16 s left) same g.2)
+      each_apart (TriesInVain scope bytes info layout) (Makes scope bytes info layout) are (λ j. n) f.1 (draws_of scope bytes) s found left f.2 f.3 p
+      (subst (λ i. EachInVain (TriesInVain scope bytes info layout) (λ j. i) (draws_of scope bytes) s left) same g.2)
   finds_apart None s n found left (by_word i l c less h is_named after) p g =
-      names_apart (TriesInVain scope bytes info layout) (Makes scope bytes info layout) are layout.entries (names_one_entry (some_byte found n p)) i 16 s l c n
-      g.0 g.1 less h is_named (subst (λ (x : Stream). Makes scope bytes info layout x n) after p) g.2
+      names_apart (TriesInVain scope bytes info layout) (Makes scope bytes info layout) are layout.entries (names_one_entry (some_byte found n p)) i
+      (draws_of scope bytes) s l c n g.0 g.1 less h is_named (subst (λ (x : Stream). Makes scope bytes info layout x n) after p) g.2
   finds_apart None s n found left (in_order l c h order) p g =
       let same = names_one (TriesInVain scope bytes info layout) (Makes scope bytes info layout) are layout.entries
-      (names_one_entry (some_byte found n p)) 16 s l g.0 c g.1 h g.2 in
+      (names_one_entry (some_byte found n p)) (draws_of scope bytes) s l g.0 c g.1 h g.2 in
       let there = subst (λ (x : Stream). IsFirstBehind (TriesInVain scope bytes info layout) g.0 n x found
       ⊎ IsFirstBefore (TriesInVain scope bytes info layout) (length layout.entries) g.0 n x found) same.1
       (subst (λ i. IsFirstBehind (TriesInVain scope bytes info layout) i n c found
@@ -143,14 +143,8 @@ module _ (one : OneWriting) (scope : Scope) (bytes : List ℕ) (info : Module) (
   written_apart (mutations.Write writes.Memory) n inside chosen size w none = size
   written_apart mutations.TooLong n inside chosen size w none =
       lacks one scope bytes info layout w.s n w.rewrite w.contents w.more w.after (none n inside chosen) w.writes
-
--- a module that is made smaller may have no more bytes than any other
-most_fits : (scope : Scope) (bytes : List ℕ) (n : ℕ) → n ≤ most_of scope bytes → n ≤ scope.most
-most_fits scope bytes n l = go scope.shrinking l
-  where
-    go : (b : Bool) → n ≤ (if b then min scope.most (length bytes) else scope.most) → n ≤ scope.most
-    go true l = omega (arith, l)
-    go false l = l
+  written_apart mutations.NotSmaller n inside chosen size (on, w) none =
+      lacks one scope bytes info layout w.s n w.rewrite w.contents w.more w.after (none n inside chosen) w.writes
 
 -- ---- of a module
 
@@ -204,6 +198,7 @@ module _ (one : OneWriting) (reading : OneModule) (fit : EntriesFit) (scope : Sc
   refused_apart bytes mutations.Memory size r g = size
   refused_apart bytes (mutations.Write e) size r g = chosen_apart bytes (mutations.Write e) size r g
   refused_apart bytes mutations.TooLong size r g = chosen_apart bytes mutations.TooLong size r g
+  refused_apart bytes mutations.NotSmaller size r g = chosen_apart bytes mutations.NotSmaller size r g
 
   -- ---- one after another
 
@@ -224,7 +219,7 @@ module _ (one : OneWriting) (reading : OneModule) (fit : EntriesFit) (scope : Sc
       let same = module_one bytes a.0 b.0 s a.1 b.1 m.function o.function m.rewrite o.rewrite few a.2 b.2 in
       let there = subst (λ (x : List ℕ). ChoosesEach scope x a.1 os other later) (sym same.2)
       (subst (λ (x : Stream). ChoosesEach scope b.0 x os other later) (sym same.3) b.3) in
-      let fits = most_fits scope bytes (length a.0) a.2.chooses.makes.fits in
+      let fits = a.2.chooses.makes.fits.few in
       let (rest, e, more) = each_begins ms os a.0 new other a.1 after later (omega (arith, fits, most)) most (omega (arith, less)) a.3 there in
       (rest, ap₂ (λ (x : MadeRewrite) (xs : List MadeRewrite). x ∷ xs) (sym (made_is m o same.0 same.1)) e, more)
 
@@ -252,13 +247,14 @@ module _ (one : OneWriting) (reading : OneModule) (fit : EntriesFit) (scope : Sc
   ends_apart (Some (mutations.Write writes.EmptyType)) new s f r next left few ends had up c = ends.0.refuses
   ends_apart (Some (mutations.Write writes.Memory)) new s f r next left few ends had up c = had tt
   ends_apart (Some mutations.TooLong) new s f r next left few ends had up c = gives_up_none new next s left f r few c (up tt)
+  ends_apart (Some mutations.NotSmaller) new s f r next left few ends had up c = gives_up_none new next s left f r few c (up tt)
 
   -- what was made has no more bytes than it may
   each_fits : (made : List MadeRewrite) (bytes new : List ℕ) (s after : Stream) → length bytes < 2 ^ 64 → scope.most < 2 ^ 64 →
       ChoosesEach scope bytes s made new after → length new < 2 ^ 64
   each_fits [] bytes new s after few most a = omega (arith, few, ap length a.0)
   each_fits (m ∷ ms) bytes new s after few most a =
-      let fits = most_fits scope bytes (length a.0) a.2.chooses.makes.fits in
+      let fits = a.2.chooses.makes.fits.few in
       each_fits ms a.0 new a.1 after (omega (arith, fits, most)) most a.3
 
   more_apart : (rest made others : List MadeRewrite) (stopped : Option MutationError) (new other : List ℕ) (after later : Stream) → length new < 2 ^ 64 →

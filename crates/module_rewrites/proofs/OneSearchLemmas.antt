@@ -123,17 +123,17 @@ module _ (Vain : Stream → ℕ → Stream → Type 0) (Ends : Stream → ℕ �
       ]
     ]
 
-    pub draws_one : (s : Stream) (n m : ℕ) (a b : Stream) → n < length entries → m < length entries → Ends a n → Ends b m →
-        DrawsEntry Vain entries s n a → DrawsEntry Vain entries s m b → (n ≡ m) × (a ≡ b)
-    draws_one s n m a b inside within p q (by_word i l c few h is after) (by_word j o d few' k has later) =
+    pub draws_one : (most : ℕ) (s : Stream) (n m : ℕ) (a b : Stream) → n < length entries → m < length entries → Ends a n → Ends b m →
+        DrawsEntry Vain entries most s n a → DrawsEntry Vain entries most s m b → (n ≡ m) × (a ≡ b)
+    draws_one most s n m a b inside within p q (by_word i l c few h is after) (by_word j o d few' k has later) =
         let (same, there) = words_one i j s l c n o d m h is (subst (λ (x : Stream). Ends x n) after p) k has (subst (λ (x : Stream). Ends x m) later q) in
         (same, after ∙ ap after_word there ∙ sym later)
-    draws_one s n m a b inside within p q (by_word i l c few h is after) (in_order o d k order) =
-        absurd (names_apart i 16 s l c n o d few h is (subst (λ (x : Stream). Ends x n) after p) k)
-    draws_one s n m a b inside within p q (in_order l c h order) (by_word j o d few k has later) =
-        absurd (names_apart j 16 s o d m l c few k has (subst (λ (x : Stream). Ends x m) later q) h)
-    draws_one s n m a b inside within p q (in_order l c h order) (in_order o d k again) =
-        let same = names_one 16 s l o c d h k in
+    draws_one most s n m a b inside within p q (by_word i l c few h is after) (in_order o d k order) =
+        absurd (names_apart i most s l c n o d few h is (subst (λ (x : Stream). Ends x n) after p) k)
+    draws_one most s n m a b inside within p q (in_order l c h order) (by_word j o d few k has later) =
+        absurd (names_apart j most s o d m l c few k has (subst (λ (x : Stream). Ends x m) later q) h)
+    draws_one most s n m a b inside within p q (in_order l c h order) (in_order o d k again) =
+        let same = names_one most s l o c d h k in
         let there = subst (λ (x : Stream). IsFirstBehind Vain o n x a ⊎ IsFirstBefore Vain (length entries) o n x a) same.1
         (subst (λ i. IsFirstBehind Vain i n c a ⊎ IsFirstBefore Vain (length entries) i n c a) same.0 order) in
         order_one (length entries) o n m d a b inside within p q there again

@@ -96,7 +96,7 @@ IsReason scope bytes (NoFunction function) = RefusesIndexOf scope.function bytes
 IsReason scope bytes (UnknownImport e) = RefusesIndexOf scope.function bytes (UnknownImport e)
 IsReason scope bytes (Refused e) = RefusesMutation scope bytes e
 
--- a rewrite's module is too large: another rewrite may fit
+-- a rewrite's module is not small enough: another rewrite may fit
 abbrev pub IsForSize : Reason → Type 0
 IsForSize (Refused e) = IsOfSize e
 IsForSize e = ⊥

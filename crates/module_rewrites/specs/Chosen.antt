@@ -6,20 +6,21 @@ use Rattle.wasm_module.specs.Module.{Layout, IsModule}
 use Rattle.body_rewrites.specs.declared.rewrite.Rewrite.{Rewrite}
 use Rattle.module_rewrites.specs.Drawing.{DrawsEntry, EachInVain, IsFirstBefore, IsFirstBehind, NamesInVain}
 use Rattle.module_rewrites.specs.Mutated.{HasNoMutation}
-use Rattle.module_rewrites.specs.Scope.{Scope}
+use Rattle.module_rewrites.specs.Scope.{Scope, draws_of}
 use Rattle.module_rewrites.specs.Writing.{DoesNotFit, MakesAt}
 
--- An attempt at the n-th code entry is in vain: there is no rewrite, and no word is drawn; or the module with the one that words choose is too large.
+-- An attempt at the n-th code entry is in vain: there is no rewrite, and no word is drawn; or the module with the one that words choose isn't small enough.
 pub data TriesInVain (scope : Scope) (bytes : List ℕ) (info : Module) (layout : Layout) (s : Stream) (n : ℕ) (after : Stream) : Type 0 where
   by_lack : HasNoMutation scope bytes info layout n → after ≡ s → TriesInVain scope bytes info layout s n after
   by_size : DoesNotFit scope bytes info layout s n after → TriesInVain scope bytes info layout s n after
 
--- The entry whose function is named, if one is, behind fewer than 16 attempts there in vain; or else the one that words draw. `after` is what the generator
--- then gives.
+-- The entry whose function is named, if one is, behind fewer attempts there in vain than are made at most; or else the one that words draw. `after` is what
+-- the generator then gives.
 abbrev pub FindsEntry : Scope → (bytes : List ℕ) → Module → Layout → (only : Option ℕ) → Stream → (n : ℕ) → (after : Stream) → Type 0
 FindsEntry scope bytes info layout (Some function) s n after =
-    (layout.imported_functions + n ≡ function) × (count : ℕ) × (count < 16) × EachInVain (TriesInVain scope bytes info layout) (λ j. n) count s after
-FindsEntry scope bytes info layout None s n after = DrawsEntry (TriesInVain scope bytes info layout) layout.entries s n after
+    (layout.imported_functions + n ≡ function) × (count : ℕ) × (count < draws_of scope bytes)
+    × EachInVain (TriesInVain scope bytes info layout) (λ j. n) count s after
+FindsEntry scope bytes info layout None s n after = DrawsEntry (TriesInVain scope bytes info layout) layout.entries (draws_of scope bytes) s n after
 
 -- Of a module's functions the words choose this one, by its index among all functions, the rewrite, and the new bytes; `after` is what the generator gives
 -- behind them.
@@ -53,12 +54,12 @@ pub record GivesUpInOrder (scope : Scope) (bytes : List ℕ) (info : Module) (la
   pub behind : AllInVain scope bytes info layout from (length layout.entries) s middle
   pub before : AllInVain scope bytes info layout 0 from middle after
 
--- 16 attempts at the function that is named are in vain; or else those where 16 words name entries, and then those in order.
+-- As many attempts as are made at most at the function that is named are in vain; or else those where as many words name entries, and then those in order.
 abbrev pub GivesUpOn : Scope → (bytes : List ℕ) → Module → Layout → (only : Option ℕ) → Stream → (after : Stream) → Type 0
 GivesUpOn scope bytes info layout (Some function) s after =
-    (n : ℕ) × (layout.imported_functions + n ≡ function) × EachInVain (TriesInVain scope bytes info layout) (λ j. n) 16 s after
+    (n : ℕ) × (layout.imported_functions + n ≡ function) × EachInVain (TriesInVain scope bytes info layout) (λ j. n) (draws_of scope bytes) s after
 GivesUpOn scope bytes info layout None s after =
-    (last : ℕ) × (middle : Stream) × NamesInVain (TriesInVain scope bytes info layout) layout.entries 16 s last middle
+    (last : ℕ) × (middle : Stream) × NamesInVain (TriesInVain scope bytes info layout) layout.entries (draws_of scope bytes) s last middle
     × GivesUpInOrder scope bytes info layout last middle after
 
 -- The same of the module with these bytes.
@@ -96,11 +97,11 @@ pub record ChoosesAgain (scope : Scope) (bytes : List ℕ) (info : Module) (layo
     (new : List ℕ) (after : Stream) : Type 0 where
   pub function_is : function ≡ layout.imported_functions + n
   pub count : ℕ
-  pub few : count < 16
+  pub few : count < draws_of scope bytes
   pub found : Stream
   pub vain : EachInVain (TriesInVain scope bytes info layout) (λ j. n) count s found
   pub makes : MakesAt scope bytes info layout found n rewrite new after
 
--- sixteen attempts at the n-th entry, as many as are made, are in vain
+-- as many attempts at the n-th entry as are made at most are in vain
 abbrev pub GivesUpAgain : Scope → (bytes : List ℕ) → Module → Layout → (n : ℕ) → Stream → (after : Stream) → Type 0
-GivesUpAgain scope bytes info layout n s after = EachInVain (TriesInVain scope bytes info layout) (λ j. n) 16 s after
+GivesUpAgain scope bytes info layout n s after = EachInVain (TriesInVain scope bytes info layout) (λ j. n) (draws_of scope bytes) s after

@@ -43,10 +43,10 @@ abbrev pub IsFirstBefore : (Vain : Stream → ℕ → Stream → Type 0) → (co
 IsFirstBefore Vain count from n s after =
     (n < from) × (k : ℕ) × (middle : Stream) × (count ≡ from + k) × EachInVain Vain (λ j. from + j) k s middle × EachInVain Vain (λ j. j) n middle after
 
--- The entry is one that a word names behind fewer than 16 that name entries in vain; or, behind 16 of these, the first one without an attempt in vain, from
+-- The entry is one that a word names behind fewer than so many that name entries in vain; or, behind as many, the first one without an attempt in vain, from
 -- the last one named on, and then before that.
-pub data DrawsEntry (Vain : Stream → ℕ → Stream → Type 0) (entries : List Entry) (s : Stream) (n : ℕ) (after : Stream) : Type 0 where
-  by_word : (count last : ℕ) (before : Stream) → count < 16 → NamesInVain Vain entries count s last before → NamesEntry before entries n →
-      after ≡ after_word before → DrawsEntry Vain entries s n after
-  in_order : (last : ℕ) (middle : Stream) → NamesInVain Vain entries 16 s last middle →
-      IsFirstBehind Vain last n middle after ⊎ IsFirstBefore Vain (length entries) last n middle after → DrawsEntry Vain entries s n after
+pub data DrawsEntry (Vain : Stream → ℕ → Stream → Type 0) (entries : List Entry) (most : ℕ) (s : Stream) (n : ℕ) (after : Stream) : Type 0 where
+  by_word : (count last : ℕ) (before : Stream) → count < most → NamesInVain Vain entries count s last before → NamesEntry before entries n →
+      after ≡ after_word before → DrawsEntry Vain entries most s n after
+  in_order : (last : ℕ) (middle : Stream) → NamesInVain Vain entries most s last middle →
+      IsFirstBehind Vain last n middle after ⊎ IsFirstBefore Vain (length entries) last n middle after → DrawsEntry Vain entries most s n after

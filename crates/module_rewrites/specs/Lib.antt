@@ -1,4 +1,5 @@
 pub mod Scope
+pub mod Size
 pub mod Chosen
 pub mod ChosenTimes
 pub mod Drawing

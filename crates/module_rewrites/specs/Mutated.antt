@@ -1,5 +1,5 @@
 -- A module with an operator of one of its functions rewritten by a rule, in its place (this project).
-use Rattle.std.specs.Prelude.{◌≡◌, ℕ, ◌+◌, ◌<◌, ◌≤◌, List, [], ◌++◌, length, Option, Some, None, Result, Ok, Err, slice_range}
+use Rattle.std.specs.Prelude.{◌≡◌, ℕ, ◌+◌, ◌<◌, ◌≤◌, true, List, [], ◌++◌, length, Option, Some, None, Result, Ok, Err, slice_range}
 use Rattle.rand_core.specs.Stream.{Stream}
 use Rattle.wasm_code.specs.declared.operator.Operator.{Operator}
 use Rattle.wasm_types.specs.Module.{Module}
@@ -17,8 +17,9 @@ use Rattle.body_rewrites.specs.declared.rewrite.Rewrite.{Rewrite}
 use Rattle.body_rewrites.specs.Random.{AppendsByWords, HasNoRewrite}
 use Rattle.module_rewrites.specs.Function.{IsFunction}
 use Rattle.module_rewrites.specs.ReadAgain.{IsReadAgain}
-use Rattle.module_rewrites.specs.Scope.{Scope, most_of, wanted_of}
-use Rattle.module_rewrites.specs.Writing.{Exceeds, IsWritten}
+use Rattle.module_rewrites.specs.Scope.{Scope, wanted_of}
+use Rattle.module_rewrites.specs.Size.{IsSmallEnough}
+use Rattle.module_rewrites.specs.Writing.{Exceeds, IsNoSmaller, IsWritten}
 use Rattle.module_rewrites.specs.declared.mutation.MutationError.{MutationError}
 use Rattle.module_rewrites.specs.declared.mutation.MutationError.TheVariants as mutations
 
@@ -29,7 +30,7 @@ IsChosen (Some function) index = index ≡ function
 
 -- The new bytes are the module with an operator of its n-th code entry rewritten in its place by one of the rules, as some words choose: its locals stand as
 -- they stood, what stands round the new code runs as before, and the globals that it asks for are appended. They are read again so. Where it is to make the
--- module smaller, it leaves fewer operators.
+-- module smaller, it leaves no more operators.
 pub record MutatesEntry (scope : Scope) (bytes : List ℕ) (info : Module) (layout : Layout) (n : ℕ) (rewrite : Rewrite) (new : List ℕ) : Type 0 where
   pub locals : List PrimitiveTypeInfo
   pub expression : ℕ
@@ -48,18 +49,17 @@ abbrev pub MutatesOne : Scope → (bytes : List ℕ) → Module → Layout → (
 MutatesOne scope bytes info layout function rewrite new =
     (n : ℕ) × (function ≡ layout.imported_functions + n) × MutatesEntry scope bytes info layout n rewrite new
 
--- The same of the bytes of a module, at a function that may be rewritten, and with no more bytes than it may have then: where it is to be made smaller, no more
--- than it had.
+-- The same of the bytes of a module, at a function that may be rewritten; and the new module is small enough.
 pub record IsMutated (scope : Scope) (bytes : List ℕ) (function : ℕ) (rewrite : Rewrite) (new : List ℕ) : Type 0 where
   pub info : Module
   pub layout : Layout
   pub is : IsModule bytes info layout
   pub chosen : IsChosen scope.function function
-  pub fits : length new ≤ most_of scope bytes
+  pub fits : IsSmallEnough scope bytes new
   pub mutates : MutatesOne scope bytes info layout function rewrite new
 
 -- No rewrite can be made in the n-th code entry: it spells no function that can be read, or one of whose operators no rule rewrites any; where rewrites are to
--- make the module smaller, so that fewer are left.
+-- make the module smaller, so that there are no more than before.
 abbrev pub HasNoMutation : Scope → (bytes : List ℕ) → Module → Layout → (n : ℕ) → Type 0
 HasNoMutation scope bytes info layout n =
     (locals : List PrimitiveTypeInfo) (expression : ℕ) (operators : List (Operator × ℕ)) → IsFunction bytes info layout n locals expression operators →
@@ -78,15 +78,17 @@ pub record IsBehindLocals (bytes : List ℕ) (entry : Entry) (expression : ℕ) 
   pub behind : entry.contents ≤ expression
   pub ends : expression ≤ length bytes
 
--- Why there is no module with the n-th code entry rewritten: what a rewrite writes doesn't fit 32 bits or has too many bytes, or for want of memory. Never for
--- the type of a global: a rewrite asks for those of numbers alone.
+-- Why there is no module with the n-th code entry rewritten: what a rewrite writes doesn't fit 32 bits, has too many bytes or isn't smaller, or for want of
+-- memory. Never for the type of a global: a rewrite asks for those of numbers alone.
 abbrev pub RefusesEntry : Scope → (bytes : List ℕ) → Module → Layout → (n : ℕ) → MutationError → Type 0
 RefusesEntry scope bytes info layout n (mutations.Read e) = ⊥
 RefusesEntry scope bytes info layout n mutations.Memory = Unit {0}
 RefusesEntry scope bytes info layout n (mutations.Write writes.TooLarge) = IsWritten scope bytes info layout n (IsTooLarge bytes layout n)
 RefusesEntry scope bytes info layout n (mutations.Write writes.EmptyType) = ⊥
 RefusesEntry scope bytes info layout n (mutations.Write writes.Memory) = Unit {0}
-RefusesEntry scope bytes info layout n mutations.TooLong = IsWritten scope bytes info layout n (Exceeds (most_of scope bytes) bytes layout n)
+RefusesEntry scope bytes info layout n mutations.TooLong = IsWritten scope bytes info layout n (Exceeds scope bytes layout n)
+RefusesEntry scope bytes info layout n mutations.NotSmaller =
+    (scope.shrinking ≡ true) × IsWritten scope bytes info layout n (IsNoSmaller bytes layout n)
 
 -- The same of the bytes of a module, at a function that may be rewritten.
 pub record RefusesChosenEntry (scope : Scope) (bytes : List ℕ) (e : MutationError) : Type 0 where
@@ -109,10 +111,11 @@ RefusesMutation scope bytes e = RefusesChosenEntry scope bytes e
 abbrev pub WasRewrittenAt : Module → Layout → (function : ℕ) → (new : List ℕ) → Type 0
 WasRewrittenAt info layout function new = (n : ℕ) × (function ≡ layout.imported_functions + n) × WasRewritten info layout n new
 
--- the rewrite's module is too large: another rewrite may fit
+-- the rewrite's module isn't small enough: another rewrite may fit
 abbrev pub IsOfSize : MutationError → Type 0
 IsOfSize (mutations.Write writes.TooLarge) = Unit {0}
 IsOfSize mutations.TooLong = Unit {0}
+IsOfSize mutations.NotSmaller = Unit {0}
 IsOfSize e = ⊥
 
 -- so it is

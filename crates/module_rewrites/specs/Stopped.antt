@@ -12,6 +12,7 @@ IsForMemory mutations.Memory = Unit {0}
 IsForMemory (mutations.Write writes.Memory) = Unit {0}
 IsForMemory (mutations.Write e) = ⊥
 IsForMemory mutations.TooLong = ⊥
+IsForMemory mutations.NotSmaller = ⊥
 
 -- What stopped rewriting, if anything did, was no want of memory.
 abbrev pub HadMemory : Option MutationError → Type 0

@@ -1,5 +1,5 @@
 -- A code entry as words of the generator rewrite it, and whether there is a module with it that is small enough (this project).
-use Rattle.std.specs.Prelude.{◌≡◌, ◌⊎◌, ℕ, ◌<◌, ◌≤◌, List, [], ◌++◌, length, slice_range}
+use Rattle.std.specs.Prelude.{◌≡◌, ◌⊎◌, ℕ, ◌<◌, true, List, [], ◌++◌, length, slice_range}
 use Rattle.rand_core.specs.Stream.{Stream}
 use Rattle.wasm_code.specs.declared.operator.Operator.{Operator}
 use Rattle.wasm_types.specs.Module.{Module}
@@ -11,7 +11,8 @@ use Rattle.peephole_machine.specs.Values.{context_in}
 use Rattle.body_rewrites.specs.declared.rewrite.Rewrite.{Rewrite}
 use Rattle.body_rewrites.specs.Random.{AppendsByWords}
 use Rattle.module_rewrites.specs.Function.{IsFunction}
-use Rattle.module_rewrites.specs.Scope.{Scope, most_of, wanted_of}
+use Rattle.module_rewrites.specs.Scope.{Scope, wanted_of}
+use Rattle.module_rewrites.specs.Size.{IsSmallEnough, IsSmaller}
 
 -- By these words the n-th code entry contains its locals as they stood, and its body with the rewrite that they choose, of those by one of the rules that
 -- do what is wanted to the number of operators; it asks for more globals of these types. `after` is what the generator gives behind the words.
@@ -25,28 +26,36 @@ pub record WritesAt (scope : Scope) (bytes : List ℕ) (info : Module) (layout :
   pub writes : AppendsByWords (context_in info locals) s scope.rules (wanted_of scope) bytes operators rewrite [] body more after
   pub contents_are : contents ≡ slice_range bytes function.entry.contents expression ++ body
 
--- The new bytes are the module with that, and no more than they may be.
+-- The new bytes are the module with that, and small enough.
 pub record MakesAt (scope : Scope) (bytes : List ℕ) (info : Module) (layout : Layout) (s : Stream) (n : ℕ) (rewrite : Rewrite) (new : List ℕ)
     (after : Stream) : Type 0 where
   pub contents : List ℕ
   pub more : List PrimitiveTypeInfo
   pub writes : WritesAt scope bytes info layout s n rewrite contents more after
   pub made : IsRewritten bytes layout n contents more new
-  pub fits : length new ≤ most_of scope bytes
+  pub fits : IsSmallEnough scope bytes new
 
--- the module with that has more bytes than these
-pub record Exceeds (most : ℕ) (bytes : List ℕ) (layout : Layout) (n : ℕ) (contents : List ℕ) (more : List PrimitiveTypeInfo) : Type 0 where
+-- the module with that has more bytes than it may, and is smaller where it is to be made so
+pub record Exceeds (scope : Scope) (bytes : List ℕ) (layout : Layout) (n : ℕ) (contents : List ℕ) (more : List PrimitiveTypeInfo) : Type 0 where
   pub new : List ℕ
   pub is : IsRewritten bytes layout n contents more new
-  pub long : most < length new
+  pub long : scope.most < length new
+  pub smaller : scope.shrinking ≡ true → IsSmaller new bytes
 
--- 32 bits don't hold a size or a number of the module with that, or it has more bytes than it may.
+-- the module with that is no smaller than the old one
+pub record IsNoSmaller (bytes : List ℕ) (layout : Layout) (n : ℕ) (contents : List ℕ) (more : List PrimitiveTypeInfo) : Type 0 where
+  pub new : List ℕ
+  pub is : IsRewritten bytes layout n contents more new
+  pub not : ¬ (IsSmaller new bytes)
+
+-- 32 bits don't hold a size or a number of the module with that, it has more bytes than it may, or it is to be smaller and is not.
 pub record DoesNotFit (scope : Scope) (bytes : List ℕ) (info : Module) (layout : Layout) (s : Stream) (n : ℕ) (after : Stream) : Type 0 where
   pub rewrite : Rewrite
   pub contents : List ℕ
   pub more : List PrimitiveTypeInfo
   pub writes : WritesAt scope bytes info layout s n rewrite contents more after
-  pub large : IsTooLarge bytes layout n contents more ⊎ Exceeds (most_of scope bytes) bytes layout n contents more
+  pub large : IsTooLarge bytes layout n contents more ⊎ Exceeds scope bytes layout n contents more
+      ⊎ ((scope.shrinking ≡ true) × IsNoSmaller bytes layout n contents more)
 
 -- Some words write the n-th code entry of the module such that this holds of what it contains and the globals that it asks for.
 pub record IsWritten (scope : Scope) (bytes : List ℕ) (info : Module) (layout : Layout) (n : ℕ)

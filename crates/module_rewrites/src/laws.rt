@@ -24,6 +24,7 @@ ghost use Rattle.module_rewrites.specs.Function.{IsFunction};
 ghost use Rattle.module_rewrites.specs.Mutated.{CannotMutate, IsMutated, IsOfSize, RefusesMutation};
 ghost use Rattle.module_rewrites.specs.Mutates.{Mutates};
 ghost use Rattle.module_rewrites.specs.Scope.{Scope, wanted_of};
+ghost use Rattle.module_rewrites.specs.Size.{IsSmaller};
 ghost use Rattle.module_rewrites.specs.Smaller.{MakesSmaller};
 ghost use Rattle.module_rewrites.specs.Stopped.{HadMemory};
 ghost use Rattle.module_rewrites.specs.declared.mutation.MutationError.{MutationError};
@@ -177,15 +178,15 @@ pub fn equal_words_give_equal_bytes()
     entries_fit_the_module();
 }
 
-/// Where rewrites are to make a module smaller, each is one that leaves fewer operators, and the module has no more bytes with it than
-/// before (`one`); so after several, one after another, it has no more than at first (`each`).
+/// Where rewrites are to make a module smaller, each is one that leaves no more operators, and the module with it is smaller than before:
+/// it has fewer bytes, or as many and comes earlier in the dictionary (`one`); so it is after several, one after another (`each`).
 pub fn shrinking_rewrites_make_smaller()
     ensures one { (scope : Scope) (bytes new : List ℕ) (function : ℕ) (rewrite : Rewrite)
         → scope.shrinking ≡ true → IsMutated scope bytes function rewrite new
         → MakesSmaller bytes function rewrite new }
     ensures each { (scope : Scope) (count : ℕ) (bytes new : List ℕ) (made : List MadeRewrite)
         (stopped : Option MutationError) → scope.shrinking ≡ true
-        → Mutates scope count bytes made new stopped → length new ≤ length bytes }
+        → Mutates scope count bytes made new stopped → IsSmaller new bytes }
 {
     chosen_rewrites_are_wanted();
 }

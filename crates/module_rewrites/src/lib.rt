@@ -10,6 +10,7 @@ pub mod laws;
 mod mutation;
 mod operator_code;
 mod scope;
+mod size;
 #[cfg(test)]
 mod tests;
 mod times;

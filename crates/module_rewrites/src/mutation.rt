@@ -6,13 +6,15 @@ ghost use Rattle.peephole_machine.specs.Values.{context_in};
 ghost use Rattle.body_rewrites.specs.Random.{AppendsByWords, HasNoRewrite};
 ghost use Rattle.module_rewrites.specs.Chosen.{AllInVain, ChoosesAgain, ChoosesBy, ChoosesFrom, ChoosesOfModule, ChoosesWithin, GivesUp, GivesUpAgain, GivesUpInOrder, GivesUpOn, TriesInVain};
 ghost use Rattle.module_rewrites.specs.Mutated.{CannotMutate, HasNoMutation, IsBehindLocals, IsInVain, IsMutated, IsOfSize, IsRefusedForSize, MutatesEntry, MutatesOne, RefusesEntry, RefusesMutation, WasRewrittenAt, last_of};
-ghost use Rattle.module_rewrites.specs.Scope.{most_of, wanted_of};
+ghost use Rattle.module_rewrites.specs.Scope.{wanted_of};
+ghost use Rattle.module_rewrites.specs.Size.{IsSmallEnough};
 ghost use Rattle.module_rewrites.specs.Writing.{MakesAt};
 ghost use Rattle.module_rewrites.specs.declared.mutation.MutationError.TheVariants.{Memory, Write};
 
 use crate::drawing::draw_entry;
 use crate::function::{FunctionBody, entry_at, function_index, read_function};
 use crate::scope::Scope;
+use crate::size::refusal;
 use body_rewrites::{Body, Rewrite, Rewritten, rewrite_at_random, trees_of};
 use body_splices::laws::own_bytes_stay;
 use rand_core::Rng;
@@ -24,9 +26,6 @@ use wasm_module::laws::{
 };
 use wasm_module::{Entry, Layout, Module, ModuleError, WriteError, read_again, with_body};
 use wasm_types::ModuleInfo;
-
-// The most rewrites that are drawn, one after another, before all functions are tried in order.
-const MOST_DRAWS: usize = 16;
 
 /// Why there is no new module.
 #[derive(Clone, Copy, Debug, PartialEq, Eq, ErrorTexts)]
@@ -43,17 +42,20 @@ pub enum MutationError {
     /// The rewritten module has more bytes than a new one may have.
     #[error("the rewritten module has more bytes than it may")]
     TooLong,
+    /// The rewritten module isn't smaller, where it is to be.
+    #[error("the rewritten module isn't smaller")]
+    NotSmaller,
 }
 
 impl MutationError {
-    /// Whether the module with a rewrite is too large, so that another rewrite may fit.
+    /// Whether the module with a rewrite isn't small enough, so that another rewrite may fit.
     pub fn is_of_size(&self) -> bool
         ensures { IsTrue result ↔ IsOfSize self.now }
     {
         match self {
             MutationError::Read(_) | MutationError::Memory => false,
             MutationError::Write(e) => is_too_large(*e),
-            MutationError::TooLong => true,
+            MutationError::TooLong | MutationError::NotSmaller => true,
         }
     }
 }
@@ -107,7 +109,7 @@ fn is_too_large(e: WriteError) -> bool
     }
 }
 
-// Whether an attempt was in vain: there was no rewrite, or the module with it is too large.
+// Whether an attempt was in vain: there was no rewrite, or the module with it isn't small enough.
 fn is_in_vain(made: &Result<Option<Mutated>, MutationError>) -> bool
     ensures { IsTrue result ↔ IsInVain made.now }
 {
@@ -117,7 +119,7 @@ fn is_in_vain(made: &Result<Option<Mutated>, MutationError>) -> bool
     }
 }
 
-// Whether the module with a rewrite is too large.
+// Whether the module with a rewrite isn't small enough.
 fn is_refused_for_size(made: &Result<Option<Mutated>, MutationError>) -> bool
     ensures { IsTrue result ↔ IsRefusedForSize made.now }
 {
@@ -198,7 +200,7 @@ fn mutate_entry<R: Rng>(
     ensures function { IfOk result (λ o. IfSome o (λ m.
         m.function ≡ layout.now.imported_functions + n)) }
     ensures fits { IfOk result (λ o. IfSome o (λ m.
-        length m.bytes.items ≤ most_of scope.now bytes.now)) }
+        IsSmallEnough scope.now bytes.now m.bytes.items)) }
     ensures chosen { IfOk result (λ o. IfSome o (λ m. MakesAt scope.now bytes.now info.now
         layout.now (R.stream generator.old) n m.rewrite m.bytes.items (R.stream generator.new))) }
     ensures none { IfOk result (λ o. IfNone o
@@ -227,16 +229,14 @@ fn mutate_entry<R: Rng>(
     };
     let locals = locals_of(bytes, entry_at(layout, n), function.expression);
     match with_body(alloc, bytes, layout, n, locals, body.bytes(), &made.asks) {
-        Ok(new) => {
-            if new.len() > scope.most(bytes) {
-                return Err(MutationError::TooLong);
-            }
-            Ok(Some(Mutated {
+        Ok(new) => match refusal(scope, bytes, &new) {
+            Some(error) => Err(error),
+            None => Ok(Some(Mutated {
                 bytes: new,
                 function: function_index(info, layout, n),
                 rewrite: made.rewrite,
-            }))
-        }
+            })),
+        },
         Err(e) => Err(MutationError::Write(e)),
     }
 }
@@ -258,7 +258,7 @@ fn mutate_first<R: Rng>(
     ensures mutated { IfOk result (λ o. IfSome o (λ m. MutatesOne scope.now bytes.now
         info.now layout.now m.function m.rewrite m.bytes.items)) }
     ensures fits { IfOk result (λ o. IfSome o (λ m.
-        length m.bytes.items ≤ most_of scope.now bytes.now)) }
+        IsSmallEnough scope.now bytes.now m.bytes.items)) }
     ensures chosen { IfOk result (λ o. IfSome o (λ m. ChoosesWithin
         scope.now bytes.now info.now layout.now from to (R.stream generator.old)
         m.function m.rewrite m.bytes.items (R.stream generator.new))) }
@@ -295,7 +295,7 @@ fn mutate_in_order<R: Rng>(
     ensures mutated { IfOk result (λ o. IfSome o (λ m. MutatesOne scope.now bytes.now
         info.now layout.now m.function m.rewrite m.bytes.items)) }
     ensures fits { IfOk result (λ o. IfSome o (λ m.
-        length m.bytes.items ≤ most_of scope.now bytes.now)) }
+        IsSmallEnough scope.now bytes.now m.bytes.items)) }
     ensures chosen { IfOk result (λ o. IfSome o (λ m. ChoosesFrom
         scope.now bytes.now info.now layout.now first (R.stream generator.old)
         m.function m.rewrite m.bytes.items (R.stream generator.new))) }
@@ -332,7 +332,7 @@ fn mutate_any<R: Rng>(
     ensures mutated { IfOk result (λ o. IfSome o (λ m. MutatesOne scope.now bytes.now
         info.now layout.now m.function m.rewrite m.bytes.items)) }
     ensures fits { IfOk result (λ o. IfSome o (λ m.
-        length m.bytes.items ≤ most_of scope.now bytes.now)) }
+        IsSmallEnough scope.now bytes.now m.bytes.items)) }
     ensures chosen { IfOk result (λ o. IfSome o (λ m. ChoosesBy
         scope.now bytes.now info.now layout.now None (R.stream generator.old)
         m.function m.rewrite m.bytes.items (R.stream generator.new))) }
@@ -349,7 +349,7 @@ fn mutate_any<R: Rng>(
         return Ok(None);
     }
     let mut n = 0;
-    'draws: for _ in 0..MOST_DRAWS {
+    'draws: for _ in 0..scope.draws(bytes) {
         n = draw_entry(generator, layout);
         let made = mutate_entry(alloc, info, generator, scope, bytes, layout, n);
         if !is_in_vain(&made) {
@@ -375,7 +375,7 @@ fn mutate_again<R: Rng>(
         (m.function ≡ layout.now.imported_functions + n) × MutatesEntry
         scope.now bytes.now info.now layout.now n m.rewrite m.bytes.items)) }
     ensures fits { IfOk result (λ o. IfSome o (λ m.
-        length m.bytes.items ≤ most_of scope.now bytes.now)) }
+        IsSmallEnough scope.now bytes.now m.bytes.items)) }
     ensures chosen { IfOk result (λ o. IfSome o (λ m. ChoosesAgain
         scope.now bytes.now info.now layout.now n (R.stream generator.old)
         m.function m.rewrite m.bytes.items (R.stream generator.new))) }
@@ -385,7 +385,7 @@ fn mutate_again<R: Rng>(
     ensures gives_up { IfErr result (λ e. IsOfSize e → GivesUpAgain scope.now bytes.now info.now
         layout.now n (R.stream generator.old) (R.stream generator.new)) }
 {
-    'draws: for _ in 1..MOST_DRAWS {
+    'draws: for _ in 1..scope.draws(bytes) {
         let made = mutate_entry(alloc, info, generator, scope, bytes, layout, n);
         if !is_refused_for_size(&made) {
             return made;
@@ -408,7 +408,7 @@ fn mutate_function<R: Rng>(
     ensures mutated { IfOk result (λ o. IfSome o (λ m. (m.function ≡ function) × MutatesOne
         scope.now bytes.now info.now layout.now m.function m.rewrite m.bytes.items)) }
     ensures fits { IfOk result (λ o. IfSome o (λ m.
-        length m.bytes.items ≤ most_of scope.now bytes.now)) }
+        IsSmallEnough scope.now bytes.now m.bytes.items)) }
     ensures chosen { IfOk result (λ o. IfSome o (λ m. ChoosesBy
         scope.now bytes.now info.now layout.now (Some function) (R.stream generator.old)
         m.function m.rewrite m.bytes.items (R.stream generator.new))) }

@@ -14,12 +14,19 @@ pub struct Scope<'a> {
     pub function: Option<usize>,
     /// The most bytes that a new module may have.
     pub max_size: usize,
-    /// Whether each rewrite is to make the module smaller: it leaves fewer operators, and no more bytes than there were.
+    /// Whether each rewrite is to make the module smaller: it leaves no more operators, and the module has fewer bytes, or as many
+    /// and comes before the old one as words stand in a dictionary.
     pub shrinking: bool,
 }
 
-// What leaves fewer operators.
-const FEWER: [Growth; 1] = [Growth::Shrinks];
+// What leaves no more operators.
+const NO_MORE: [Growth; 2] = [Growth::Shrinks, Growth::Keeps];
+
+// The most attempts at entries that words name, or at the function that is named.
+const DRAWS: usize = 16;
+
+// The same where rewrites are to make the module smaller, and it has more bytes than that.
+const MOST_DRAWS: usize = 4096;
 
 // All that may become of the number of operators.
 const ALL: [Growth; 3] = [Growth::Shrinks, Growth::Keeps, Growth::Grows];
@@ -38,8 +45,8 @@ impl<'a> Model for Scope<'a> {
 }
 
 impl<'a> Scope<'a> {
-    ghost use Rattle.std.specs.Prelude.{◌≡◌};
-    ghost use Rattle.module_rewrites.specs.Scope.{most_of, wanted_of};
+    ghost use Rattle.std.specs.Prelude.{◌≡◌, ◌<◌};
+    ghost use Rattle.module_rewrites.specs.Scope.{draws_of, wanted_of};
 
     /// The rules.
     pub fn rules(&self) -> &'a [Rule]
@@ -52,17 +59,18 @@ impl<'a> Scope<'a> {
     pub fn wanted(&self) -> &'static [Growth]
         ensures { result.now ≡ wanted_of self.now }
     {
-        if self.shrinking { &FEWER } else { &ALL }
+        if self.shrinking { &NO_MORE } else { &ALL }
     }
 
-    /// The most bytes that the module of these bytes may have with a rewrite in it.
-    pub(crate) fn most(&self, bytes: &[u8]) -> usize
-        ensures { result ≡ most_of self.now bytes.now }
+    /// The most attempts at entries of the module of these bytes that words name, or at the function that is named.
+    pub(crate) fn draws(&self, bytes: &[u8]) -> usize
+        ensures is { result ≡ draws_of self.now bytes.now }
+        ensures some { 0 < result }
     {
         if self.shrinking {
-            self.max_size.min(bytes.len())
+            bytes.len().min(MOST_DRAWS).max(DRAWS)
         } else {
-            self.max_size
+            DRAWS
         }
     }
 }

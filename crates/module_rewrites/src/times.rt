@@ -85,9 +85,10 @@ fn stopped(rewritten: RewrittenModule, e: MutationError) -> RewrittenModule
 /// A function is drawn by its size: the generator's next word, modulo the number of bytes that all code entries contain, names one of
 /// these bytes, and so the function whose entry contains it. The next three words choose the rewrite, as `rewrite_at_random` says:
 /// what becomes of the number of operators, the rule, the rewrite; a fourth one is for a number that the new code draws. Where no
-/// rule applies there, or the new module would be too large, one is drawn again, at most 16 times in all; then the functions are
-/// tried in order, once each, from the one that was drawn last on, and behind the last one those before it. Where the scope names
-/// the function, at most 16 rewrites of it are drawn. So equal modules, generators, scopes and counts give equal bytes.
+/// rule applies there, or the new module isn't small enough, one is drawn again, at most 16 times in all, or where rewrites are to make
+/// the module smaller as often as it has bytes, but at least 16 and at most 4,096 times; then the functions are tried in order, once
+/// each, from the one that was drawn last on, and behind the last one those before it. Where the scope names the function, as many
+/// rewrites of it are drawn at most. So equal modules, generators, scopes and counts give equal bytes.
 ///
 /// The new bytes are a module again, of at most as many bytes as the scope says. It is valid where the old one was, and each of its
 /// functions, called with any arguments in any memory, tables and globals, does what it did, through loops, branches, recursion,
@@ -98,15 +99,15 @@ fn stopped(rewritten: RewrittenModule, e: MutationError) -> RewrittenModule
 ///
 /// The module is read once; again only behind a rewrite that appends globals. Each rewrite takes time linear in the module, for its bytes
 /// and its entries, and for each one that is drawn or tried as `rewrite_at_random` does in the function, and linear in the module where
-/// it is too large.
+/// it isn't small enough.
 ///
 /// `NoRule` only where no rule applies in any of the functions that may be rewritten and can be read, of which there is one;
 /// `NoOwnFunction` only where the module has none; `Unreadable` only where there is one that may be rewritten, and none of them can
 /// be read, with the error of the first one; `NoFunction` and `UnknownImport` as `chosen_entries` refuses; `Refused` with `Read` as
 /// `read_module` refuses, with `Memory` for want of memory, with `Write` as `with_body` refuses, but never with `EmptyType`, with
-/// `TooLong` where the module would have more bytes than it may: with `Write` of `TooLarge` or `TooLong` only where all attempts were
-/// in vain, and then as the last one of them that was refused. Once it has been rewritten it is a module again, so that `stopped` holds
-/// `Read` only for want of memory.
+/// `TooLong` where the module would have more bytes than it may, with `NotSmaller` where it would be no smaller and is to be: with
+/// `Write` of `TooLarge`, `TooLong` or `NotSmaller` only where all attempts were in vain, and then as the last one that was refused. Once
+/// it has been rewritten it is a module again, so that `stopped` holds `Read` only for want of memory.
 pub fn rewrite_module<R: Rng, W: Watch>(
     alloc: Global,
     bytes: &[u8],

@@ -28,7 +28,8 @@ shrinking =
     codes "drop_one_in_front" ∷ codes "drop_ones_in_front" ∷ codes "decide_in_front" ∷ codes "drop_complement_in_front" ∷
     codes "drop_quotient_by_one" ∷ codes "drop_remainder_by_one" ∷ codes "drop_whole_turn" ∷ codes "and_again" ∷ codes "or_once_more" ∷
     codes "turn_signs_back" ∷ codes "equality_back" ∷ codes "wrap_to_extend" ∷ codes "wrap_alone" ∷
-    codes "drop_count_of_test" ∷ codes "complement_of_popcnt" ∷ codes "shifts_to_rotl" ∷ codes "shifts_to_rotr" ∷ []
+    codes "drop_count_of_test" ∷ codes "complement_of_popcnt" ∷ codes "shifts_to_rotl" ∷ codes "shifts_to_rotr" ∷ codes "absorb" ∷
+    codes "difference_of_difference" ∷ codes "drop_double_negation" ∷ codes "extend_extended" ∷ codes "drop_popcnt_of_test" ∷ []
 
 keeping : List (List ℕ)
 keeping =
@@ -36,7 +37,7 @@ keeping =
     codes "product_to_shift" ∷ codes "difference_to_sum" ∷ codes "sum_to_difference" ∷ codes "quotient_to_shift" ∷
     codes "shift_to_quotient" ∷ codes "remainder_to_mask" ∷ codes "mask_to_remainder" ∷ codes "rotl_to_rotr" ∷ codes "rotr_to_rotl" ∷
     codes "difference_to_tests" ∷ codes "tests_to_difference" ∷ codes "negate_by_difference" ∷ codes "mask_to_wrap" ∷
-    codes "wrap_to_mask" ∷ []
+    codes "wrap_to_mask" ∷ codes "remainder_to_wrap" ∷ codes "sign_to_right" ∷ []
 
 -- and all others grow
 growth : List ℕ → Growth

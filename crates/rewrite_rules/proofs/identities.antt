@@ -8,6 +8,7 @@ pub mod WidthLemmas
 pub mod SignNumbers
 pub mod GroupIdentities
 pub mod NeutralIdentities
+pub mod AbsorptionIdentities
 pub mod ConstantIdentities
 pub mod ComparisonIdentities
 pub mod CountIdentities

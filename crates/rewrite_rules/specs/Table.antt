@@ -22,6 +22,7 @@ use Rattle.rewrite_rules.specs.declared.table.Condition.TheVariants.{BelowWidth,
 use Rattle.rewrite_rules.specs.declared.table.Row.{Row}
 use Rattle.rewrite_rules.specs.declared.table.TheConstants.{ORDERS, GROUPS, LONGER, FORMS, NEUTRAL, POWERS, TWICE}
 use Rattle.rewrite_rules.specs.declared.table.TheConstants.{ALONE, TESTS, OPPOSITES, PARTS, SHORTER, BACK, FRONT, AGAIN, SIGNS, EQUALS, COUNTED, TURNED}
+use Rattle.rewrite_rules.specs.declared.table.TheConstants.{ABSORBED, SETTLED}
 use Rattle.rewrite_rules.specs.Pattern.{Kind, fixed, any, operands_of, Pattern, Patterns, hole, constant, drawn, apply, none, ◌▹◌}
 use Rattle.rewrite_rules.specs.Instance.{row_number, immediate_of}
 use Rattle.rewrite_rules.specs.Parts.{parts_of}
@@ -172,7 +173,7 @@ row_in e = record { widths = e.1; condition = e.2; left = e.3; right = e.4 }
 unfoldable pub parts : List (List Entry)
 parts =
     ORDERS ∷ GROUPS ∷ LONGER ∷ FORMS ∷ NEUTRAL ∷ POWERS ∷ TWICE ∷ ALONE ∷ TESTS ∷ OPPOSITES ∷ PARTS ∷ SHORTER ∷ BACK ∷ FRONT ∷ AGAIN ∷
-    SIGNS ∷ EQUALS ∷ COUNTED ∷ TURNED ∷ []
+    SIGNS ∷ EQUALS ∷ COUNTED ∷ TURNED ∷ ABSORBED ∷ SETTLED ∷ []
 
 abbrev pub part_at : ℕ → List Entry
 part_at n = get_or parts n []

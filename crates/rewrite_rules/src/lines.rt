@@ -5,8 +5,9 @@ ghost use Rattle.rewrite_rules.specs.Lines.{shown, shown_at};
 ghost use Rattle.rewrite_rules.specs.Names.{begin_at};
 
 use crate::table::{
-    AGAIN, ALONE, BACK, COUNTED, EQUALS, FORMS, FRONT, GROUPS, LONGER, NEUTRAL, OPPOSITES, ORDERS,
-    PARTS, POWERS, Row, SHORTER, SIGNS, TESTS, TURNED, TWICE, TableLine,
+    ABSORBED, AGAIN, ALONE, BACK, COUNTED, EQUALS, FORMS, FRONT, GROUPS, LONGER, NEUTRAL,
+    OPPOSITES, ORDERS, PARTS, POWERS, Row, SETTLED, SHORTER, SIGNS, TESTS, TURNED, TWICE,
+    TableLine,
 };
 
 // The lines of each constant, each of which stands once in memory.
@@ -47,6 +48,10 @@ static EQUALS_LINES: [TableLine; EQUALS.len()] = EQUALS;
 static COUNTED_LINES: [TableLine; COUNTED.len()] = COUNTED;
 
 static TURNED_LINES: [TableLine; TURNED.len()] = TURNED;
+
+static ABSORBED_LINES: [TableLine; ABSORBED.len()] = ABSORBED;
+
+static SETTLED_LINES: [TableLine; SETTLED.len()] = SETTLED;
 
 // The line with that number among these.
 fn line_in(lines: &'static [TableLine], number: usize) -> Option<&'static TableLine>
@@ -170,6 +175,18 @@ fn in_turned(number: usize) -> Option<&'static TableLine>
     line_in(&TURNED_LINES, number)
 }
 
+fn in_absorbed(number: usize) -> Option<&'static TableLine>
+    ensures { shown_at result ≡ slice_get ABSORBED number }
+{
+    line_in(&ABSORBED_LINES, number)
+}
+
+fn in_settled(number: usize) -> Option<&'static TableLine>
+    ensures { shown_at result ≡ slice_get SETTLED number }
+{
+    line_in(&SETTLED_LINES, number)
+}
+
 // The same, by the number of the constant.
 fn line_of(part: usize, number: usize) -> Option<&'static TableLine>
     ensures { shown_at result ≡ slice_get (part_at part) number }
@@ -194,12 +211,14 @@ fn line_of(part: usize, number: usize) -> Option<&'static TableLine>
         16 => in_equals(number),
         17 => in_counted(number),
         18 => in_turned(number),
+        19 => in_absorbed(number),
+        20 => in_settled(number),
         _ => None,
     }
 }
 
 // How many lines each constant has.
-const COUNTS: [usize; 19] = [
+const COUNTS: [usize; 21] = [
     ORDERS.len(),
     GROUPS.len(),
     LONGER.len(),
@@ -219,6 +238,8 @@ const COUNTS: [usize; 19] = [
     EQUALS.len(),
     COUNTED.len(),
     TURNED.len(),
+    ABSORBED.len(),
+    SETTLED.len(),
 ];
 
 // The line with that number in the table.
@@ -274,7 +295,9 @@ const LINE_COUNT: usize = ORDERS.len()
     + SIGNS.len()
     + EQUALS.len()
     + COUNTED.len()
-    + TURNED.len();
+    + TURNED.len()
+    + ABSORBED.len()
+    + SETTLED.len();
 
 /// How many rows there are.
 pub fn row_count() -> usize

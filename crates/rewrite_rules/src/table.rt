@@ -522,7 +522,7 @@ pub const EQUALS: [TableLine; 15] = [
 ];
 
 /// A quotient by one, and bits that are counted.
-pub const COUNTED: [TableLine; 14] = [
+pub const COUNTED: [TableLine; 16] = [
     row!("div_u_by_one": [x] => [x 1 div_u]),
     row!("div_s_by_one": [x] => [x 1 div_s]),
     row!("test_by_popcnt" for I32: [x eqz] => [x (i32.popcnt) eqz]),
@@ -533,6 +533,8 @@ pub const COUNTED: [TableLine; 14] = [
     row!(for I64: [x (i64.popcnt) eqz] => [x eqz]),
     row!(for I32: [x (i32.ctz) N eq] => [x eqz]),
     row!(for I64: [x (i64.ctz) N eq] => [x eqz]),
+    row!(for I32: [x (i32.ctz) N ne] => [x eqz (i32.eqz)]),
+    row!(for I64: [x (i64.ctz) N ne] => [x eqz (i32.eqz)]),
     row!("popcnt_of_complement" for I32: [x (i32.popcnt)] => [N x ones xor (i32.popcnt) sub]),
     row!(for I64: [x (i64.popcnt)] => [N x ones xor (i64.popcnt) sub]),
     row!("complement_of_popcnt" for I32: [N x ones xor (i32.popcnt) sub] => [x (i32.popcnt)]),
@@ -545,4 +547,45 @@ pub const TURNED: [TableLine; 4] = [
     row!("rotr_to_shifts": [x c rotr] => [x c shr_u x (N-c) shl or]),
     row!("shifts_to_rotl": [x c shl x d shr_u or] => [x c rotl] if c + d is turns),
     row!("shifts_to_rotr": [x c shr_u x d shl or] => [x c rotr] if c + d is turns),
+];
+
+/// An operand that another one decides, or that another one undoes.
+pub const ABSORBED: [TableLine; 14] = [
+    row!("absorb": [x x y or and] => [x]),
+    row!([x y x or and] => [x]),
+    row!([x y or x and] => [x]),
+    row!([x y or y and] => [y]),
+    row!([x x y and or] => [x]),
+    row!([x y x and or] => [x]),
+    row!([x y and x or] => [x]),
+    row!([x y and y or] => [y]),
+    row!("difference_of_difference": [x x y sub sub] => [y]),
+    row!("drop_double_negation": [x eqz (i32.eqz) (i32.eqz)] => [x eqz]),
+    row!("remainder_to_wrap" for I64: [x 0x100000000 rem_u] => [x (i32.wrap_i64) (i64.extend_i32_u)]),
+    row!("extend_extended" for I32: [x (i64.extend_i32_u) (i64.extend32_s)] => [x (i64.extend_i32_s)]),
+    row!(for I32: [x (i64.extend_i32_s) (i64.extend32_s)] => [x (i64.extend_i32_s)]),
+    row!(for I64: [x (i64.extend32_s) (i64.extend32_s)] => [x (i64.extend32_s)]),
+];
+
+/// A sign turned on the other side, and the bits of a test, which is one at most.
+pub const SETTLED: [TableLine; 19] = [
+    row!("sign_to_right": [x sign xor y lt_s] => [x sign y xor lt_u]),
+    row!([x sign xor y le_s] => [x sign y xor le_u]),
+    row!([x sign xor y gt_s] => [x sign y xor gt_u]),
+    row!([x sign xor y ge_s] => [x sign y xor ge_u]),
+    row!([x sign xor y lt_u] => [x sign y xor lt_s]),
+    row!([x sign xor y le_u] => [x sign y xor le_s]),
+    row!([x sign xor y gt_u] => [x sign y xor gt_s]),
+    row!([x sign xor y ge_u] => [x sign y xor ge_s]),
+    row!("drop_popcnt_of_test": [x eqz (i32.popcnt)] => [x eqz]),
+    row!([x y eq (i32.popcnt)] => [x y eq]),
+    row!([x y ne (i32.popcnt)] => [x y ne]),
+    row!([x y lt_s (i32.popcnt)] => [x y lt_s]),
+    row!([x y le_s (i32.popcnt)] => [x y le_s]),
+    row!([x y gt_s (i32.popcnt)] => [x y gt_s]),
+    row!([x y ge_s (i32.popcnt)] => [x y ge_s]),
+    row!([x y lt_u (i32.popcnt)] => [x y lt_u]),
+    row!([x y le_u (i32.popcnt)] => [x y le_u]),
+    row!([x y gt_u (i32.popcnt)] => [x y gt_u]),
+    row!([x y ge_u (i32.popcnt)] => [x y ge_u]),
 ];

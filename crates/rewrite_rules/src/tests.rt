@@ -8,7 +8,7 @@ use peephole_machine::IntegerType;
 use std::test::Fail;
 
 /// Names of rules, and their numbers, as callers in C have them.
-const NAMES: [(&str, usize); 15] = [
+const NAMES: [(&str, usize); 18] = [
     ("commute", 0),
     ("turn_comparison", 1),
     ("associate_left", 2),
@@ -24,6 +24,9 @@ const NAMES: [(&str, usize); 15] = [
     ("turn_signs", 99),
     ("wrap_alone", 110),
     ("shifts_to_rotr", 121),
+    ("absorb", 122),
+    ("extend_extended", 126),
+    ("drop_popcnt_of_test", 128),
 ];
 
 #[test]
@@ -34,10 +37,10 @@ fn tells_rules_by_their_names(rt: HostRuntime) -> Result<(), Fail> {
         assert!(rt; rule.name() == name);
         assert!(rt; Rule::from_number(number) == Some(rule));
     }
-    assert!(rt; rule_count() == 122);
-    assert!(rt; all_rules(rt.alloc())?.get(121).copied() == Rule::from_number(121));
+    assert!(rt; rule_count() == 129);
+    assert!(rt; all_rules(rt.alloc())?.get(128).copied() == Rule::from_number(128));
     assert!(rt; rule_names(rt.alloc())?.get(76).copied() == Some("join_sums"));
-    assert!(rt; Rule::from_number(122).is_none());
+    assert!(rt; Rule::from_number(129).is_none());
     assert!(rt; "no_rule".parse::<Rule>().is_err());
     Ok(())
 }

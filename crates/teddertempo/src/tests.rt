@@ -419,12 +419,27 @@ const RUNS: &str = r#"
 --shrink --function 0 --rule fold --stats | LONG_VALUE | Ok(Whole)
 > LONG_VALUE
 ! functions  1          unreadable 0
-! stopped TooLong
+! stopped NotSmaller
 ! bytes      37         new 37
 
---shrink --max-size 36 | LONG_VALUE | Err(Nothing(Refused(TooLong)))
+--shrink --max-size 36 | LONG_VALUE | Err(Nothing(Refused(NotSmaller)))
+
+--shrink --max-size 27 --rule drop_add_zero | SAME_AND_ZERO | Err(Nothing(Refused(TooLong)))
+
+--shrink --rule shift_to_product | LONG_VALUE | Ok(Whole)
+> LONG_VALUE
+
+--shrink --count 1 --rule commute --stats | TURNED | Ok(Whole)
+> SUM
+! functions  1          unreadable 0
+! function 0      operator 2      rule commute
+! bytes      32         new 32
+
+--shrink --rule commute | SUM | Ok(Whole)
+> SUM
 
 --list --shrink | LONG_VALUE | Ok(Whole)
+> function 0      operator 2      rule shift_to_product
 > function 0      operator 2      rule fold
 
 --list --rule double_to_product | DOUBLES | Ok(Whole)
@@ -432,16 +447,17 @@ const RUNS: &str = r#"
 > function 0      operator 7      rule double_to_product
 
 --list --shrink --rule double_to_product | DOUBLES | Ok(Whole)
+> function 0      operator 2      rule double_to_product
 > function 0      operator 7      rule double_to_product
 
 --shrink --rule double_to_product --reach | DOUBLES | Ok(Whole)
 > DOUBLES_SHORT
 ! functions  1          unreadable 0
-! operators  11         rewritable 1
+! operators  11         rewritable 2
 ! blocks     1          rewritable 1
-! integers   5          rewritable 1
+! integers   5          rewritable 2
 ! function 0      operator 7      rule double_to_product
-! stopped NoRule
+! stopped NotSmaller
 ! bytes      39         new 38
 
 --shrink --strip-debug --rule drop_add_zero | DEBUG | Ok(Whole)

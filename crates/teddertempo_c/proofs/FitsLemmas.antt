@@ -1,6 +1,6 @@
 -- A module that rewrites made has bytes, and no more than it may have; each of them is by a rule.
-use Rattle.std.proofs.Common.{◌≡◌, ℕ, zero, suc, Bool, true, false, inl, inr, ◌∙◌, Some, ◌<◌, ◌≤◌, List, [], ◌∷◌, ◌++◌, length, drop, Option, sym, ap, subst, arith, length-append}
-use Rattle.std.specs.Prelude.{All, if◌then◌else◌, min, slice_get}
+use Rattle.std.proofs.Common.{◌≡◌, ℕ, zero, suc, inl, inr, ◌∙◌, Some, ◌<◌, ◌≤◌, List, [], ◌∷◌, ◌++◌, length, drop, Option, sym, ap, subst, arith, length-append}
+use Rattle.std.specs.Prelude.{All, slice_get}
 use Rattle.std.proofs.lemmas.List.Elements.{All-nil, All-cons}
 use Rattle.std.proofs.lemmas.Option.{same_Some}
 use Rattle.wasm_code.specs.Code.{shortest}
@@ -33,15 +33,10 @@ record HasSize (most : ℕ) (new : List ℕ) : Type 0 where
   some : 0 < length new
   fits : length new ≤ most
 
--- no more than the scope says
-within_most : (shrinking : Bool) (n most size : ℕ) → n ≤ (if shrinking then min most size else most) → n ≤ most
-within_most true n most size h = omega (arith, h)
-within_most false n most size h = h
-
 size_of_one : (scope : Scope) (bytes : List ℕ) (m : MadeRewrite) (new : List ℕ) → IsMutated scope bytes m.function m.rewrite new → HasSize scope.most new
 size_of_one scope bytes m new mutated = record {
   some = length-rewritten _ _ _ _ _ new mutated.mutates.2.written;
-  fits = within_most scope.shrinking (length new) scope.most (length bytes) mutated.fits;
+  fits = mutated.fits.few;
 }
 
 size_of_each : (scope : Scope) (bytes : List ℕ) (m : MadeRewrite) (ms : List MadeRewrite) (new : List ℕ) → RewritesEach scope bytes (m ∷ ms) new →

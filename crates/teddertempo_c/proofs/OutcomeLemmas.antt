@@ -39,3 +39,4 @@ module _ (asked : Asked) (bytes : List ℕ) where
   by_reason (reasons.Refused (mutations.Write writes.EmptyType)) h = absurd h.is.refuses
   by_reason (reasons.Refused (mutations.Write writes.Memory)) h = refl
   by_reason (reasons.Refused mutations.TooLong) h = (refl, record { error = mutations.TooLong; large = tt; is = h })
+  by_reason (reasons.Refused mutations.NotSmaller) h = (refl, record { error = mutations.NotSmaller; large = tt; is = h })

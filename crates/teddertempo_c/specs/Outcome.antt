@@ -39,7 +39,8 @@ pub record IsNoModule (bytes : List ℕ) (offset : ℕ) : Type 0 where
   pub is : IsModuleFault bytes kind offset
   pub other : IsOther kind
 
--- a rewrite is refused since it is too large: its module for the bytes that it may have or for sizes of 32 bits
+-- a rewrite is refused since its module isn't small enough: for the bytes that it may have, for sizes of 32 bits, or since it is no smaller, which no call asks
+-- for
 abbrev pub IsTooLarge : MutationError → Type 0
 IsTooLarge (mutations.Read e) = ⊥
 IsTooLarge mutations.Memory = ⊥
@@ -47,6 +48,7 @@ IsTooLarge (mutations.Write writes.TooLarge) = Unit {0}
 IsTooLarge (mutations.Write writes.EmptyType) = ⊥
 IsTooLarge (mutations.Write writes.Memory) = ⊥
 IsTooLarge mutations.TooLong = Unit {0}
+IsTooLarge mutations.NotSmaller = Unit {0}
 
 -- so one is
 pub record IsRefusedAsTooLarge (asked : Asked) (bytes : List ℕ) : Type 0 where
@@ -97,6 +99,7 @@ outcome_by_refusal (mutations.Read e) = outcome_by_fault e.kind
 outcome_by_refusal mutations.Memory = NoMemory
 outcome_by_refusal (mutations.Write e) = outcome_by_write e
 outcome_by_refusal mutations.TooLong = TooLarge
+outcome_by_refusal mutations.NotSmaller = TooLarge
 
 -- the offset that is told of a refusal; 0 where nothing of the module's bytes is at fault
 abbrev pub offset_by_refusal : MutationError → ℕ

@@ -94,7 +94,7 @@ fn outcome_by_refusal(e: MutationError) -> Outcome
         MutationError::Read(e) => outcome_by_fault(e.kind),
         MutationError::Memory => Outcome::NoMemory,
         MutationError::Write(e) => outcome_by_write(e),
-        MutationError::TooLong => Outcome::TooLarge,
+        MutationError::TooLong | MutationError::NotSmaller => Outcome::TooLarge,
     }
 }
 

@@ -1,7 +1,7 @@
 -- Lines of comparisons, tests and selects are right.
-use Rattle.std.proofs.Common.{◌≡◌, ℕ, zero, suc, ◌+◌, ◌-◌, ◌%◌, ◌^◌, ◌<◌, ◌≤◌, Bool, true, false, refl, sym, ap, ◌∙◌, subst, true≢false, arith}
+use Rattle.std.proofs.Common.{◌≡◌, ℕ, zero, suc, ◌+◌, ◌-◌, ◌%◌, ◌^◌, ◌<◌, ◌≤◌, Bool, true, false, refl, sym, ap, ap₂, ◌∙◌, subst, true≢false, arith}
 use Rattle.std.specs.Prelude.{◌==◌, not, nat_lt, if◌then◌else◌, bit_xor}
-use Rattle.std.specs.Int.Bits.{xor_self, xor_add_and}
+use Rattle.std.specs.Int.Bits.{xor_self, xor_comm, xor_add_and}
 use Rattle.std.proofs.lemmas.Nat.{and_comm, and_le_l, xor_lt}
 use Rattle.std.proofs.lemmas.Bool.{eqb-true, eq-eqb, ne_eqb, ltb-true, ltb-false, le-ltb}
 use Rattle.std.proofs.Math.Nat.{mod-eq_of_lt, mod_self, add-mod_right}
@@ -15,8 +15,8 @@ use Rattle.rewrite_rules.specs.Numbers.{low}
 use Rattle.rewrite_rules.specs.Line.{IsRight}
 use Rattle.rewrite_rules.proofs.identities.Words as line
 use Rattle.rewrite_rules.proofs.identities.ComparisonNumbers.{AreOpposite}
-use Rattle.rewrite_rules.proofs.identities.SignNumbers.{AreTurned}
-use Rattle.rewrite_rules.proofs.identities.WidthLemmas.{small, zero_low, lit_low, ok, truth}
+use Rattle.rewrite_rules.proofs.identities.SignNumbers.{AreTurned, sign_turned, turned_back}
+use Rattle.rewrite_rules.proofs.identities.WidthLemmas.{small, low_lt, zero_low, lit_low, ok, truth}
 
 -- ---- comparisons
 
@@ -44,7 +44,7 @@ pub comparison_test : (t : IntegerType) → IsRight (line.comparison_test t)
 comparison_test t h c us vs a e = ap (λ k. truth (h 0 == k)) (zero_low t)
 
 -- a test of a test
-not_truth : (b : Bool) → truth ((if b then 1 else 0) % 2 ^ 32 == 0) ≡ truth (not b)
+pub not_truth : (b : Bool) → truth ((if b then 1 else 0) % 2 ^ 32 == 0) ≡ truth (not b)
 not_truth true = refl
 not_truth false = refl
 
@@ -53,6 +53,14 @@ difference_tests t h c us vs a e = ap (λ k. truth (not (h 0 == k))) (zero_low t
 
 pub tests_difference : (t : IntegerType) → IsRight (line.tests_difference t)
 tests_difference t h c us vs a e = not_truth (h 0 == 0) ∙ ap (λ k. truth (not (h 0 == k))) (sym (zero_low t))
+
+-- a test of a test of a test
+thrice : (b : Bool) → truth ((if ((if b then 1 else 0) % 2 ^ 32 == 0) then 1 else 0) % 2 ^ 32 == 0) ≡ truth b
+thrice true = refl
+thrice false = refl
+
+pub tests_once : (t : IntegerType) → IsRight (line.tested_thrice t)
+tests_once t h c us vs a e = thrice (h 0 == 0)
 
 -- ---- comparisons as tests of the opposite ones
 
@@ -127,6 +135,14 @@ bits_some t h c us vs a e =
 pub turns_signs : (f g : Comparison) → ((t : IntegerType) → AreTurned t (comparison_of f) (comparison_of g)) → (t : IntegerType) →
     IsRight (line.sign_turned f g t)
 turns_signs f g k t h c us vs a e = ap truth (k t (h 0) (h 1) (small t (h 0) (a 0)) (small t (h 1) (a 1)))
+
+-- where that of the first one was turned, it may be that of the second one
+pub moves_sign : (f g : Comparison) → ((t : IntegerType) → AreTurned t (comparison_of f) (comparison_of g)) → (t : IntegerType) →
+    IsRight (line.sign_moved f g t)
+moves_sign f g k t h c us vs a e =
+    let s : ℕ = low t (2 ^ (bits (width_of t) - 1)) in
+    ap truth (k t (sign_turned t (h 0)) (h 1) (low_lt t (bit_xor (h 0) s)) (small t (h 1) (a 1))
+    ∙ ap₂ (holds (width_of t) (comparison_of g)) (turned_back t (h 0) (small t (h 0) (a 0))) (ap (low t) (xor_comm (h 1) s)))
 
 pub one_below : (t : IntegerType) → IsRight (line.is_below_one t)
 one_below t h c us vs a e = ap (λ k. truth (nat_lt (h 0) k)) (lit_low t 1 (omega arith)) ∙ ap truth (go (h 0))

@@ -1,6 +1,6 @@
 -- Lines that count the bits of numbers are right.
 use Rattle.std.proofs.Common.{◌≡◌, ℕ, zero, suc, ◌+◌, ◌-◌, ◌/◌, ◌%◌, ◌^◌, ◌<◌, ◌≤◌, Bool, true, false, refl, sym, ap, ap₂, ◌∙◌, true≢false, arith}
-use Rattle.std.specs.Prelude.{◌==◌, bit_xor}
+use Rattle.std.specs.Prelude.{◌==◌, not, if◌then◌else◌, bit_xor}
 use Rattle.std.specs.Int.{Width, trailing_zeros}
 use Rattle.std.specs.Int.Bits.{xor_add_and}
 use Rattle.std.specs.Int.Count.{trailing_of_zero}
@@ -11,11 +11,14 @@ use Rattle.std.proofs.lemmas.Nat.Bits.{bit_at-trailing_zeros}
 use mir.Val.{bits}
 use Rattle.peephole_machine.specs.declared.integer.IntegerType.{IntegerType}
 use Rattle.peephole_machine.specs.declared.integer.IntegerType.TheVariants as integer
+use Rattle.peephole_machine.specs.declared.operation.Comparison.{Comparison}
 use Rattle.peephole_machine.specs.Values.{width_of}
-use Rattle.peephole_machine.specs.Integer.{ones_in}
+use Rattle.peephole_machine.specs.Integer.{ones_in, holds}
+use Rattle.peephole_machine.specs.Operation.{comparison_of}
 use Rattle.rewrite_rules.specs.Numbers.{low}
 use Rattle.rewrite_rules.specs.Line.{IsRight}
 use Rattle.rewrite_rules.proofs.identities.Words as line
+use Rattle.rewrite_rules.proofs.identities.ComparisonIdentities.{not_truth}
 use Rattle.rewrite_rules.proofs.identities.NumberLemmas.{below_power}
 use Rattle.rewrite_rules.proofs.identities.WidthLemmas.{small, ones_low, ok, truth}
 
@@ -84,11 +87,27 @@ test_by_popcnt t h c us vs a e =
     let l = small t (h 0) (a 0) in
     sym (ap (λ k. truth (k == 0)) (set_low t (h 0) l) ∙ ap truth (none_set (bits (width_of t)) (h 0) l))
 
-pub test_by_ctz : (t : IntegerType) → IsRight (line.test_by_ctz t)
-test_by_ctz t h c us vs a e =
+by_ctz : (t : IntegerType) (n : ℕ) → n < 2 ^ bits (width_of t) → (low t (trailing_zeros (width_of t) n) == low t (bits (width_of t))) ≡ (n == 0)
+by_ctz t n l =
     let w = width_of t in
-    sym (ap₂ (λ i j. truth (i == j)) (count_low t (trailing_zeros w (h 0)) (trailing_le (bits w) (h 0))) (count_low t (bits w) (omega arith))
-    ∙ ap truth (all_below w (h 0) (small t (h 0) (a 0))))
+    ap₂ (λ i j. i == j) (count_low t (trailing_zeros w n) (trailing_le (bits w) n)) (count_low t (bits w) (omega arith)) ∙ all_below w n l
+
+pub test_by_ctz : (t : IntegerType) → IsRight (line.test_by_ctz t)
+test_by_ctz t h c us vs a e = sym (ap truth (by_ctz t (h 0) (small t (h 0) (a 0))))
+
+pub tests_by_ctz : (t : IntegerType) → IsRight (line.tests_by_ctz t)
+tests_by_ctz t h c us vs a e = ap (λ b. truth (not b)) (by_ctz t (h 0) (small t (h 0) (a 0))) ∙ sym (not_truth (h 0 == 0))
+
+-- a truth value is how many of its bits are set
+truth_counted : (b : Bool) → ok (ones_in 32 ((if b then 1 else 0) % 2 ^ 32) % 2 ^ 32) ≡ truth b
+truth_counted true = refl
+truth_counted false = refl
+
+pub test_counted : (t : IntegerType) → IsRight (line.counted_test t)
+test_counted t h c us vs a e = truth_counted (h 0 == 0)
+
+pub comparison_counted : (f : Comparison) → (t : IntegerType) → IsRight (line.counted_comparison f t)
+comparison_counted f t h c us vs a e = truth_counted (holds (width_of t) (comparison_of f) (h 0) (h 1))
 
 pub popcnt_of_complement : (t : IntegerType) → IsRight (line.popcnt_of_complement t)
 popcnt_of_complement t h c us vs a e =

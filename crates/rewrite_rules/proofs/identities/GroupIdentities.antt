@@ -13,7 +13,7 @@ use Rattle.rewrite_rules.specs.Line.{IsRight}
 use Rattle.rewrite_rules.proofs.identities.Words as line
 use Rattle.rewrite_rules.proofs.identities.GroupLemmas.{add_grouped, mul_grouped, and_grouped, or_grouped, xor_grouped, sum_times, or_and}
 use Rattle.rewrite_rules.proofs.identities.GroupLemmas.{once_in_front, once_behind}
-use Rattle.rewrite_rules.proofs.identities.NumberLemmas.{twice_complement, and_complement, or_complement}
+use Rattle.rewrite_rules.proofs.identities.NumberLemmas.{twice_complement, and_complement, or_complement, rest_away}
 use Rattle.rewrite_rules.proofs.identities.WidthLemmas.{small, zero_low, ones_low, ok, same}
 
 -- ---- another order
@@ -148,3 +148,6 @@ sum_goes_back t h c us vs a e =
     let l = small t (h 1) (a 1) in
     let whole : h 0 + (M - h 1) + h 1 ≡ h 0 + M = omega arith in
     ap ok (mod-add-mod (h 0 + (M - h 1)) M (h 1) ∙ (ap (low t) whole ∙ (add-mod_right (h 0) M ∙ mod-eq_of_lt (small t (h 0) (a 0)))))
+
+pub difference_goes_back : (t : IntegerType) → IsRight (line.difference_back t)
+difference_goes_back t h c us vs a e = ap ok (rest_away (2 ^ bits (width_of t)) (h 0) (h 1) (small t (h 0) (a 0)) (small t (h 1) (a 1)))

@@ -55,6 +55,34 @@ once_in_front M g grouped self a b l = grouped a a b ∙ ap (λ n. g n b % M) (a
 pub once_behind : (M : ℕ) (g : ℕ → ℕ → ℕ) → IsGrouped M g → ((a : ℕ) → g a a ≡ a) → (a b : ℕ) → b < M → g (g a b % M) b % M ≡ g a b % M
 once_behind M g grouped self a b l = sym (grouped a b b) ∙ ap (λ n. g a n % M) (ap (λ n. n % M) (self b) ∙ mod-eq_of_lt l)
 
+-- ---- operators that take an operand back out of what another made of it
+
+min_of_max : (a b : ℕ) → min a (max a b) ≡ a
+min_of_max a b = omega arith
+
+max_of_min : (a b : ℕ) → max a (min a b) ≡ a
+max_of_min a b = omega arith
+
+and_of_or : (a b : ℕ) → bit_and a (bit_or a b) ≡ a
+and_of_or a b = same_from_bits (bit_and a (bit_or a b)) a
+    (λ i. bit_at_and a (bit_or a b) i ∙ (ap (min (bit_at a i)) (bit_at_or a b i) ∙ min_of_max (bit_at a i) (bit_at b i)))
+
+or_of_and : (a b : ℕ) → bit_or a (bit_and a b) ≡ a
+or_of_and a b = same_from_bits (bit_or a (bit_and a b)) a
+    (λ i. bit_at_or a (bit_and a b) i ∙ (ap (max (bit_at a i)) (bit_at_and a b i) ∙ max_of_min (bit_at a i) (bit_at b i)))
+
+pub and_taken : (k a b : ℕ) → a < 2 ^ k → bit_and a (bit_or a b % 2 ^ k) % 2 ^ k ≡ a
+and_taken k a b l =
+    let M = 2 ^ k in
+    and_mod a (bit_or a b % M) k ∙ (ap (bit_and (a % M)) (mod-mod (bit_or a b) M)
+    ∙ (sym (and_mod a (bit_or a b) k) ∙ (ap (λ n. n % M) (and_of_or a b) ∙ mod-eq_of_lt l)))
+
+pub or_taken : (k a b : ℕ) → a < 2 ^ k → bit_or a (bit_and a b % 2 ^ k) % 2 ^ k ≡ a
+or_taken k a b l =
+    let M = 2 ^ k in
+    or_mod a (bit_and a b % M) k ∙ (ap (bit_or (a % M)) (mod-mod (bit_and a b) M)
+    ∙ (sym (or_mod a (bit_and a b) k) ∙ (ap (λ n. n % M) (or_of_and a b) ∙ mod-eq_of_lt l)))
+
 -- ---- over the parts of a sum, or of a union
 
 pub sum_times : (M a b c : ℕ) → ((a + b) % M * c) % M ≡ ((a * c) % M + (b * c) % M) % M

@@ -1,8 +1,9 @@
--- Numbers by their low bits: all ones, negated constants, shifts, turns, and powers of two.
-use Rattle.std.proofs.Common.{◌≡◌, ℕ, ℤ, zero, suc, ◌+◌, ◌-◌, ◌*◌, ◌/◌, ◌%◌, ◌^◌, ◌<◌, sym, ap, ap₂, ◌∙◌, subst, arith}
-use Rattle.std.specs.Prelude.{pos, negsuc, bit_and, bit_or, bit_xor, max, min}
+-- Numbers by their low bits: all ones, negated constants, differences, shifts, turns, and powers of two.
+use Rattle.std.proofs.Common.{◌≡◌, ℕ, ℤ, zero, suc, ◌+◌, ◌-◌, ◌*◌, ◌/◌, ◌%◌, ◌^◌, ◌<◌, ◌≤◌, Bool, true, false, refl, sym, ap, ap₂, ◌∙◌, subst, arith}
+use Rattle.std.specs.Prelude.{pos, negsuc, nat_lt, bit_and, bit_or, bit_xor, max, min}
 use Rattle.std.specs.Int.{Width, cast_signed, cast_unsigned, bit_at, int_shr, rotate_left, rotate_right}
 use Rattle.std.specs.Int.Bits.{or_self, xor_self, xor_zero_r}
+use Rattle.std.proofs.lemmas.Bool.{ltb-true, ltb-false}
 use Rattle.std.proofs.Math.Nat.{mod-eq_of_lt, mod-mod, zero-mod, mod-lt, add-mod-mod, add-mod_right, pow-suc, lt_trans, div-one, mul-one, mod_self}
 use Rattle.std.proofs.lemmas.Nat.{pow_pos, and_mask, and_mod, or_mod, mul-mod_second, pow_below, or_comm, or_lt, xor_lt, and_le_l, le_or_r, mod-mul-add}
 use Rattle.std.proofs.lemmas.Nat.Bits.{bit_at_or, bit_at_and, bit_at_xor, bit_at_ones, bit_at-lt, same_from_bits_below}
@@ -102,6 +103,24 @@ difference_is M n (suc m) h =
     let small : M - suc m < M = omega arith in
     let back : M - (M - suc m) ≡ suc m = omega arith in
     sym (ap (λ x. (n + (M - x)) % M) (mod-eq_of_lt small) ∙ ap (λ x. (n + x) % M) back)
+
+-- ---- differences
+
+-- what is left, taken away
+pub rest_away : (M a b : ℕ) → a < M → b < M → (a + (M - (a + (M - b)) % M)) % M ≡ b
+rest_away M a b k l = go (nat_lt a b) refl
+  where
+    go : (p : Bool) → nat_lt a b ≡ p → (a + (M - (a + (M - b)) % M)) % M ≡ b
+    go true e =
+        let m = ltb-true a b e in
+        let back : a + (M - (a + (M - b))) ≡ b = omega arith in
+        ap (λ n. (a + (M - n)) % M) (mod-eq_of_lt (omega arith)) ∙ (ap (λ n. n % M) back ∙ mod-eq_of_lt l)
+    go false e =
+        let m : b ≤ a = ltb-false a b e in
+        let whole : a + (M - b) ≡ a - b + M = omega arith in
+        let back : a + (M - (a - b)) ≡ b + M = omega arith in
+        ap (λ n. (a + (M - n)) % M) (ap (λ n. n % M) whole ∙ (add-mod_right (a - b) M ∙ mod-eq_of_lt (omega arith)))
+        ∙ (ap (λ n. n % M) back ∙ (add-mod_right b M ∙ mod-eq_of_lt l))
 
 -- ---- shifts
 

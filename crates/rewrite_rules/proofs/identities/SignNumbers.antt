@@ -89,7 +89,7 @@ turned_is : (t : IntegerType) (n : ℕ) → n < 2 ^ bits (width_of t) → sign_t
 turned_is integer.I32 n l = mod-eq_of_lt (xor_lt 32 n (2 ^ 31) l (omega arith))
 turned_is integer.I64 n l = mod-eq_of_lt (xor_lt 64 n (2 ^ 63) l (omega arith))
 
-turned_back : (t : IntegerType) (n : ℕ) → n < 2 ^ bits (width_of t) → sign_turned t (sign_turned t n) ≡ n
+pub turned_back : (t : IntegerType) (n : ℕ) → n < 2 ^ bits (width_of t) → sign_turned t (sign_turned t n) ≡ n
 turned_back t n l =
     let s : ℕ = 2 ^ (bits (width_of t) - 1) in
     turned_is t (sign_turned t n) (low_lt t (bit_xor n (low t s))) ∙ (ap (λ m. bit_xor m s) (turned_is t n l) ∙ turned_twice n s)

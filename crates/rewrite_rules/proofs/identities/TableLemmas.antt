@@ -25,6 +25,7 @@ use Rattle.rewrite_rules.proofs.identities.SignNumbers as sign
 use Rattle.rewrite_rules.proofs.identities.WidthLemmas.{ok}
 use Rattle.rewrite_rules.proofs.identities.GroupIdentities as group
 use Rattle.rewrite_rules.proofs.identities.NeutralIdentities as neutral
+use Rattle.rewrite_rules.proofs.identities.AbsorptionIdentities as absorption
 use Rattle.rewrite_rules.proofs.identities.ConstantIdentities as constant
 use Rattle.rewrite_rules.proofs.identities.ComparisonIdentities as compare
 use Rattle.rewrite_rules.proofs.identities.CountIdentities as count
@@ -81,6 +82,11 @@ drops_test f g o = turned (line.negate f g) (compare.negates f g o)
 turns_round : (f g : Comparison) → ((t : IntegerType) → sign.AreTurned t (comparison_of f) (comparison_of g)) → (t : IntegerType) →
     IsRight (line.sign_turned g f t)
 turns_round f g k = compare.turns_signs g f (λ t. sign.turned_round (comparison_of f) (comparison_of g) t (k t))
+
+-- so with that bit of the first operand turned, as the one with that of the second one turned
+moves_round : (f g : Comparison) → ((t : IntegerType) → sign.AreTurned t (comparison_of f) (comparison_of g)) → (t : IntegerType) →
+    IsRight (line.sign_moved g f t)
+moves_round f g k = compare.moves_sign g f (λ t. sign.turned_round (comparison_of f) (comparison_of g) t (k t))
 
 -- what is shown of one, and of the others
 infixr 50 ◌▸◌
@@ -315,6 +321,8 @@ rows_right =
     ▸ turned line.test_by_popcnt count.test_by_popcnt integer.I64
     ▸ turned line.test_by_ctz count.test_by_ctz integer.I32
     ▸ turned line.test_by_ctz count.test_by_ctz integer.I64
+    ▸ count.tests_by_ctz integer.I32
+    ▸ count.tests_by_ctz integer.I64
     ▸ count.popcnt_of_complement integer.I32
     ▸ count.popcnt_of_complement integer.I64
     ▸ turned line.popcnt_of_complement count.popcnt_of_complement integer.I32
@@ -324,6 +332,41 @@ rows_right =
     ▸ constant.rotr_shifts
     ▸ constant.shifts_rotl
     ▸ constant.shifts_rotr
+    -- an operand that another one decides, or that another one undoes
+    ▸ absorption.absorbs And Or absorption.and_absorbs
+    ▸ absorption.absorbs_turned And Or neutral.or_commutes absorption.and_absorbs
+    ▸ absorption.absorbs_first And Or neutral.and_commutes absorption.and_absorbs
+    ▸ absorption.absorbs_last And Or neutral.and_commutes neutral.or_commutes absorption.and_absorbs
+    ▸ absorption.absorbs Or And absorption.or_absorbs
+    ▸ absorption.absorbs_turned Or And neutral.and_commutes absorption.or_absorbs
+    ▸ absorption.absorbs_first Or And neutral.or_commutes absorption.or_absorbs
+    ▸ absorption.absorbs_last Or And neutral.or_commutes neutral.and_commutes absorption.or_absorbs
+    ▸ group.difference_goes_back
+    ▸ compare.tests_once
+    ▸ (λ h c us vs a e. refl)
+    ▸ (λ h c us vs a e. ap ok (number.extended_signed (h 0) (a 0)))
+    ▸ (λ h c us vs a e. ap ok (number.signed_twice (h 0)))
+    ▸ (λ h c us vs a e. ap ok (number.signed_twice (h 0)))
+    -- a sign turned on the other side, and the bits of a test
+    ▸ compare.moves_sign LtS LtU sign.lt_turned
+    ▸ compare.moves_sign LeS LeU sign.le_turned
+    ▸ compare.moves_sign GtS GtU sign.gt_turned
+    ▸ compare.moves_sign GeS GeU sign.ge_turned
+    ▸ moves_round LtS LtU sign.lt_turned
+    ▸ moves_round LeS LeU sign.le_turned
+    ▸ moves_round GtS GtU sign.gt_turned
+    ▸ moves_round GeS GeU sign.ge_turned
+    ▸ count.test_counted
+    ▸ count.comparison_counted Eq
+    ▸ count.comparison_counted Ne
+    ▸ count.comparison_counted LtS
+    ▸ count.comparison_counted LeS
+    ▸ count.comparison_counted GtS
+    ▸ count.comparison_counted GeS
+    ▸ count.comparison_counted LtU
+    ▸ count.comparison_counted LeU
+    ▸ count.comparison_counted GtU
+    ▸ count.comparison_counted GeU
     ▸ tt
 
 -- ---- by indices

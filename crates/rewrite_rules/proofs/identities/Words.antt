@@ -155,6 +155,19 @@ first_again f t = line t (two t f (two t f x y) x) (two t f x y)
 abbrev pub last_again : Binary → IntegerType → Line
 last_again f t = line t (two t f (two t f x y) y) (two t f x y)
 
+-- an operand that one operator takes back out of what another made of it: behind that, where it is the first or the last one there, or in front of it
+abbrev pub absorbed : (f g : Binary) → IntegerType → Line
+absorbed f g t = line t (two t f x (two t g x y)) x
+
+abbrev pub absorbed_turned : (f g : Binary) → IntegerType → Line
+absorbed_turned f g t = line t (two t f x (two t g y x)) x
+
+abbrev pub absorbed_first : (f g : Binary) → IntegerType → Line
+absorbed_first f g t = line t (two t f (two t g x y) x) x
+
+abbrev pub absorbed_last : (f g : Binary) → IntegerType → Line
+absorbed_last f g t = line t (two t f (two t g x y) y) y
+
 -- ---- another operator with another constant
 
 -- a shift to the left as a product with a power of two, and back
@@ -222,6 +235,10 @@ negated_product t = line t (two t Mul x (all t)) (two t Sub (lit t 0) x)
 abbrev pub sum_back : IntegerType → Line
 sum_back t = line t (two t Add (two t Sub x y) y) x
 
+-- what was left comes away
+abbrev pub difference_back : IntegerType → Line
+difference_back t = line t (two t Sub x (two t Sub x y)) y
+
 -- ---- halves
 
 -- an operator on one operand
@@ -254,6 +271,17 @@ test_by_popcnt t = line t (is_zero t x) (is_zero t (counted Popcnt t x))
 abbrev pub test_by_ctz : IntegerType → Line
 test_by_ctz t = line t (is_zero t x) (compared t Eq (counted Ctz t x) (constant t Bits))
 
+-- whether it is not 0
+abbrev pub tests_by_ctz : IntegerType → Line
+tests_by_ctz t = line t (compared t Ne (counted Ctz t x) (constant t Bits)) (is_zero integer.I32 (is_zero t x))
+
+-- those that are set in a test, and in a comparison
+abbrev pub counted_test : IntegerType → Line
+counted_test t = line t (counted Popcnt integer.I32 (is_zero t x)) (is_zero t x)
+
+abbrev pub counted_comparison : Comparison → IntegerType → Line
+counted_comparison f t = line t (counted Popcnt integer.I32 (compared t f x y)) (compared t f x y)
+
 -- those that are set, by those that are set in the complement
 abbrev pub popcnt_of_complement : IntegerType → Line
 popcnt_of_complement t = line t (counted Popcnt t x) (two t Sub (constant t Bits) (counted Popcnt t (two t Xor x (all t))))
@@ -278,6 +306,10 @@ difference_tests t = line t (compared t Ne x (lit t 0)) (is_zero integer.I32 (is
 abbrev pub tests_difference : IntegerType → Line
 tests_difference t = line t (is_zero integer.I32 (is_zero t x)) (compared t Ne x (lit t 0))
 
+-- a test of a test of a test
+abbrev pub tested_thrice : IntegerType → Line
+tested_thrice t = line t (is_zero integer.I32 (is_zero integer.I32 (is_zero t x))) (is_zero t x)
+
 -- a difference that is 0
 abbrev pub tested_difference : IntegerType → Line
 tested_difference t = line t (is_zero t (two t Sub x y)) (compared t Eq x y)
@@ -295,6 +327,10 @@ bits_some t = line t (compared t Ne x y) (compared t Ne (two t Xor x y) (lit t 0
 -- a comparison of numbers, as one of numbers with their highest bit turned
 abbrev pub sign_turned : (f g : Comparison) → IntegerType → Line
 sign_turned f g t = line t (compared t f x y) (compared t g (two t Xor x (constant t Sign)) (two t Xor y (constant t Sign)))
+
+-- the same, of the second one where the first one's was turned
+abbrev pub sign_moved : (f g : Comparison) → IntegerType → Line
+sign_moved f g t = line t (compared t f (two t Xor x (constant t Sign)) y) (compared t g x (two t Xor (constant t Sign) y))
 
 -- below 1
 abbrev pub is_below_one : IntegerType → Line

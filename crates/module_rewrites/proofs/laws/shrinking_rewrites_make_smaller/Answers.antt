@@ -4,5 +4,5 @@ use Rattle.module_rewrites.proofs.laws.shrinking_rewrites_make_smaller.Goals as 
 pub returns : goal.returns
 returns c = record {
   one = one_smaller c.chosen_rewrites_are_wanted.ensures;
-  each = λ scope count bytes new made stopped on m. each_smaller scope on bytes made new m.each;
+  each = λ scope count bytes new made stopped on m. each_smaller scope on bytes made new m.some m.each;
 }

@@ -3,6 +3,7 @@ use Rattle.std.proofs.Common.{rules, ◌≡◌, ◌+◌, ◌≤◌, length, arit
 use Rattle.std.specs.List.{sum_by}
 use Rattle.module_rewrites.specs.Chosen.{GivesUpOn}
 use Rattle.module_rewrites.specs.Drawing.{contents_length}
+use Rattle.module_rewrites.specs.Scope.{draws_of}
 use Rattle.module_rewrites.specs.Writing.{MakesAt}
 use Rattle.module_rewrites.specs.declared.mutation.Mutated.{Mutated}
 use Rattle.std.specs.Prelude.{None}
@@ -39,7 +40,8 @@ returns-then-not-is_in_vain-clause-chosen g c =
     some_map c.mutate_entry-made.result (λ m h.
     drawn_here c.args.scope.now c.args.bytes.now c.args.info.now c.args.layout.now (g.R.Rng.stream c.args.generator.now) (g.R.Rng.stream c.draws.generator)
     (g.R.Rng.stream c.draw_entry-n.new.generator) (g.R.Rng.stream c.mutate_entry-made.new.generator) c.draws.counter c.draws.n
-    c.draw_entry-n.result m.function m.rewrite m.bytes.items c.draws-test.true c.draws.invariant.1 c.draw_entry-n.ensures.after c.draw_entry-n.ensures.named
+    c.draw_entry-n.result m.function m.rewrite m.bytes.items (omega (arith, c.draws-test.true, c.draws-end.ensures.is)) c.draws.invariant.1
+    c.draw_entry-n.ensures.after c.draw_entry-n.ensures.named
     h.0 h.1)
     (some_both (λ (m : Mutated). m.function ≡ c.args.layout.now.imported_functions + c.draw_entry-n.result)
     (λ (m : Mutated). MakesAt c.args.scope.now c.args.bytes.now c.args.info.now c.args.layout.now (g.R.Rng.stream c.draw_entry-n.new.generator)
@@ -48,7 +50,8 @@ returns-then-not-is_in_vain-clause-chosen g c =
 
 pub returns-clause-chosen : goal.returns-clause-chosen
 returns-clause-chosen g c =
-    let all : c.draws.counter ≡ 16 = omega (arith, c.draws-test.false, c.draws.auto.counter-end) in
+    let all : c.draws.counter ≡ draws_of c.args.scope.now c.args.bytes.now =
+    omega (arith, c.draws-test.false, c.draws.auto.counter-end, c.draws-end.ensures.is) in
     some_map c.mutate_in_order.result (λ m h.
     drawn_in_order c.args.scope.now c.args.bytes.now c.args.info.now c.args.layout.now (g.R.Rng.stream c.args.generator.now)
     (g.R.Rng.stream c.draws.generator) (g.R.Rng.stream c.mutate_in_order.new.generator) c.draws.counter c.draws.n m.function m.rewrite
@@ -56,7 +59,8 @@ returns-clause-chosen g c =
 
 pub returns-clause-gives_up : goal.returns-clause-gives_up
 returns-clause-gives_up g c =
-    let all : c.draws.counter ≡ 16 = omega (arith, c.draws-test.false, c.draws.auto.counter-end) in
+    let all : c.draws.counter ≡ draws_of c.args.scope.now c.args.bytes.now =
+    omega (arith, c.draws-test.false, c.draws.auto.counter-end, c.draws-end.ensures.is) in
     vain_of_size c.mutate_in_order.result (GivesUpOn c.args.scope.now c.args.bytes.now c.args.info.now c.args.layout.now None
     (g.R.Rng.stream c.args.generator.now) (g.R.Rng.stream c.mutate_in_order.new.generator)) (λ vain.
     gives_up_by_words c.args.scope.now c.args.bytes.now c.args.info.now c.args.layout.now (g.R.Rng.stream c.args.generator.now)

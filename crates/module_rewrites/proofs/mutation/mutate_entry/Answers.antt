@@ -1,12 +1,12 @@
 -- At the function that was read.
-use Rattle.std.proofs.Common.{Err, ◌≡◌, ◌<◌, ◌≤◌, ◌++◌, length, inr, ap, refl, arith}
-use Rattle.std.proofs.lemmas.Grind.{common_steps}
+use Rattle.std.proofs.Common.{Err, ℕ, List, subst, ◌++◌, ap, refl}
 use Rattle.peephole_machine.specs.Values.{context_in}
 use Rattle.body_rewrites.specs.Random.{AppendsByWords}
-use Rattle.module_rewrites.specs.Chosen.{by_lack, by_size}
-use Rattle.module_rewrites.specs.Scope.{most_of, wanted_of}
+use Rattle.module_rewrites.specs.Chosen.{by_lack}
+use Rattle.module_rewrites.specs.Scope.{wanted_of}
+use Rattle.module_rewrites.specs.Size.{IsNotFor, IsSmallEnough}
 use Rattle.module_rewrites.specs.Writing.{WritesAt}
-use Rattle.module_rewrites.proofs.MutationLemmas.{behind_locals, body_in, mutates, nothing_here, refuses_writing, tried_writing, writes_here}
+use Rattle.module_rewrites.proofs.MutationLemmas.{behind_locals, body_in, mutates, nothing_here, refuses_size, refuses_writing, tried_size, tried_writing, writes_here}
 use Rattle.module_rewrites.proofs.mutation.mutate_entry.Goals as goal
 
 pub returns-in-Err-clause-none : goal.returns-in-Err-clause-none
@@ -86,12 +86,12 @@ returns-in-Ok-with_body-clause-chosen g c =
     writes_here c.args.scope.now bytes info layout c.args.n f.locals.items f.expression f.operators.items c.entry_at.result
     made.rewrite c.new-body.result c.rewrite_function.new.sink made.asks.items s after c.locals_of-locals.result.now c.bytes.result.now more
     c.in-Ok.ensures.read c.new-body.ensures appended c.entry_at.ensures c.locals_of-locals.ensures c.bytes.ensures c.deref.ensures.value in
-    let sized : c.len.result ≡ length c.in-Ok-with_body.new.items = grind (arith, common_steps) in
-    let fits : length c.in-Ok-with_body.new.items ≤ most_of c.args.scope.now bytes = omega (arith, sized, c.most.ensures, c.if-len-most.false) in
+    let fits : IsSmallEnough c.args.scope.now bytes c.in-Ok-with_body.new.items =
+    subst (λ (new : List ℕ). IsSmallEnough c.args.scope.now bytes new) c.deref-in-Ok-with_body.ensures.value c.in-None.ensures.fits in
     record { contents = contents; more = more; writes = writes; made = c.in-Ok-with_body.ensures.written; fits = fits }
 
-pub returns-then-len-most-clause-refused : goal.returns-then-len-most-clause-refused
-returns-then-len-most-clause-refused g c =
+pub returns-in-Some-clause-refused : goal.returns-in-Some-clause-refused
+returns-in-Some-clause-refused g c =
     let bytes = c.args.bytes.now in
     let info = c.args.info.now in
     let layout = c.args.layout.now in
@@ -107,20 +107,12 @@ returns-then-len-most-clause-refused g c =
     writes_here c.args.scope.now bytes info layout c.args.n f.locals.items f.expression f.operators.items c.entry_at.result
     made.rewrite c.new-body.result c.rewrite_function.new.sink made.asks.items s after c.locals_of-locals.result.now c.bytes.result.now more
     c.in-Ok.ensures.read c.new-body.ensures appended c.entry_at.ensures c.locals_of-locals.ensures c.bytes.ensures c.deref.ensures.value in
-    let sized : c.len.result ≡ length c.in-Ok-with_body.new.items = grind (arith, common_steps) in
-    let long : most_of c.args.scope.now bytes < length c.in-Ok-with_body.new.items = omega (arith, sized, c.most.ensures, c.if-len-most.true) in
-    record {
-      s = s;
-      rewrite = made.rewrite;
-      contents = contents;
-      more = more;
-      after = after;
-      writes = writes;
-      holds = record { new = c.in-Ok-with_body.new.items; is = c.in-Ok-with_body.ensures.written; long = long };
-    }
+    refuses_size c.args.scope.now bytes info layout c.args.n s after made.rewrite contents more writes c.in-Ok-with_body.new.items
+    c.in-Ok-with_body.ensures.written c.in-Some.error
+    (subst (λ (new : List ℕ). IsNotFor c.args.scope.now bytes new c.in-Some.error) c.deref-in-Ok-with_body.ensures.value c.in-Some.ensures.refused)
 
-pub returns-then-len-most-clause-tried : goal.returns-then-len-most-clause-tried
-returns-then-len-most-clause-tried g c vain =
+pub returns-in-Some-clause-tried : goal.returns-in-Some-clause-tried
+returns-in-Some-clause-tried g c vain =
     let bytes = c.args.bytes.now in
     let info = c.args.info.now in
     let layout = c.args.layout.now in
@@ -136,15 +128,9 @@ returns-then-len-most-clause-tried g c vain =
     writes_here c.args.scope.now bytes info layout c.args.n f.locals.items f.expression f.operators.items c.entry_at.result
     made.rewrite c.new-body.result c.rewrite_function.new.sink made.asks.items s after c.locals_of-locals.result.now c.bytes.result.now more
     c.in-Ok.ensures.read c.new-body.ensures appended c.entry_at.ensures c.locals_of-locals.ensures c.bytes.ensures c.deref.ensures.value in
-    let sized : c.len.result ≡ length c.in-Ok-with_body.new.items = grind (arith, common_steps) in
-    let long : most_of c.args.scope.now bytes < length c.in-Ok-with_body.new.items = omega (arith, sized, c.most.ensures, c.if-len-most.true) in
-    by_size (record {
-      rewrite = made.rewrite;
-      contents = contents;
-      more = more;
-      writes = writes;
-      large = inr (record { new = c.in-Ok-with_body.new.items; is = c.in-Ok-with_body.ensures.written; long = long });
-    })
+    tried_size c.args.scope.now bytes info layout c.args.n s after made.rewrite contents more writes c.in-Ok-with_body.new.items
+    c.in-Ok-with_body.ensures.written c.in-Some.error
+    (subst (λ (new : List ℕ). IsNotFor c.args.scope.now bytes new c.in-Some.error) c.deref-in-Ok-with_body.ensures.value c.in-Some.ensures.refused)
 
 pub returns-clause-refused : goal.returns-clause-refused
 returns-clause-refused g c =

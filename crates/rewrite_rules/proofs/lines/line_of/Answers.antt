@@ -80,5 +80,13 @@ pub returns-in-18 : goal.returns-in-18
 unfolding parts
 returns-in-18 c = c.in_turned.ensures ∙ ap (λ part. slice_get (part_at part) c.args.number) (sym c.in-18.is)
 
+pub returns-in-19 : goal.returns-in-19
+unfolding parts
+returns-in-19 c = c.in_absorbed.ensures ∙ ap (λ part. slice_get (part_at part) c.args.number) (sym c.in-19.is)
+
+pub returns-in-20 : goal.returns-in-20
+unfolding parts
+returns-in-20 c = c.in_settled.ensures ∙ ap (λ part. slice_get (part_at part) c.args.number) (sym c.in-20.is)
+
 pub returns-in_default : goal.returns-in_default
 returns-in_default c = elsewhere c.args.part c.args.number (omega arith)
