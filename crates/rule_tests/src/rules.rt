@@ -105,29 +105,46 @@ fn is_told(rt: &impl Abort, alloc: Global, line: &str) -> Result<bool, Fail> {
     )
 }
 
-#[test]
-fn rules_make_what_is_told(rt: HostRuntime) -> Result<(), Fail> {
-    let alloc = rt.alloc();
-    for line in ROWS.trim().lines() {
+/// Fails where a rule doesn't make of an operator what one of the rows says.
+fn check_rows(rt: &impl Abort, alloc: Global, rows: &str) -> Result<(), Fail> {
+    for line in rows.trim().lines() {
         for t in ["i32", "i64"] {
             let told = line.replace(alloc, 'T', t)?;
             let is_row = !line.starts_with('#') && (t == "i32" || line.contains('T'));
-            assert!(rt; !is_row || is_told(&rt, alloc, &told)?, "{told}");
+            assert!(rt; !is_row || is_told(rt, alloc, &told)?, "{told}");
         }
     }
     Ok(())
 }
 
-/// Each rule makes something in a line.
+#[test]
+fn rules_make_what_is_told(rt: HostRuntime) -> Result<(), Fail> {
+    for rows in ROWS {
+        check_rows(&rt, rt.alloc(), rows)?;
+    }
+    Ok(())
+}
+
+/// Whether the rule makes something in one of the rows.
+fn makes_some(alloc: Global, rule: &str, rows: &str) -> Result<bool, Fail> {
+    for line in rows.trim().lines() {
+        let fields = fields_of(alloc, line)?;
+        if matches!(fields.as_slice(), [name, _, _, _, after, ..] if *name == rule && *after != "-")
+        {
+            return Ok(true);
+        }
+    }
+    Ok(false)
+}
+
+/// Each rule makes something in a row.
 #[test]
 fn all_rules_are_told(rt: HostRuntime) -> Result<(), Fail> {
     let alloc = rt.alloc();
     for name in &rule_names(alloc)? {
         let mut found = false;
-        for line in ROWS.trim().lines() {
-            let fields = fields_of(alloc, line)?;
-            found = found
-                || matches!(fields.as_slice(), [rule, _, _, _, after, ..] if rule == name && *after != "-");
+        for rows in ROWS {
+            found = found || makes_some(alloc, name, rows)?;
         }
         assert!(rt; found, "{name}");
     }
