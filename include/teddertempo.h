@@ -51,8 +51,14 @@ enum {
     TEDDERTEMPO_NO_FUNCTION = 5,     /* the module has no function of its own with that index, or an import isn't known */
     TEDDERTEMPO_TOO_LARGE = 6,       /* no rewrite that was tried fits */
     TEDDERTEMPO_NO_MEMORY = 7,       /* malloc failed */
-    TEDDERTEMPO_BAD_OPTIONS = 8      /* a struct_size is too small, size is above max_size, or options name no rule that there is */
+    TEDDERTEMPO_BAD_OPTIONS = 8      /* a struct_size is too small, size is above max_size, a flag is none, or no rule is named that there is */
 };
+
+/*
+ * What runs the module does on floats, vectors and memories what the standard says, and no other thread writes its memories: rules
+ * on these rewrite too, and the new module does as before in every engine that does so, which is what a tester of engines wants.
+ */
+#define TEDDERTEMPO_EXACT UINT64_C(1)
 
 #define TEDDERTEMPO_ANY_FUNCTION UINT64_MAX
 #define TEDDERTEMPO_ANY_GROWTH UINT64_MAX
@@ -72,6 +78,7 @@ struct teddertempo_options {
     uint64_t max_growth;  /* the new module has at most so many bytes more than the old one; or TEDDERTEMPO_ANY_GROWTH */
     uint64_t percent;     /* where it isn't 0, in place of count: at most so many rewrites as this percentage of the operators, each
                              end counted, of the functions that may be rewritten and can be read, rounded down, at least 1 */
+    uint64_t flags;       /* TEDDERTEMPO_EXACT or 0; another bit is refused */
 };
 
 struct teddertempo_report {

@@ -1,8 +1,9 @@
 #!/usr/bin/env bash
-# Rewrites each module of tests/modules under many seeds (200, or the number that is given), one to eight rewrites each, and fails
-# where a new module isn't accepted by wasm-validate, or where a call of the module's list has another answer in it than in the
-# module as it was. Prints a line for each module: how many new ones there are, under how many seeds there was nothing to
-# rewrite, and how many of the new ones have other bytes than the old one. Then each rule alone rewrites each module once. A module
+# Rewrites each module of tests/modules under many seeds (200, or the number that is given), one to eight rewrites each, half of them
+# with --exact, and fails where a new module isn't accepted by wasm-validate, or where a call of the module's list has another answer in
+# it than in the module as it was. Prints a line for each module: how many new ones there are, under how many seeds there was nothing to
+# rewrite, and how many of the new ones have other bytes than the old one. Then each rule alone rewrites each module once, with --exact
+# where it needs that. A module of which threads share a memory is to be refused with --exact, and is rewritten without it alone. A module
 # that no seed rewrites is a failure too, and so is a rule that rewrites no module, and a module whose own answers aren't those of
 # its list, which gcc made.
 #
@@ -51,7 +52,7 @@ fail() {
 rewrite_case() {
     local name=$1 case=$2 status=0
     shift 2
-    timeout 10 "$program" "$@" < "tests/modules/$name.wasm" > "$work/module.wasm" 2> "$work/message" || status=$?
+    timeout 60 "$program" "$@" < "tests/modules/$name.wasm" > "$work/module.wasm" 2> "$work/message" || status=$?
     if [ "$status" -eq 2 ] && [ -s "$work/message" ] && [ ! -s "$work/module.wasm" ]; then
         nothing=$((nothing + 1))
         pass
@@ -138,6 +139,18 @@ judge_newer() {
     rm -f "$work"/newer/*
 }
 
+# Judges that --exact is refused for a module of which threads share a memory.
+judge_refusal() {
+    local name=$1 status=0
+    "$program" --exact --seed 0 < "tests/modules/$name.wasm" > "$work/module.wasm" 2> "$work/message" || status=$?
+    if [ "$status" -eq 1 ] && [ ! -s "$work/module.wasm" ] && grep -q -e '--exact: threads share a memory' "$work/message"; then
+        pass
+    else
+        fail "$name-exact" "status $status, but threads share a memory: $(head -c 300 "$work/message")"
+    fi
+    rm -f "$work/module.wasm"
+}
+
 # Makes a module the one that is tried: its calls, and the answers that are wanted.
 take() {
     cp "tests/modules/$1.wasm" "$work/module.wasm"
@@ -186,9 +199,14 @@ for name in $modules $newer; do
     else
         fail "$name" "its own answers aren't those of its list"
     fi
+    if ! takes_exact "$name"; then judge_refusal "$name"; fi
     for seed in $(seq 0 $((seeds - 1))); do
         count=$((seed % 8 + 1))
-        "$try" "$name" "${name#newer/}-$seed-$count" --seed "$seed" --count "$count"
+        if [ $(((seed + seed / 8) % 2)) -eq 1 ] && takes_exact "$name"; then
+            "$try" "$name" "${name#newer/}-$seed-$count-exact" --exact --seed "$seed" --count "$count"
+        else
+            "$try" "$name" "${name#newer/}-$seed-$count" --seed "$seed" --count "$count"
+        fi
     done
     if [ "$try" = try_newer ]; then judge_newer "$name"; fi
     echo "$name: $rewritten rewritten, $nothing with nothing to rewrite, $differ with other bytes"
@@ -199,11 +217,17 @@ done
 # Each rule alone, once on each module.
 rules=$("$program" --help | tr -d '\n' | sed -n 's/.*\[possible values: \([a-z_0-9, ]*\)\].*/\1/p' | tr -d ',')
 if [ -z "$rules" ]; then fail "$program --help" "no names of rules found"; fi
+exact_rules=$(exact_rules_of "$program" | tr '\n' ' ')
+if [ -z "$exact_rules" ]; then fail "$program --list-rules=json" "no rules found that need --exact"; fi
 for name in $modules $newer; do
     begin "$name"
     for rule in $rules; do
         rewritten=0
-        "$try" "$name" "${name#newer/}-$rule" --rule "$rule" --seed 1
+        if [[ " $exact_rules" != *" $rule "* ]]; then
+            "$try" "$name" "${name#newer/}-$rule" --rule "$rule" --seed 1
+        elif takes_exact "$name"; then
+            "$try" "$name" "${name#newer/}-$rule" --exact --rule "$rule" --seed 1
+        fi
         if [ "$rewritten" -ne 0 ]; then echo "$rule" >> "$work/applied"; fi
     done
     if [ "$try" = try_newer ]; then judge_newer "$name"; fi

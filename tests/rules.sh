@@ -37,10 +37,10 @@ judge() {
 TEDDERTEMPO=$program tools/rules.sh "$work/rules.md"
 judge "docs/RULES.md isn't what tools/rules.sh writes" docs/RULES.md "$work/rules.md"
 
-# Number, name and growth of each rule, by each form; and how many rules the text of docs/RULES.md counts.
-sed -n 's/^| \([0-9]*\) | `\([a-z_0-9]*\)` | \([a-z]*\) | .*/\1 \2 \3/p' docs/RULES.md > "$work/table"
+# Number, name, growth and need of each rule, by each form; and how many rules the text of docs/RULES.md counts.
+sed -n 's/^| \([0-9]*\) | `\([a-z_0-9]*\)` | \([a-z]*\) |\( `--exact`\)\{0,1\} | .*/\1 \2 \3\4/p' docs/RULES.md | tr -d '`' > "$work/table"
 "$program" --list-rules | grep '^[0-9]' > "$work/text"
-"$program" --list-rules=json | sed 's/^{"growth":"\([a-z]*\)","lines":.*,"name":"\([a-z_0-9]*\)","number":\([0-9]*\)}$/\3 \2 \1/' > "$work/objects"
+"$program" --list-rules=json | sed 's/^{"exact":\([a-z]*\),"growth":"\([a-z]*\)","lines":.*,"name":"\([a-z_0-9]*\)","number":\([0-9]*\)}$/\4 \3 \2 \1/; s/ false$//; s/ true$/ --exact/' > "$work/objects"
 judge "docs/RULES.md and --list-rules have other rules" "$work/table" "$work/text"
 judge "docs/RULES.md and --list-rules=json have other rules" "$work/table" "$work/objects"
 sed -n 's/^\([0-9]*\) rules, each by its name\..*/\1/p' docs/RULES.md > "$work/counted"

@@ -361,7 +361,8 @@ class Account:
         final = self.campaign.store.folder / self.finding.name()
         commands = [shlex.join(command) for module in ("good.wasm", "bad.wasm")
                     for command in self.campaign.engine.lay_out(made, final, module, self.subject.plan)]
-        mutate = self.campaign.mutator.command(self.finding.seed, self.finding.count, str(final / "original.wasm"), "bad.wasm")
+        words = self.campaign.mutator.words(made / "original.wasm")
+        mutate = self.campaign.mutator.command(words, self.finding.seed, self.finding.count, str(final / "original.wasm"), "bad.wasm")
         version = self.campaign.mutator.version()
         texts = {"bad.txt": bad.text, "rewrite.txt": self.rewrite.text}
         for name, module in (("original.txt", "original.wasm"), ("good.txt", "finding/good.wasm")):

@@ -2,6 +2,7 @@
 
 from __future__ import annotations
 
+import hashlib
 import json
 import re
 import shutil
@@ -11,6 +12,9 @@ from pathlib import Path
 from .running import Finished, Runner
 
 NOTHING_TO_REWRITE, MISUSED = 2, 64
+
+# What the program says of a module of which threads share a memory, where what runs it is to be exact.
+SHARED = "--exact: threads share a memory"
 
 # What rewriting takes, and what is shown of many rewrites, is bounded apart from the engine.
 SECONDS, MOST_SHOWN = 600.0, 256 << 20
@@ -64,12 +68,16 @@ class Mutator:
         self.program = program
         self.options = options
         self.runner = runner
+        self.exact: dict[bytes, bool] = {}
 
-    def run(self, arguments: list[str]) -> Finished:
+    def run_plainly(self, arguments: list[str]) -> Finished:
         try:
-            finished = self.runner.run([self.program, *arguments], SECONDS, MOST_SHOWN)
+            return self.runner.run([self.program, *arguments], SECONDS, MOST_SHOWN)
         except OSError as error:
             raise MutatorFailure(f"{self.program}: {error.strerror}") from error
+
+    def run(self, arguments: list[str]) -> Finished:
+        finished = self.run_plainly(arguments)
         if finished.too_much_output or finished.out_of_time:
             raise MutatorFailure("teddertempo takes too long, or shows too much")
         if finished.status not in (0, NOTHING_TO_REWRITE):
@@ -80,9 +88,21 @@ class Mutator:
     def version(self) -> str:
         return self.run(["--version"]).output.decode().strip()
 
+    def takes_exact(self, module: Path) -> bool:
+        """Whether rules on floats, vectors and memories may rewrite the module, where the engine does what the standard says."""
+        finished = self.run_plainly(["--exact", "--list", "--rule", "drop_nop", str(module)])
+        return SHARED not in finished.errors.decode("utf-8", "replace")
+
+    def words(self, module: Path) -> list[str]:
+        """The options for the module: those rules are used but where threads share one of its memories, which no engine is exact on."""
+        digest = hashlib.sha256(module.read_bytes()).digest()
+        if digest not in self.exact:
+            self.exact[digest] = self.takes_exact(module)
+        return (["--exact"] if self.exact[digest] else []) + self.options
+
     def rewritable(self, module: Path) -> int:
         """How many operators of the module a rule may rewrite."""
-        errors = self.run([*self.options, "--reach", "--json", str(module), "-o", "/dev/null"]).errors
+        errors = self.run([*self.words(module), "--reach", "--json", str(module), "-o", "/dev/null"]).errors
         for line in errors.decode().splitlines():
             report = json.loads(line) if line.startswith("{") else {}
             if report.get("of") == "operators":
@@ -91,18 +111,18 @@ class Mutator:
 
     def rewrite(self, module: Path, seed: int, count: int, new: Path) -> bool:
         """Writes the module rewritten; answers whether there was something to rewrite."""
-        arguments = [*self.options, "--seed", str(seed), "--count", str(count), str(module), "-o", str(new)]
+        arguments = [*self.words(module), "--seed", str(seed), "--count", str(count), str(module), "-o", str(new)]
         return self.run(arguments).status == 0
 
     def shown(self, module: Path, seed: int, count: int) -> Rewrite:
         """The last of so many rewrites."""
-        arguments = [*self.options, "--seed", str(seed), "--count", str(count), "--show", str(module), "-o", "/dev/null"]
+        arguments = [*self.words(module), "--seed", str(seed), "--count", str(count), "--show", str(module), "-o", "/dev/null"]
         text = self.run(arguments).errors.decode("utf-8", "replace")
         parts = re.split(r"^(?=function \d+ operator \d+ rule \w+$)", text, flags=re.M)
         last = parts[-1]
         rule = re.match(r"function \d+ operator \d+ rule (\w+)", last)
         return Rewrite(rule.group(1) if rule else "unknown", last)
 
-    def command(self, seed: int, count: int, module: str, new: str) -> list[str]:
-        """The command that makes a mutant again."""
-        return ["teddertempo", *self.options, "--seed", str(seed), "--count", str(count), module, "-o", new]
+    def command(self, words: list[str], seed: int, count: int, module: str, new: str) -> list[str]:
+        """The command that makes a mutant again, of a module with these options."""
+        return ["teddertempo", *words, "--seed", str(seed), "--count", str(count), module, "-o", new]

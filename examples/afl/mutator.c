@@ -70,7 +70,7 @@ static int grow(struct mutator *mutator, size_t room)
 size_t afl_custom_fuzz(void *data, unsigned char *buf, size_t buf_size, unsigned char **out_buf, unsigned char *add_buf,
                        size_t add_buf_size, size_t max_size)
 {
-    struct teddertempo_options options = {sizeof options, 0, {0}, TEDDERTEMPO_ANY_FUNCTION, 1, TEDDERTEMPO_ANY_GROWTH, 0};
+    struct teddertempo_options options = {sizeof options, 0, {0}, TEDDERTEMPO_ANY_FUNCTION, 1, TEDDERTEMPO_ANY_GROWTH, 0, 0};
     struct teddertempo_report report = {sizeof report, 0, 0, 0, 0, 0};
     struct mutator *mutator = data;
     size_t new_size;

@@ -1,7 +1,7 @@
 /*
  * Rewrites a module and says what was done, or why nothing was:
  *
- *     mutate [--seed N] [--count N] [--percent N] [--function N] [--growth N] [--rule NAME].. MODULE NEW
+ *     mutate [--exact] [--seed N] [--count N] [--percent N] [--function N] [--growth N] [--rule NAME].. MODULE NEW
  *
  * Numbers are decimal. Without --rule all rules are meant; --growth is how many bytes NEW may have more than MODULE. The status
  * is 2 where the library writes no module, and 1 where the options can't be read, or a file can't be read or written.
@@ -124,17 +124,24 @@ static void tell(const struct teddertempo_report *report, size_t size, size_t ne
 
 int main(int count, char **arguments)
 {
-    struct teddertempo_options options = {sizeof options, 0, {0}, TEDDERTEMPO_ANY_FUNCTION, 1, TEDDERTEMPO_ANY_GROWTH, 0};
+    struct teddertempo_options options = {sizeof options, 0, {0}, TEDDERTEMPO_ANY_FUNCTION, 1, TEDDERTEMPO_ANY_GROWTH, 0, 0};
     struct teddertempo_report report = {sizeof report, 0, 0, 0, 0, 0};
     uint8_t *data;
     size_t size = 0, new_size;
     int at = 1, status = 0;
 
-    while (at + 1 < count && read_option(arguments[at], arguments[at + 1], &options)) {
-        at += 2;
+    while (at < count) {
+        if (strcmp(arguments[at], "--exact") == 0) {
+            options.flags = TEDDERTEMPO_EXACT;
+            at += 1;
+        } else if (at + 1 < count && read_option(arguments[at], arguments[at + 1], &options)) {
+            at += 2;
+        } else {
+            break;
+        }
     }
     if (count - at != 2) {
-        fprintf(stderr, "usage: mutate [--seed N] [--count N] [--percent N] [--function N] [--growth N] [--rule NAME].. MODULE NEW\n");
+        fprintf(stderr, "usage: mutate [--exact] [--seed N] [--count N] [--percent N] [--function N] [--growth N] [--rule NAME].. MODULE NEW\n");
         return 1;
     }
     data = read_file(arguments[at], &size);

@@ -29,6 +29,8 @@ outside:
 shared:
 patterns:
 forms:
+floats:
+vectors:
 newer/tails:
 newer/throwing:
 newer/atomics:

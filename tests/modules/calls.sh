@@ -46,6 +46,19 @@ answers_of() {
     '
 }
 
+# The modules of which threads share a memory: the program doesn't rewrite them with --exact.
+shared_memories="shared newer/atomics"
+
+# Whether a module can be rewritten with --exact.
+takes_exact() {
+    [[ " $shared_memories " != *" $1 "* ]]
+}
+
+# The names of the program's rules that rewrite with --exact alone.
+exact_rules_of() {
+    "$1" --list-rules=json | sed -n 's/^{"exact":true,.*"name":"\([a-z_0-9]*\)".*/\1/p'
+}
+
 modules_here=$(cd "$(dirname "${BASH_SOURCE[0]}")" && pwd)
 
 # What wabt has to be told of the modules in the folder newer.

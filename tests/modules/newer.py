@@ -24,7 +24,7 @@ OLDER_FB = {
 }
 
 # What stands behind an operator: n numbers (also signed ones: they are copied alone), h heap type, b block type, t value types,
-# l labels, and 4 or 8 bytes. No operator but these has anything behind it.
+# l labels, and 1, 4 or 8 bytes. No operator but these has anything behind it.
 BEHIND = {
     0x02: "b", 0x03: "b", 0x04: "b", 0x0C: "n", 0x0D: "n", 0x0E: "l", 0x10: "n", 0x11: "nn", 0x12: "n", 0x13: "nn", 0x14: "n",
     0x15: "n", 0x1C: "t", 0x3F: "n", 0x40: "n", 0x41: "n", 0x42: "n", 0x43: "4", 0x44: "8", 0xD0: "h", 0xD2: "n", 0xD5: "n", 0xD6: "n",
@@ -33,6 +33,11 @@ BEHIND = {
 BEHIND_FB = {
     **{code: "nn" for code in (2, 3, 4, 5, 8, 9, 10, 17, 18, 19)}, **{code: "n" for code in (0, 1, 6, 7, 11, 12, 13, 14, 16)},
     **{code: "h" for code in (20, 21, 22, 23)}, 24: "c", 25: "c",
+}
+# Those on vectors are behind FD, where their codes were the same then.
+BEHIND_FD = {
+    **{code: "nn" for code in (*range(0, 12), 92, 93)}, 12: "88", 13: "88", **{code: "1" for code in range(21, 35)},
+    **{code: "nn1" for code in range(84, 92)},
 }
 
 
@@ -165,6 +170,9 @@ class Older:
                 behind = "h"
             else:
                 self.written += b"\xfb" + number(older)
+        elif byte == 0xFD:
+            self.written += b"\xfd"
+            behind = BEHIND_FD.get(self.copy_number(), "")
         else:
             assert byte < 0xFB, hex(byte)
             behind = BEHIND.get(byte, "")

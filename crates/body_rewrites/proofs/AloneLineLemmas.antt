@@ -52,7 +52,7 @@ use Rattle.body_rewrites.proofs.AlikeLemmas.{code_there}
 use Rattle.body_rewrites.proofs.GrowingLemmas.{grows}
 use Rattle.body_rewrites.proofs.DifferingLemmas.{kept_count}
 use Rattle.body_rewrites.proofs.PlaceLemmas.{formed, is_place, applies_to}
-use Rattle.body_rewrites.proofs.FormLemmas.{IsNotOwn, makes_by, made_by}
+use Rattle.body_rewrites.proofs.FormLemmas.{IsNotOwn, has_types, IsAskedAlone, makes_by, made_by}
 use Rattle.body_rewrites.proofs.WritingLemmas.{range_alone}
 
 -- ---- what is computed once of the table
@@ -90,11 +90,13 @@ asks_nothing (Some k) = false
 abbrev is_exact_for : IntegerType → Row → Bool
 is_exact_for t row = lines.is_exact_line (table.line_of row t)
 
+-- The types of its operands are told, so it is asked like any other line; or its left side is no operand alone; or what follows is so of it.
 abbrev alone_row : Row → Bool
 alone_row row =
-    not (are_alone row.left)
+    has_types row.widths
+    || (not (are_alone row.left)
     || ((of_width row.widths && (asks_nothing row.condition && (not (is_exact_for integer.I32 row) && not (is_exact_for integer.I64 row))))
-    && (one_or_two (holes_for row.right) && (is_longer (parts_for integer.I32 row.right) && is_longer (parts_for integer.I64 row.right))))
+    && (one_or_two (holes_for row.right) && (is_longer (parts_for integer.I32 row.right) && is_longer (parts_for integer.I64 row.right)))))
 
 abbrev alone_rows : List Row → Bool
 alone_rows [] = true
@@ -127,10 +129,14 @@ not_true : (b : Bool) → not b ≡ true → b ≡ false
 not_true true e = absurd (false≢true e)
 not_true false e = refl
 
-alone_is : (line : Line) → IsLine line → are_alone line.row.left ≡ true → IsAloneRow line.row line.width
+or_last : (a b : Bool) → a ≡ false → (a || b) ≡ true → b ≡ true
+or_last true b e h = absurd (false≢true (sym e))
+or_last false b e h = h
+
+alone_is : (line : Line) → IsLine line → IsAskedAlone line.row line.row.widths → IsAloneRow line.row line.width
 alone_is line is e =
     let row = line.row in
-    let h = or_other (are_alone row.left) _ e (at_row ROWS all_rows is.number row is.row_is) in
+    let h = or_other (are_alone row.left) _ e.left (or_last (has_types row.widths) _ e.untyped (at_row ROWS all_rows is.number row is.row_is)) in
     let (a, b) = and_parts (of_width row.widths && (asks_nothing row.condition && (not (is_exact_for integer.I32 row) && not (is_exact_for integer.I64 row)))) _ h in
     let (w, k) = and_parts (of_width row.widths) _ a in
     let (n, x) = and_parts (asks_nothing row.condition) _ k in
@@ -233,12 +239,12 @@ moves_from x (zero ∷ suc m ∷ ns) e h = absurd (false≢true e)
 moves_from x (suc m ∷ ns) e h = absurd (false≢true e)
 
 module _ (types : TypesAreTold) (holes_are : HolesAreTold) (right : TableIsRight) (line : Line) (is : IsLine line)
-    (alone : are_alone line.row.left ≡ true) where
+    (alone : IsAskedAlone line.row line.row.widths) where
   row_is : IsAloneRow line.row line.width
   row_is = alone_is line is alone
 
   holes_left : holes (meant line).left ≡ 0 ∷ []
-  holes_left = (holes_are line.row line.width (formed right line is)).0 ∙ (alone_left line.width line.row.left alone).1
+  holes_left = (holes_are line.row line.width (formed right line is)).0 ∙ (alone_left line.width line.row.left alone.left).1
 
   holes_right : holes (meant line).right ≡ holes_for line.row.right
   holes_right = (holes_are line.row line.width (formed right line is)).1
@@ -342,12 +348,12 @@ no_other (Operands a b c) e = tt
 no_other (Own o) e = false≢true e
 
 module _ (types : TypesAreTold) (holes_are : HolesAreTold) (right : TableIsRight) (line : Line) (is : IsLine line)
-    (alone : are_alone line.row.left ≡ true) (context : Context) (operators : Operators) (at : ℕ) where
+    (alone : IsAskedAlone line.row line.row.widths) (context : Context) (operators : Operators) (at : ℕ) where
   parts_are : reverse (Hole 0 ∷ []) ≡ parts_for line.width line.row.left
-  parts_are = sym (alone_left line.width line.row.left alone).0
+  parts_are = sym (alone_left line.width line.row.left alone.left).0
 
   left_is : left_parts line ≡ Hole 0 ∷ []
-  left_is = ap reverse (alone_left line.width line.row.left alone).0
+  left_is = ap reverse (alone_left line.width line.row.left alone.left).0
 
   -- it makes nothing where there is none
   no_tree : ((start : ℕ) (t : PrimitiveTypeInfo) → IsTree context operators start at t → ⊥) → (change : Change) →

@@ -127,24 +127,24 @@ filter_few {A = A} test (x ∷ xs) = go (test x) (filter test xs) (filter_few te
     go true ys l = omega arith
     go false ys l = omega arith
 
-pub candidates_few : (class : ℕ) → length (candidates class) < 65536
-candidates_few class = let few = filter_few (is_candidate class) all_asked in let all = few_asked in omega (arith, few, all)
+pub candidates_few : (exact : Bool) (class : ℕ) → length (candidates exact class) < 65536
+candidates_few exact class = let few = filter_few (is_candidate exact class) all_asked in let all = few_asked in omega (arith, few, all)
 
 -- ---- the list of a class that is used
 
 pub class_is_used : (used : List Bool) (class : ℕ) → IsUsed used class → class < length used
 class_is_used used class marked = slice_get_within used class true marked
 
-pub list_is : (used : List Bool) (lists : List (Vec Asked)) → AreLists used all_asked lists → (class : ℕ) → class < 169 → IsUsed used class →
-    (lines : List Asked) → IfSome (slice_get lists class) (λ list. lines ≡ list.items) → lines ≡ candidates class
-list_is used lists are class l marked lines h = go (slice_get lists class) refl h
+pub list_is : (exact : Bool) (used : List Bool) (lists : List (Vec Asked)) → AreLists exact used all_asked lists → (class : ℕ) → class < 447 → IsUsed used class →
+    (lines : List Asked) → IfSome (slice_get lists class) (λ list. lines ≡ list.items) → lines ≡ candidates exact class
+list_is exact used lists are class l marked lines h = go (slice_get lists class) refl h
   where
     there : {A : Type 0} (xs : List A) (n : ℕ) → n < length xs → slice_get xs n ≡ None → ⊥
     there [] n l none = absurd (omega arith)
     there (x ∷ xs) zero l none = absurd cc
     there (x ∷ xs) (suc n) l none = there xs n (omega arith) none
 
-    go : (o : Option (Vec Asked)) → slice_get lists class ≡ o → IfSome o (λ list. lines ≡ list.items) → lines ≡ candidates class
+    go : (o : Option (Vec Asked)) → slice_get lists class ≡ o → IfSome o (λ list. lines ≡ list.items) → lines ≡ candidates exact class
     go (Some v) e same = same ∙ are.each class v e marked
     go None e same = absurd (there lists class (let long = are.long in omega arith) e)
 

@@ -1,6 +1,6 @@
 -- The lists of candidates, line by line.
 use Rattle.std.proofs.Common.{◌≡◌, ℕ, zero, suc, ◌+◌, ◌<◌, ◌≤◌, ◌≢◌, ◌⊎◌, inl, inr, Bool, true, false, cond, List, [], ◌∷◌, ◌++◌, length, map, take, get_or, Option, Some, None, refl, sym, ap, ap₂, subst, ◌∙◌, arith, append-nil, append_assoc}
-use Rattle.std.specs.Prelude.{◌&&◌, nat_le, option_to_list, slice_get, slice_set, Result, Ok, Err, OnOk}
+use Rattle.std.specs.Prelude.{◌&&◌, ◌||◌, not, nat_le, option_to_list, slice_get, slice_set, Result, Ok, Err, OnOk}
 use Rattle.std.specs.Global.{Vec}
 use Rattle.std.specs.List.{filter}
 use Rattle.std.proofs.lemmas.Bool.{cases_lt, false≢true, le-leb, leb-true}
@@ -12,7 +12,7 @@ use Rattle.body_rewrites.specs.declared.asked.Form.TheVariants.{Own, Alone, Othe
 use Rattle.body_rewrites.specs.declared.root.Root.TheVariants as root
 use Rattle.body_rewrites.specs.declared.trees.Tree.{Tree}
 use Rattle.rewrite_rules.specs.declared.table.Row.{Row}
-use Rattle.rewrite_rules.specs.Table.{ROWS}
+use Rattle.rewrite_rules.specs.Table.{ROWS, needs_exact}
 use Rattle.body_rewrites.proofs.AskingLemmas.{asked_next}
 use Rattle.peephole_machine.specs.declared.integer.IntegerType.{IntegerType}
 use Rattle.body_rewrites.specs.Asking.{asked_as, asked_for, asked_from, by_form, is_candidate, form_alone, is_alone, AddsLine, AreLists, AreLaidOut, NoneStands, NoneServes, AreRootClasses, AreCandidateClasses, IsUsed}
@@ -31,21 +31,21 @@ filter_without : {A : Type 0} (test : A → Bool) (xs : List A) (x : A) → test
 filter_without test xs x off =
     filter-append test xs (x ∷ []) ∙ (ap (λ b. filter test xs ++ cond b (x ∷ []) []) off ∙ append-nil (filter test xs))
 
-line_added : (used : List Bool) (lines : List Asked) (x : Asked) (old new : List (Vec Asked)) (classes : ℕ × ℕ) → AreCandidateClasses x classes →
-    AddsLine x used classes old new → AreLists used lines old → AreLists used (lines ++ x ∷ []) new
-line_added used lines x old new classes are adds so = record {
+line_added : (exact : Bool) (used : List Bool) (lines : List Asked) (x : Asked) (old new : List (Vec Asked)) (classes : ℕ × ℕ) → AreCandidateClasses exact x classes →
+    AddsLine x used classes old new → AreLists exact used lines old → AreLists exact used (lines ++ x ∷ []) new
+line_added exact used lines x old new classes are adds so = record {
   long = adds.long ∙ so.long;
-  each = λ class v e marked. go class v e marked (is_candidate class x) refl;
+  each = λ class v e marked. go class v e marked (is_candidate exact class x) refl;
 }
   where
-    go : (class : ℕ) (v : Vec Asked) → slice_get new class ≡ Some v → IsUsed used class → (b : Bool) → is_candidate class x ≡ b →
-        v.items ≡ filter (is_candidate class) (lines ++ x ∷ [])
+    go : (class : ℕ) (v : Vec Asked) → slice_get new class ≡ Some v → IsUsed used class → (b : Bool) → is_candidate exact class x ≡ b →
+        v.items ≡ filter (is_candidate exact class) (lines ++ x ∷ [])
     go class v e marked true on =
         let inside = slice_get_within new class v e in
         let size = adds.long ∙ so.long in
         let (from, before) = (are class (omega (arith, inside, size))).0 on in
         let (w, there, items) = adds.within class v from before marked e in
-        items ∙ (ap (λ zs. zs ++ x ∷ []) (so.each class w there marked) ∙ sym (filter_with (is_candidate class) lines x on))
+        items ∙ (ap (λ zs. zs ++ x ∷ []) (so.each class w there marked) ∙ sym (filter_with (is_candidate exact class) lines x on))
     go class v e marked false off =
         let inside = slice_get_within new class v e in
         let size = adds.long ∙ so.long in
@@ -56,31 +56,41 @@ line_added used lines x old new classes are adds so = record {
             | inr m ↦ inr m
           ]
         ]) in
-        so.each class v (sym same ∙ e) marked ∙ sym (filter_without (is_candidate class) lines x off)
+        so.each class v (sym same ∙ e) marked ∙ sym (filter_without (is_candidate exact class) lines x off)
 
 -- one that is no operand alone
-pub candidate_added : (used : List Bool) (lines : List Asked) (x : Asked) (old new : List (Vec Asked)) (alone : List Asked) (classes : ℕ × ℕ) →
-    is_alone x ≡ false → AreCandidateClasses x classes → AddsLine x used classes old new → AreLaidOut used lines old alone →
-    AreLaidOut used (lines ++ x ∷ []) new alone
-candidate_added used lines x old new alone classes off are adds so = record {
-  by_class = line_added used lines x old new classes are adds so.by_class;
+pub candidate_added : (exact : Bool) (used : List Bool) (lines : List Asked) (x : Asked) (old new : List (Vec Asked)) (alone : List Asked) (classes : ℕ × ℕ) →
+    is_alone x ≡ false → AreCandidateClasses exact x classes → AddsLine x used classes old new → AreLaidOut exact used lines old alone →
+    AreLaidOut exact used (lines ++ x ∷ []) new alone
+candidate_added exact used lines x old new alone classes off are adds so = record {
+  by_class = line_added exact used lines x old new classes are adds so.by_class;
   apart = so.apart ∙ sym (filter_without is_alone lines x off);
 }
 
-no_candidate : (form : Form) (b : Bool) → form_alone form ≡ true → by_form form b ≡ false
-no_candidate (Own o) b e = absurd (false≢true e)
-no_candidate (Alone d) b e = refl
-no_candidate Other b e = absurd (false≢true e)
+no_candidate : (exact : Bool) (row : Row) (form : Form) (b : Bool) → form_alone form ≡ true → by_form exact row form b ≡ false
+no_candidate exact row (Own o) b e = absurd (false≢true e)
+no_candidate exact row (Alone d) b e = refl
+no_candidate exact row Other b e = absurd (false≢true e)
+
+-- nor is one that may not stand there
+no_stand : (exact : Bool) (row : Row) (form : Form) (b : Bool) → b ≡ false → by_form exact row form b ≡ false
+no_stand exact row (Own o) b e = e
+no_stand exact row (Alone d) b e = refl
+no_stand exact row Other b e = ap (λ c. (exact || not (needs_exact row)) && c) e ∙ none (exact || not (needs_exact row))
+  where
+    none : (c : Bool) → (c && false) ≡ false
+    none true = refl
+    none false = refl
 
 -- one that is
-pub alone_added : (used : List Bool) (lines : List Asked) (x : Asked) (lists : List (Vec Asked)) (alone more : List Asked) (y : Asked) → y ≡ x →
-    is_alone x ≡ true → more ≡ alone ++ y ∷ [] → AreLaidOut used lines lists alone → AreLaidOut used (lines ++ x ∷ []) lists more
-alone_added used lines x lists alone more y same on next so = record {
+pub alone_added : (exact : Bool) (used : List Bool) (lines : List Asked) (x : Asked) (lists : List (Vec Asked)) (alone more : List Asked) (y : Asked) → y ≡ x →
+    is_alone x ≡ true → more ≡ alone ++ y ∷ [] → AreLaidOut exact used lines lists alone → AreLaidOut exact used (lines ++ x ∷ []) lists more
+alone_added exact used lines x lists alone more y same on next so = record {
   by_class = record {
     long = so.by_class.long;
     each = λ class v e marked.
         so.by_class.each class v e marked
-        ∙ sym (filter_without (is_candidate class) lines x (no_candidate x.form (fits class true x.root) on));
+        ∙ sym (filter_without (is_candidate exact class) lines x (no_candidate exact x.line.row x.form (fits class true x.root) on));
   };
   apart = next ∙ (ap₂ (λ zs z. zs ++ z ∷ []) so.apart same ∙ sym (filter_with is_alone lines x on));
 }
@@ -88,57 +98,52 @@ alone_added used lines x lists alone more y same on next so = record {
 -- ---- the lines of a row
 
 -- for one width
-pub one_width_laid_out : (used : List Bool) (number : ℕ) (row : Row) (width : IntegerType) (more : Option IntegerType) →
+pub one_width_laid_out : (exact : Bool) (used : List Bool) (number : ℕ) (row : Row) (width : IntegerType) (more : Option IntegerType) →
     asked_widths row.widths ≡ widths_told width more → more ≡ None → (a : Asked) → a ≡ asked_as number row width → (lines : List Asked)
-    (lists : List (Vec Asked)) (alone : List Asked) → AreLaidOut used (lines ++ a ∷ []) lists alone →
-    AreLaidOut used (lines ++ asked_for number row) lists alone
-one_width_laid_out used number row width more e none a is lines lists alone so =
-    subst (λ (ws : List IntegerType). AreLaidOut used (lines ++ map (asked_as number row) ws) lists alone) (sym (e ∙ ap (widths_told width) none))
-    (subst (λ (x : Asked). AreLaidOut used (lines ++ x ∷ []) lists alone) is so)
+    (lists : List (Vec Asked)) (alone : List Asked) → AreLaidOut exact used (lines ++ a ∷ []) lists alone →
+    AreLaidOut exact used (lines ++ asked_for number row) lists alone
+one_width_laid_out exact used number row width more e none a is lines lists alone so =
+    subst (λ (ws : List IntegerType). AreLaidOut exact used (lines ++ map (asked_as number row) ws) lists alone) (sym (e ∙ ap (widths_told width) none))
+    (subst (λ (x : Asked). AreLaidOut exact used (lines ++ x ∷ []) lists alone) is so)
 
 -- for two
-pub two_widths_laid_out : (used : List Bool) (number : ℕ) (row : Row) (width other : IntegerType) (more : Option IntegerType) →
+pub two_widths_laid_out : (exact : Bool) (used : List Bool) (number : ℕ) (row : Row) (width other : IntegerType) (more : Option IntegerType) →
     asked_widths row.widths ≡ widths_told width more → more ≡ Some other → (a b : Asked) → a ≡ asked_as number row width →
     b ≡ asked_as number row other → (lines : List Asked) (lists : List (Vec Asked)) (alone : List Asked) →
-    AreLaidOut used ((lines ++ a ∷ []) ++ b ∷ []) lists alone → AreLaidOut used (lines ++ asked_for number row) lists alone
-two_widths_laid_out used number row width other more e some a b is is_other lines lists alone so =
-    subst (λ (ws : List IntegerType). AreLaidOut used (lines ++ map (asked_as number row) ws) lists alone) (sym (e ∙ ap (widths_told width) some))
-    (subst (λ list. AreLaidOut used list lists alone)
+    AreLaidOut exact used ((lines ++ a ∷ []) ++ b ∷ []) lists alone → AreLaidOut exact used (lines ++ asked_for number row) lists alone
+two_widths_laid_out exact used number row width other more e some a b is is_other lines lists alone so =
+    subst (λ (ws : List IntegerType). AreLaidOut exact used (lines ++ map (asked_as number row) ws) lists alone) (sym (e ∙ ap (widths_told width) some))
+    (subst (λ list. AreLaidOut exact used list lists alone)
     (append_assoc lines (a ∷ []) (b ∷ []) ∙ ap₂ (λ x y. lines ++ x ∷ y ∷ []) is is_other) so)
 
 -- for none, where no line may apply
-line_skipped : (used : List Bool) (lines : List Asked) (x : Asked) (lists : List (Vec Asked)) (alone : List Asked) → is_alone x ≡ false →
-    NoneStands used x.root → AreLaidOut used lines lists alone → AreLaidOut used (lines ++ x ∷ []) lists alone
-line_skipped used lines x lists alone off none so = record {
+line_skipped : (exact : Bool) (used : List Bool) (lines : List Asked) (x : Asked) (lists : List (Vec Asked)) (alone : List Asked) → is_alone x ≡ false →
+    NoneStands used x.root → AreLaidOut exact used lines lists alone → AreLaidOut exact used (lines ++ x ∷ []) lists alone
+line_skipped exact used lines x lists alone off none so = record {
   by_class = record {
     long = so.by_class.long;
     each = λ class v e marked.
         so.by_class.each class v e marked
-        ∙ sym (filter_without (is_candidate class) lines x (never x.form (fits class true x.root) (none class marked)));
+        ∙ sym (filter_without (is_candidate exact class) lines x (no_stand exact x.line.row x.form (fits class true x.root) (none class marked)));
   };
   apart = so.apart ∙ sym (filter_without is_alone lines x off);
 }
-  where
-    never : (form : Form) (b : Bool) → b ≡ false → by_form form b ≡ false
-    never (Own o) b e = e
-    never (Alone d) b e = refl
-    never Other b e = e
 
-widths_skipped : (used : List Bool) (number : ℕ) (row : Row) (lists : List (Vec Asked)) (alone : List Asked) → form_alone (form_of row) ≡ false →
-    (ws : List IntegerType) → NoneServes used row ws → (lines : List Asked) → AreLaidOut used lines lists alone →
-    AreLaidOut used (lines ++ map (asked_as number row) ws) lists alone
-widths_skipped used number row lists alone off [] none lines so =
-    subst (λ list. AreLaidOut used list lists alone) (sym (append-nil lines)) so
-widths_skipped used number row lists alone off (w ∷ ws) (none, rest) lines so =
-    subst (λ list. AreLaidOut used list lists alone) (append_assoc lines (asked_as number row w ∷ []) (map (asked_as number row) ws))
-    (widths_skipped used number row lists alone off ws rest (lines ++ asked_as number row w ∷ [])
-    (line_skipped used lines (asked_as number row w) lists alone off none so))
+widths_skipped : (exact : Bool) (used : List Bool) (number : ℕ) (row : Row) (lists : List (Vec Asked)) (alone : List Asked) → form_alone (form_of row) ≡ false →
+    (ws : List IntegerType) → NoneServes used row ws → (lines : List Asked) → AreLaidOut exact used lines lists alone →
+    AreLaidOut exact used (lines ++ map (asked_as number row) ws) lists alone
+widths_skipped exact used number row lists alone off [] none lines so =
+    subst (λ list. AreLaidOut exact used list lists alone) (sym (append-nil lines)) so
+widths_skipped exact used number row lists alone off (w ∷ ws) (none, rest) lines so =
+    subst (λ list. AreLaidOut exact used list lists alone) (append_assoc lines (asked_as number row w ∷ []) (map (asked_as number row) ws))
+    (widths_skipped exact used number row lists alone off ws rest (lines ++ asked_as number row w ∷ [])
+    (line_skipped exact used lines (asked_as number row w) lists alone off none so))
 
-pub row_skipped : (used : List Bool) (number : ℕ) (row : Row) (form : Form) → form ≡ form_of row →
+pub row_skipped : (exact : Bool) (used : List Bool) (number : ℕ) (row : Row) (form : Form) → form ≡ form_of row →
     (form_alone form ≡ false) × NoneServes used row (asked_widths row.widths) → (lines : List Asked) (lists : List (Vec Asked))
-    (alone : List Asked) → AreLaidOut used lines lists alone → AreLaidOut used (lines ++ asked_for number row) lists alone
-row_skipped used number row form is (off, none) lines lists alone so =
-    widths_skipped used number row lists alone (ap form_alone (sym is) ∙ off) (asked_widths row.widths) none lines so
+    (alone : List Asked) → AreLaidOut exact used lines lists alone → AreLaidOut exact used (lines ++ asked_for number row) lists alone
+row_skipped exact used number row form is (off, none) lines lists alone so =
+    widths_skipped exact used number row lists alone (ap form_alone (sym is) ∙ off) (asked_widths row.widths) none lines so
 
 pub no_operand_alone : (form : Form) → ((d : Bool) → form ≡ Alone d → ⊥) → form_alone form ≡ false
 no_operand_alone (Own o) never = refl
@@ -161,11 +166,11 @@ one_class used first last same off class marked = go (nat_le first class) (nat_l
         absurd (unused (subst (IsUsed used) (let is : class ≡ first = omega (arith, l, m, same) in is) marked))
 
 -- with those of the rows before
-pub row_laid_out : (used : List Bool) (number : ℕ) (row : Row) (lists : List (Vec Asked)) (alone : List Asked) → slice_get ROWS number ≡ Some row →
-    AreLaidOut used (asked_from 0 (take number ROWS) ++ asked_for number row) lists alone →
-    AreLaidOut used (asked_from 0 (take (number + 1) ROWS)) lists alone
-row_laid_out used number row lists alone there so =
-    subst (λ list. AreLaidOut used list lists alone) (asked_next number row _ _ there refl refl) so
+pub row_laid_out : (exact : Bool) (used : List Bool) (number : ℕ) (row : Row) (lists : List (Vec Asked)) (alone : List Asked) → slice_get ROWS number ≡ Some row →
+    AreLaidOut exact used (asked_from 0 (take number ROWS) ++ asked_for number row) lists alone →
+    AreLaidOut exact used (asked_from 0 (take (number + 1) ROWS)) lists alone
+row_laid_out exact used number row lists alone there so =
+    subst (λ list. AreLaidOut exact used list lists alone) (asked_next number row _ _ there refl refl) so
 
 -- what is known of an answer
 pub on_ok : {X E : Type 0} {P Q : Type 0} (r : Result X E) → (P → Q) → OnOk r P → OnOk r Q
@@ -179,7 +184,7 @@ both true true e = (refl, refl)
 both true false e = absurd (false≢true e)
 both false b e = absurd (false≢true e)
 
-pub classes_are : (first last behind : ℕ) → ((class : ℕ) → class < 169 → class ≤ last → class < behind) → ((class : ℕ) → class < behind → class ≤ last) →
+pub classes_are : (first last behind : ℕ) → ((class : ℕ) → class < 447 → class ≤ last → class < behind) → ((class : ℕ) → class < behind → class ≤ last) →
     AreRootClasses (root.Classes first last) (first, behind)
 classes_are first last behind same only class l = (
   λ e. (let (a, b) = both (nat_le first class) (nat_le class last) e in (leb-true first class a, same class l (leb-true class last b))),

@@ -1,5 +1,5 @@
 -- What is counted at an operator: what lines of an operand alone make of its tree, and what the candidates make.
-use Rattle.std.proofs.Common.{◌≡◌, ℕ, suc, ◌+◌, ◌-◌, Bool, true, false, cond, List, [], ◌∷◌, ◌++◌, length, take, Option, Some, None, inl, inr, refl, sym, ap, ap₂, subst, ◌∙◌, arith}
+use Rattle.std.proofs.Common.{◌≡◌, ◌⊎◌, ℕ, suc, ◌+◌, ◌-◌, Bool, true, false, cond, List, [], ◌∷◌, ◌++◌, length, take, Option, Some, None, inl, inr, refl, sym, ap, ap₂, subst, ◌∙◌, arith}
 use Rattle.std.specs.Prelude.{◌==◌, ◌&&◌, ◌||◌, not, if◌then◌else◌, option_map, option_to_list, slice_get}
 use Rattle.std.specs.List.{filter}
 use Rattle.std.proofs.lemmas.Bool.{false≢true}
@@ -10,12 +10,15 @@ use Rattle.peephole_machine.specs.declared.integer.IntegerType.{IntegerType}
 use Rattle.peephole_machine.specs.declared.integer.IntegerType.TheVariants as integer
 use Rattle.peephole_machine.specs.Values.{Context, type_of, same_type}
 use Rattle.rewrite_rules.specs.declared.table.Row.{Row}
+use Rattle.rewrite_rules.specs.declared.table.Widths.{Widths}
+use Rattle.rewrite_rules.specs.declared.table.Widths.TheVariants as widths
+use Rattle.rewrite_rules.specs.Applying.{ExactRowsAreTold}
 use Rattle.rewrite_rules.specs.Holes.{HolesAreTold}
 use Rattle.rewrite_rules.specs.Laws.{TableIsRight}
 use Rattle.rewrite_rules.specs.Names.{name_in, begins, given, rule_of}
 use Rattle.rewrite_rules.specs.Operands.{TypesAreTold}
 use Rattle.rewrite_rules.specs.Parts.{PartsAreTheCode}
-use Rattle.rewrite_rules.specs.Table.{Entry, entries, row_in, ROWS, SidesAreParts}
+use Rattle.rewrite_rules.specs.Table.{Entry, entries, row_in, ROWS, needs_exact, SidesAreParts}
 use Rattle.body_rewrites.specs.declared.asked.Asked.{Asked}
 use Rattle.body_rewrites.specs.declared.asked.Form.{Form}
 use Rattle.body_rewrites.specs.declared.asked.Form.TheVariants.{Own, Alone, Other}
@@ -23,7 +26,7 @@ use Rattle.body_rewrites.specs.declared.found.Found.{Found}
 use Rattle.body_rewrites.specs.declared.growth.Growth.TheVariants.{Grows}
 use Rattle.body_rewrites.specs.declared.rewrite.Rewrite.{Rewrite}
 use Rattle.body_rewrites.specs.declared.trees.Tree.{Tree}
-use Rattle.body_rewrites.specs.Alone.{takes, alone_growth}
+use Rattle.body_rewrites.specs.Alone.{form_by, takes, alone_growth}
 use Rattle.body_rewrites.specs.Asking.{all_asked, by_form, is_candidate, candidates, rewrite_of, rewrites_of, IsAskedSo}
 use Rattle.body_rewrites.specs.Counting.{sample, slot_of, slot_in, is_slot, is_in_slot, AddsCounts, count_in, CountsFound, by_alone, alone_slot, alone_slots, slots_in, of_tree}
 use Rattle.body_rewrites.specs.Listing.{HasGrowth, AreFound, found_as}
@@ -34,8 +37,9 @@ use Rattle.body_rewrites.specs.Trees.{IsTree, HasTree, IsTreeAt, TreesLeave}
 use Rattle.body_rewrites.proofs.StandsLemmas.{Operators}
 use Rattle.body_rewrites.proofs.AloneLineLemmas.{alone_some, alone_none}
 use Rattle.body_rewrites.proofs.AskingLemmas.{rewrites_are, is_asked}
-use Rattle.body_rewrites.proofs.FormLemmas.{form_alone, is_line}
+use Rattle.body_rewrites.proofs.FormLemmas.{form_alone, is_line, made_by, IsNotOwn}
 use Rattle.body_rewrites.proofs.ListingLemmas.{line_nothing}
+use Rattle.body_rewrites.proofs.PlaceLemmas.{formed}
 use Rattle.body_rewrites.proofs.RootLemmas.{makes_fits}
 
 -- ---- trees that are alike
@@ -179,13 +183,28 @@ has_rule n row there none = go (slice_get entries n) (sym (slice_get-map row_in 
     go None e h = cc
     go (Some x) e h = cc
 
-candidate_apart : (class : ℕ) (tree : Tree) (a : Asked) (form : Form) (b : Bool) → by_form form b ≡ true → by_alone tree a form ≡ None
-candidate_apart class tree a (Own o) b e = refl
-candidate_apart class tree a (Alone d) b e = absurd (false≢true e)
-candidate_apart class tree a Other b e = refl
+candidate_apart : (exact : Bool) (class : ℕ) (tree : Tree) (a : Asked) (form : Form) (b : Bool) → by_form exact a.line.row form b ≡ true →
+    by_alone tree a form ≡ None
+candidate_apart exact class tree a (Own o) b e = refl
+candidate_apart exact class tree a (Alone d) b e = absurd (false≢true e)
+candidate_apart exact class tree a Other b e = refl
+
+-- a line is none of a rule beside the table
+not_own : (row : Row) (w : Widths) → Other ≡ form_by row w → IsNotOwn w
+not_own row widths.Both e = tt
+not_own row (widths.Only t) e = tt
+not_own row widths.Any e = tt
+not_own row (widths.Operands a b c) e = tt
+not_own row (widths.Own o) e = absurd cc
+
+-- it isn't ready, or may not stand there
+not_ready : (exact needs fits : Bool) → ((exact || not needs) && fits) ≡ false → ((exact ≡ false) × (needs ≡ true)) ⊎ (fits ≡ false)
+not_ready true needs fits e = inr e
+not_ready false true fits e = inl (refl, refl)
+not_ready false false fits e = inr e
 
 module _ (types : TypesAreTold) (holes_are : HolesAreTold) (right : TableIsRight) (sides : SidesAreParts) (codes : PartsAreTheCode)
-    (lefts : LeftsAreInstances) (leave : TreesLeave) (context : Context) (operators : Operators) (at : ℕ) where
+    (lefts : LeftsAreInstances) (leave : TreesLeave) (exacts : ExactRowsAreTold) (context : Context) (operators : Operators) (at : ℕ) where
   -- it makes nothing where the tree isn't as it asks, or there is none
   alone_nothing : (o : Option Tree) → IsTreeAt context operators at o → (a : Asked) → IsAskedSo a → (d : Bool) → a.form ≡ Alone d →
       alone_growth a.line.width d o ≡ None → IsMade context operators (rewrite_of at a) → ⊥
@@ -202,19 +221,37 @@ module _ (types : TypesAreTold) (holes_are : HolesAreTold) (right : TableIsRight
       line_nothing context operators at a.number a.line is.line
       (λ change made. false≢true (sym off ∙ (ap (fits class true) is.root_is ∙ makes_fits context operators at class is_class true tt a.line change made)))
 
-  module _ (class : ℕ) (is_class : IsClassAt operators at class) where
+  -- one on exact rows makes nothing where what runs the module isn't exact
+  exact_nothing : (a : Asked) → IsAskedSo a → a.form ≡ Other → needs_exact a.line.row ≡ true → context.info.exact ≡ false →
+      IsMade context operators (rewrite_of at a) → ⊥
+  exact_nothing a is form needs off =
+      let own = not_own a.line.row a.line.row.widths (sym form ∙ is.form_is) in
+      let line = is_line a.number a.line is.line own in
+      line_nothing context operators at a.number a.line is.line
+      (λ change made.
+      let so = made_by context operators a.line at change a.line.row.widths own made in
+      false≢true (sym off ∙ so.is.is.applies.exact (exacts a.line.row a.line.width (formed right a.line line) ∙ needs)))
+
+  module _ (exact : Bool) (exact_is : exact ≡ context.info.exact) (class : ℕ) (is_class : IsClassAt operators at class) where
+    other_apart : (a : Asked) → IsAskedSo a → a.form ≡ Other → by_form exact a.line.row Other (fits class true a.root) ≡ false →
+        IsMade context operators (rewrite_of at a) → ⊥
+    other_apart a is form off made = elim (not_ready exact (needs_exact a.line.row) (fits class true a.root) off) [
+      | inl h ↦ exact_nothing a is form h.1 (sym exact_is ∙ h.0) made
+      | inr h ↦ other_nothing class is_class a is h made
+    ]
+
     no_place : ((start : ℕ) (t : PrimitiveTypeInfo) → IsTree context operators start at t → ⊥) → (a : Asked) → IsAskedSo a →
-        IsSplit context operators at (is_candidate class) (λ a. None) a
+        IsSplit context operators at (is_candidate exact class) (λ a. None) a
     no_place none a is = record {
       apart = λ e. refl;
       grows = λ n e. absurd cc;
       never = λ off e made. by a.form refl off made;
     }
       where
-        by : (form : Form) → a.form ≡ form → is_candidate class a ≡ false → IsMade context operators (rewrite_of at a) → ⊥
-        by (Own o) e off made = other_nothing class is_class a is (sym (ap (λ f. by_form f (fits class true a.root)) e) ∙ off) made
+        by : (form : Form) → a.form ≡ form → is_candidate exact class a ≡ false → IsMade context operators (rewrite_of at a) → ⊥
+        by (Own o) e off made = other_nothing class is_class a is (sym (ap (λ f. by_form exact a.line.row f (fits class true a.root)) e) ∙ off) made
         by (Alone d) e off made = alone_nothing None none a is d e refl made
-        by Other e off made = other_nothing class is_class a is (sym (ap (λ f. by_form f (fits class true a.root)) e) ∙ off) made
+        by Other e off made = other_apart a is e (sym (ap (λ f. by_form exact a.line.row f (fits class true a.root)) e) ∙ off) made
 
     module _ (tree : Tree) (told : HasTree context operators at tree) (a : Asked) (is : IsAskedSo a) where
       has_growth : (d : Bool) → a.form ≡ Alone d → takes a.line.width d tree ≡ true → HasGrowth context operators Grows (rewrite_of at a)
@@ -239,10 +276,10 @@ module _ (types : TypesAreTold) (holes_are : HolesAreTold) (right : TableIsRight
           go true on e = (has_growth d form on, e)
           go false off e = absurd cc
 
-      never_made : (form : Form) → a.form ≡ form → by_form form (fits class true a.root) ≡ false → by_alone tree a form ≡ None →
+      never_made : (form : Form) → a.form ≡ form → by_form exact a.line.row form (fits class true a.root) ≡ false → by_alone tree a form ≡ None →
           IsMade context operators (rewrite_of at a) → ⊥
       never_made (Own o) form off none made = other_nothing class is_class a is off made
-      never_made Other form off none made = other_nothing class is_class a is off made
+      never_made Other form off none made = other_apart a is form off made
       never_made (Alone d) form off none made = go (takes a.line.width d tree) refl none
         where
           go : (b : Bool) → takes a.line.width d tree ≡ b → (if b then option_map (λ number. slot_of number Grows) (rule_of a.number) else None) ≡ None → ⊥
@@ -253,33 +290,33 @@ module _ (types : TypesAreTold) (holes_are : HolesAreTold) (right : TableIsRight
               unmapped (Some n) e = absurd cc
           go false no_take e = alone_nothing (Some tree) told a is d form (ap (λ b. if b then Some Grows else None) no_take) made
 
-      a_place : IsSplit context operators at (is_candidate class) (alone_slot tree) a
+      a_place : IsSplit context operators at (is_candidate exact class) (alone_slot tree) a
       a_place = record {
-        apart = candidate_apart class tree a a.form (fits class true a.root);
+        apart = candidate_apart exact class tree a a.form (fits class true a.root);
         grows = some_place a.form refl;
         never = never_made a.form refl;
       }
 
-    no_slots : (list : List Asked) → slots context operators at (is_candidate class) (λ a. None) list ≡ []
+    no_slots : (list : List Asked) → slots context operators at (is_candidate exact class) (λ a. None) list ≡ []
     no_slots [] = refl
     no_slots (a ∷ list) = no_slots list
 
-    same_slots : (tree : Tree) (list : List Asked) → slots context operators at (is_candidate class) (alone_slot tree) list ≡ alone_slots tree list
+    same_slots : (tree : Tree) (list : List Asked) → slots context operators at (is_candidate exact class) (alone_slot tree) list ≡ alone_slots tree list
     same_slots tree [] = refl
     same_slots tree (a ∷ list) = ap (λ ns. option_to_list (alone_slot tree a) ++ ns) (same_slots tree list)
 
     all_found : (o : Option Tree) → IsTreeAt context operators at o → (some : List Found) →
-        AreFound context operators (rewrites_of at (filter (is_candidate class) all_asked)) some →
+        AreFound context operators (rewrites_of at (filter (is_candidate exact class) all_asked)) some →
         Both context operators (rewrites_of at all_asked) some (of_tree o)
     all_found None told some are =
         subst (Both context operators (rewrites_of at all_asked) some) (no_slots all_asked)
-        (found_both context operators at (is_candidate class) (λ a. None) all_asked (λ n a e. no_place told a (is_asked n a e)) some are)
+        (found_both context operators at (is_candidate exact class) (λ a. None) all_asked (λ n a e. no_place told a (is_asked n a e)) some are)
     all_found (Some tree) told some are =
         subst (Both context operators (rewrites_of at all_asked) some) (same_slots tree all_asked)
-        (found_both context operators at (is_candidate class) (alone_slot tree) all_asked (λ n a e. a_place tree told a (is_asked n a e)) some are)
+        (found_both context operators at (is_candidate exact class) (alone_slot tree) all_asked (λ n a e. a_place tree told a (is_asked n a e)) some are)
 
     -- what is counted for candidates, and for lines of an operand alone, is all that is made of the operator
-    pub counts_all : (o : Option Tree) → IsTreeAt context operators at o → (lines : List Asked) → lines ≡ candidates class → (old mid new : List ℕ) →
+    pub counts_all : (o : Option Tree) → IsTreeAt context operators at o → (lines : List Asked) → lines ≡ candidates exact class → (old mid new : List ℕ) →
         CountsFound context operators (rewrites_of at lines) old mid → AddsCounts (slots_in (of_tree o)) mid new →
         CountsFound context operators (by_rows at 0 ROWS) old new
     counts_all o told lines are old mid new some more =

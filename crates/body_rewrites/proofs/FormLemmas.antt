@@ -61,6 +61,16 @@ is_line number line asked not_own = record {
 
 -- ---- by the form
 
+-- the types of the operands are told
+abbrev pub has_types : Widths → Bool
+has_types (Operands a b c) = true
+has_types w = false
+
+-- It is asked by its operand's tree: the left side is that operand alone, whose type the width tells.
+pub record IsAskedAlone (row : Row) (w : Widths) : Type 0 where
+  pub left : are_alone row.left ≡ true
+  pub untyped : has_types w ≡ false
+
 module _ (row : Row) where
   pub form_own : (w : Widths) (o : own_rules.Own) → form.Own o ≡ form_by row w → w ≡ Own o
   form_own Both o e = go (are_alone row.left) e
@@ -86,11 +96,11 @@ module _ (row : Row) where
   alone_cases d true h e = (h, cc)
   alone_cases d false h e = absurd cc
 
-  pub form_alone : (w : Widths) (d : Bool) → form.Alone d ≡ form_by row w → IsNotOwn w × (are_alone row.left ≡ true) × (d ≡ doubles row)
-  form_alone Both d e = let (a, b) = alone_cases d (are_alone row.left) refl e in (tt, a, b)
-  form_alone (Only t) d e = let (a, b) = alone_cases d (are_alone row.left) refl e in (tt, a, b)
+  pub form_alone : (w : Widths) (d : Bool) → form.Alone d ≡ form_by row w → IsNotOwn w × IsAskedAlone row w × (d ≡ doubles row)
+  form_alone Both d e = let (a, b) = alone_cases d (are_alone row.left) refl e in (tt, record { left = a; untyped = refl }, b)
+  form_alone (Only t) d e = let (a, b) = alone_cases d (are_alone row.left) refl e in (tt, record { left = a; untyped = refl }, b)
   form_alone (Operands a b c) d e = absurd cc
-  form_alone Any d e = let (a, b) = alone_cases d (are_alone row.left) refl e in (tt, a, b)
+  form_alone Any d e = let (a, b) = alone_cases d (are_alone row.left) refl e in (tt, record { left = a; untyped = refl }, b)
   form_alone (Own o) d e = absurd cc
 
 -- ---- what a change does to the number of operators

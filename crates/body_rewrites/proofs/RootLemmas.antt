@@ -35,11 +35,11 @@ use Rattle.body_rewrites.proofs.StandsLemmas.{Operators}
 use Rattle.body_rewrites.proofs.OperationCodeLemmas.{operation_class}
 use Rattle.body_rewrites.proofs.OwnAloneLemmas.{folded_at}
 
-class_small : (row : ℕ) → class_of row ≤ 168
-class_small row = go (nat_lt row 168) refl
+class_small : (row : ℕ) → class_of row ≤ 446
+class_small row = go (nat_lt row 446) refl
   where
-    go : (b : Bool) → nat_lt row 168 ≡ b → (if b then row else 168) ≤ 168
-    go true e = let l = leb-true (suc row) 168 e in omega arith
+    go : (b : Bool) → nat_lt row 446 ≡ b → (if b then row else 446) ≤ 446
+    go true e = let l = leb-true (suc row) 446 e in omega arith
     go false e = omega arith
 
 module _ (context : Context) (operators : Operators) (at : ℕ) where

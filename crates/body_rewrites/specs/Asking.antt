@@ -1,15 +1,15 @@
 -- The lines of the table, as operators are asked for them: for private functions (this project).
-use Rattle.std.specs.Prelude.{◌≡◌, ◌⊎◌, ◌↔◌, ℕ, suc, ◌≤◌, ◌<◌, ◌++◌, ⊤, Bool, true, false, List, [], ◌∷◌, map, length, Option, Some, None, slice_get}
+use Rattle.std.specs.Prelude.{◌≡◌, ◌⊎◌, ◌↔◌, ◌&&◌, ◌||◌, not, ℕ, suc, ◌≤◌, ◌<◌, ◌++◌, ⊤, Bool, true, false, List, [], ◌∷◌, map, length, Option, Some, None, slice_get}
 use Rattle.std.specs.Global.{Vec}
 use Rattle.std.specs.List.{filter}
 use Rattle.wasm_code.specs.declared.operator.Operator.{Operator}
 use Rattle.peephole_machine.specs.declared.integer.IntegerType.{IntegerType}
 use Rattle.peephole_machine.specs.Values.{Context}
 use Rattle.rewrite_rules.specs.declared.table.Row.{Row}
-use Rattle.rewrite_rules.specs.Table.{ROWS}
+use Rattle.rewrite_rules.specs.Table.{ROWS, needs_exact}
 use Rattle.body_rewrites.specs.declared.asked.Asked.{Asked}
 use Rattle.body_rewrites.specs.declared.asked.Form.{Form}
-use Rattle.body_rewrites.specs.declared.asked.Form.TheVariants.{Alone}
+use Rattle.body_rewrites.specs.declared.asked.Form.TheVariants.{Own, Alone, Other}
 use Rattle.body_rewrites.specs.declared.here.Here.{Here}
 use Rattle.body_rewrites.specs.declared.rewrite.Rewrite.{Rewrite}
 use Rattle.body_rewrites.specs.declared.root.Root.{Root}
@@ -74,13 +74,14 @@ pub record IsHere (context : Context) (operators : List (Operator × ℕ)) (here
 
 -- ---- which of them are asked where an instruction of a class stands
 
--- the line may apply there, and its left side is no operand alone
-abbrev pub by_form : Form → Bool → Bool
-by_form (Alone doubles) b = false
-by_form form b = b
+-- the line may apply there, its left side is no operand alone, and what runs the module is exact where the row has to be
+abbrev pub by_form : (exact : Bool) → Row → Form → Bool → Bool
+by_form exact row (Own o) b = b
+by_form exact row (Alone doubles) b = false
+by_form exact row Other b = (exact || not (needs_exact row)) && b
 
-abbrev pub is_candidate : (class : ℕ) → Asked → Bool
-is_candidate class asked = by_form asked.form (fits class true asked.root)
+abbrev pub is_candidate : (exact : Bool) → (class : ℕ) → Asked → Bool
+is_candidate exact class asked = by_form exact asked.line.row asked.form (fits class true asked.root)
 
 -- its left side is one
 abbrev pub form_alone : Form → Bool
@@ -90,8 +91,8 @@ form_alone form = false
 abbrev pub is_alone : Asked → Bool
 is_alone asked = form_alone asked.form
 
-abbrev pub candidates : (class : ℕ) → List Asked
-candidates class = filter (is_candidate class) all_asked
+abbrev pub candidates : (exact : Bool) → (class : ℕ) → List Asked
+candidates exact class = filter (is_candidate exact class) all_asked
 
 -- the class is marked
 abbrev pub IsUsed : (used : List Bool) → (class : ℕ) → Type 0
@@ -107,10 +108,10 @@ NoneServes used row (w ∷ ws) = NoneStands used (root_of (record { row = row; w
 
 -- From the first to before the second are the classes where a line with the root may apply, and where the line is a candidate.
 abbrev pub AreRootClasses : Root → (classes : ℕ × ℕ) → Type 0
-AreRootClasses root classes = (class : ℕ) → class < 169 → (fits class true root ≡ true) ↔ ((classes.0 ≤ class) × (class < classes.1))
+AreRootClasses root classes = (class : ℕ) → class < 447 → (fits class true root ≡ true) ↔ ((classes.0 ≤ class) × (class < classes.1))
 
-abbrev pub AreCandidateClasses : Asked → (classes : ℕ × ℕ) → Type 0
-AreCandidateClasses asked classes = (class : ℕ) → class < 169 → (is_candidate class asked ≡ true) ↔ ((classes.0 ≤ class) × (class < classes.1))
+abbrev pub AreCandidateClasses : (exact : Bool) → Asked → (classes : ℕ × ℕ) → Type 0
+AreCandidateClasses exact asked classes = (class : ℕ) → class < 447 → (is_candidate exact class asked ≡ true) ↔ ((classes.0 ≤ class) × (class < classes.1))
 
 -- there are so many lists, all of them empty
 pub record AreEmpty (count : ℕ) (lists : List (Vec Asked)) : Type 0 where
@@ -125,11 +126,11 @@ pub record AddsLine (asked : Asked) (used : List Bool) (classes : ℕ × ℕ) (o
   pub beyond : (class : ℕ) → (class < classes.0) ⊎ (classes.1 ≤ class) → slice_get new class ≡ slice_get old class
 
 -- There is a list for each class, with the candidates among the lines where the class is marked.
-pub record AreLists (used : List Bool) (lines : List Asked) (lists : List (Vec Asked)) : Type 0 where
-  pub long : length lists ≡ 169
-  pub each : (class : ℕ) (v : Vec Asked) → slice_get lists class ≡ Some v → IsUsed used class → v.items ≡ filter (is_candidate class) lines
+pub record AreLists (exact : Bool) (used : List Bool) (lines : List Asked) (lists : List (Vec Asked)) : Type 0 where
+  pub long : length lists ≡ 447
+  pub each : (class : ℕ) (v : Vec Asked) → slice_get lists class ≡ Some v → IsUsed used class → v.items ≡ filter (is_candidate exact class) lines
 
 -- So there is, and a list of those lines that are of an operand alone.
-pub record AreLaidOut (used : List Bool) (lines : List Asked) (lists : List (Vec Asked)) (alone : List Asked) : Type 0 where
-  pub by_class : AreLists used lines lists
+pub record AreLaidOut (exact : Bool) (used : List Bool) (lines : List Asked) (lists : List (Vec Asked)) (alone : List Asked) : Type 0 where
+  pub by_class : AreLists exact used lines lists
   pub apart : alone ≡ filter is_alone lines

@@ -101,8 +101,18 @@ alone_told trees at = of_tree (option_flatten (slice_get trees at))
 
 -- The classes of the body's operators are marked.
 pub record AreUsed (operators : List (Operator × ℕ)) (used : List Bool) : Type 0 where
-  pub count : length used ≡ 169
+  pub count : length used ≡ 447
   pub each : (at : ℕ) → at < length operators → IsUsed used (class_told operators at)
+
+-- what lines are laid out for: the classes that are marked, and whether what runs the module is exact
+pub record Laying : Type 0 where
+  pub used : List Bool
+  pub exact : Bool
+
+-- They are laid out for the body: its classes are marked, and it is told whether what runs its module is exact.
+pub record AreFor (context : Context) (operators : List (Operator × ℕ)) (laying : Laying) : Type 0 where
+  pub used : AreUsed operators laying.used
+  pub exact : laying.exact ≡ context.info.exact
 
 -- ---- the counts of a body
 

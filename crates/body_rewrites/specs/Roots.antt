@@ -27,9 +27,9 @@ use Rattle.body_rewrites.specs.Places.{left_parts}
 
 -- ---- classes of instructions
 
--- that of the instructions of a row: its number, and one for all rows that no line of the table names
+-- that of the instructions of a row of the instruction table, of which there are 446: its number; and one more for what is no such instruction
 abbrev pub class_of : (row : ℕ) → ℕ
-class_of row = if nat_lt row 168 then row else 168
+class_of row = if nat_lt row 446 then row else 446
 
 -- it is that of the instruction that stands at the operator, if one does
 abbrev pub IsClassAt : List (Operator × ℕ) → (at class : ℕ) → Type 0
@@ -38,7 +38,7 @@ IsClassAt operators at class = (i : Instruction) → HasInstruction operators at
 -- that of the operator there
 abbrev pub class_in : Option Operator → ℕ
 class_in (Some (Instr i)) = class_of i.row
-class_in o = 168
+class_in o = 446
 
 abbrev pub class_told : List (Operator × ℕ) → (at : ℕ) → ℕ
 class_told operators at = class_in (slice_get (map (λ (o : Operator × ℕ). o.0) operators) at)
@@ -82,7 +82,7 @@ abbrev pub own_root : own_rules.Own → Root
 own_root own.Unfold = root.Classes 36 37
 own_root own.ThroughGlobal = root.Tree
 own_root own.WithNop = root.Tree
-own_root own.Fold = root.Classes 40 168
+own_root own.Fold = root.Classes 40 446
 own_root own.Forget = root.Classes 2 2
 own_root own.TeeToSet = root.Classes 6 6
 own_root own.DropNop = root.Classes 0 0

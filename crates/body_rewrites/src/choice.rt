@@ -11,7 +11,7 @@ ghost use Rattle.body_rewrites.specs.Counting.{IsOpenBy, HasOpenBy};
 use crate::counter::Counter;
 use crate::counts::{count_of, counts_of_body, rewrite_with_number};
 use crate::growth::Growth;
-use crate::places::Body;
+use crate::places::{Body, is_exact};
 use crate::rewrite::Rewrite;
 use rand_core::Rng;
 use rewrite_rules::Rule;
@@ -126,7 +126,7 @@ pub fn choose<R: Rng>(
     ensures kept { IfOk result (λ o. IfNone o (generator.new ≡ generator.old)) }
     ensures refused { OnErr result (IsBegun (R.stream generator.old) (R.stream generator.new)) }
 {
-    let counter = Counter::new(alloc, body.operators)?;
+    let counter = Counter::new(alloc, body.operators, is_exact(body))?;
     let counted = counts_of_body(alloc, body, &counter)?;
     let counts = counted.as_slice();
     let kinds = open_growths(alloc, rules, wanted, counts)?;

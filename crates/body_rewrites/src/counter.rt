@@ -26,6 +26,8 @@ pub(crate) struct Counter {
     rules: Vec<u16>,
     // The classes of the body's instructions.
     used: Vec<bool>,
+    // Whether what runs the body's module is exact.
+    exact: bool,
     // For each of these the lines that may apply where such an instruction stands, but those of an operand alone.
     lists: Vec<Vec<Asked>>,
     // The places of the counts of what the lines of an operand alone make of a tree, by its type, and by whether it writes or asks.
@@ -40,14 +42,14 @@ impl Model for Counter {
     ghost use Rattle.wasm_types.specs.declared.types.PrimitiveTypeInfo.TheVariants.{I32, I64};
     ghost use Rattle.body_rewrites.specs.Listing.{AreRules};
     ghost use Rattle.body_rewrites.specs.Asking.{all_asked, AreLists};
-    ghost use Rattle.body_rewrites.specs.Counting.{sample, alone_slots};
+    ghost use Rattle.body_rewrites.specs.Counting.{sample, alone_slots, Laying};
 
-    ghost Value = { List Bool };
+    ghost Value = { Laying };
 
-    ghost view = { λ c. c.used.items };
+    ghost view = { λ c. record { used = c.used.items; exact = c.exact } };
 
     ghost invariant = { λ c. AreRules c.rules.items
-        × (length c.used.items ≡ 169) × AreLists c.used.items all_asked c.lists.items
+        × (length c.used.items ≡ 447) × AreLists c.exact c.used.items all_asked c.lists.items
         × (c.calm_i32.items ≡ alone_slots (sample I32 false) all_asked)
         × (c.busy_i32.items ≡ alone_slots (sample I32 true) all_asked)
         × (c.calm_i64.items ≡ alone_slots (sample I64 false) all_asked)
@@ -58,14 +60,14 @@ impl Model for Counter {
 fn used_classes(alloc: Global, operators: &[OperatorAndByteOffset]) -> Result<Vec<bool>, AllocError>
     ensures { IfOk result (λ used. AreUsed operators.now used.items) }
 {
-    let mut used = vec![in alloc; false; 169]?;
+    let mut used = vec![in alloc; false; 447]?;
     mark_classes(operators, &mut used);
     Ok(used)
 }
 
 // Marks the classes of the instructions.
 fn mark_classes(operators: &[OperatorAndByteOffset], used: &mut [bool])
-    requires { length used.old ≡ 169 }
+    requires { length used.old ≡ 447 }
     ensures { AreUsed operators.now used.new }
 {
     for at in 0..operators.len() {
@@ -157,16 +159,18 @@ fn is_busy(tree: Tree) -> bool
 }
 
 impl Counter {
-    /// The lines, laid out for a body. The only error is that memory was refused.
+    /// The lines, laid out for a body, what runs whose module is exact or not. The only error is that memory was refused.
     pub(crate) fn new(
         alloc: Global,
         operators: &[OperatorAndByteOffset],
+        exact: bool,
     ) -> Result<Counter, AllocError>
-        ensures { IfOk result (λ counter. AreUsed operators.now counter) }
+        ensures used { IfOk result (λ counter. AreUsed operators.now counter.used) }
+        ensures exact { IfOk result (λ counter. counter.exact ≡ exact) }
     {
         let rules = rules_of_rows(alloc)?;
         let used = used_classes(alloc, operators)?;
-        let (lists, lone) = lay_out(alloc, used.as_slice())?;
+        let (lists, lone) = lay_out(alloc, exact, used.as_slice())?;
         let alone = lone.as_slice();
         let rows = rules.as_slice();
         let calm_i32 = alone_slots(alloc, rows, alone, sample(PrimitiveTypeInfo::I32, false))?;
@@ -176,6 +180,7 @@ impl Counter {
         Ok(Counter {
             rules,
             used,
+            exact,
             lists,
             calm_i32,
             busy_i32,
@@ -191,10 +196,11 @@ impl Counter {
         self.rules.as_slice()
     }
 
-    /// The lines that may apply where an instruction of the class stands, but those of an operand alone.
+    /// The lines that may apply where an instruction of the class stands, but those of an operand alone, and those on exact rows where
+    /// what runs the module isn't exact.
     pub(crate) fn candidates(&self, class: usize) -> &[Asked]
-        requires { IsUsed self.now class }
-        ensures { result.now ≡ candidates class }
+        requires { IsUsed self.now.used class }
+        ensures { result.now ≡ candidates self.now.exact class }
     {
         list_at(self.lists.as_slice(), class)
     }

@@ -10,7 +10,7 @@ ghost use Rattle.body_rewrites.specs.Rewrites.{asked_below, by_rows};
 ghost use Rattle.body_rewrites.specs.Asking.{all_asked, rewrite_of, rewrites_of, AreAsked, IsAskedSo, IsHere};
 ghost use Rattle.body_rewrites.specs.Listing.{AreThose, AreRules, HasGrowth};
 ghost use Rattle.body_rewrites.specs.Choice.{IsOf};
-ghost use Rattle.body_rewrites.specs.Counting.{growth_number, slot_of, slot_in, slots_in, alone_told, AddsCounts, count_in, HaveRoom, HasCount, AreCounts, CountsFound, AreUsed, is_number, is_of, asked_of, FindsIn};
+ghost use Rattle.body_rewrites.specs.Counting.{growth_number, slot_of, slot_in, slots_in, alone_told, AddsCounts, count_in, HaveRoom, HasCount, AreCounts, CountsFound, AreFor, is_number, is_of, asked_of, FindsIn};
 
 use crate::asked::{Asked, add_numbered};
 use crate::counter::Counter;
@@ -23,8 +23,8 @@ use crate::line_growth::growth_here;
 use crate::places::Body;
 use crate::rewrite::Rewrite;
 use rewrite_rules::laws::{
-    holes_are_told, parts_are_the_code, rows_are_few, rules_are_named, sides_are_parts,
-    table_is_right, types_are_told,
+    exact_rows_are_told, holes_are_told, parts_are_the_code, rows_are_few, rules_are_named,
+    sides_are_parts, table_is_right, types_are_told,
 };
 use rewrite_rules::{Rule, row_count};
 use std::alloc::{AllocError, Global};
@@ -138,7 +138,7 @@ fn count_alone(body: &Body<'_>, counter: &Counter, at: usize, counts: &mut [u128
 // Counts all rewrites of the operator.
 fn count_at(body: &Body<'_>, counter: &Counter, at: usize, counts: &mut [u128])
     requires trees { HasItsTrees body.now }
-    requires used { AreUsed body.now.operators.now counter.now }
+    requires laid { AreFor (context_of body.now) body.now.operators.now counter.now }
     requires inside { at < length body.now.operators.now }
     requires room { HaveRoom 131072 counts.old }
     ensures { CountsFound (context_of body.now) body.now.operators.now
@@ -151,6 +151,7 @@ fn count_at(body: &Body<'_>, counter: &Counter, at: usize, counts: &mut [u128])
     parts_are_the_code();
     lefts_are_instances();
     trees_leave();
+    exact_rows_are_told();
     let here = here_at(body, at);
     let lines = counter.candidates(here.class);
     count_lines(body, counter.rules(), lines, here, counts);
@@ -160,7 +161,7 @@ fn count_at(body: &Body<'_>, counter: &Counter, at: usize, counts: &mut [u128])
 // Counts all rewrites of the body.
 fn count_body(body: &Body<'_>, counter: &Counter, counts: &mut [u128])
     requires trees { HasItsTrees body.now }
-    requires used { AreUsed body.now.operators.now counter.now }
+    requires laid { AreFor (context_of body.now) body.now.operators.now counter.now }
     requires counts { AreCounts (context_of body.now) body.now.operators.now 0 counts.old }
     ensures { AreCounts (context_of body.now) body.now.operators.now
         (length body.now.operators.now) counts.new }
@@ -208,7 +209,7 @@ pub(crate) fn counts_of_body(
     counter: &Counter,
 ) -> Result<Vec<u128>, AllocError>
     requires trees { HasItsTrees body.now }
-    requires used { AreUsed body.now.operators.now counter.now }
+    requires laid { AreFor (context_of body.now) body.now.operators.now counter.now }
     ensures { IfOk result (λ counts. AreCounts (context_of body.now) body.now.operators.now
         (length body.now.operators.now) counts.items) }
 {

@@ -1,10 +1,10 @@
 //! The lines of the table, laid out by the classes of instructions where they may apply.
-ghost use Rattle.std.specs.Prelude.{◌≡◌, ◌++◌, ◌<◌, ◌≤◌, [], ◌∷◌, ℕ, List, false, length, get_or, IfOk, OnOk};
+ghost use Rattle.std.specs.Prelude.{◌≡◌, ◌↔◌, ◌&&◌, true, ◌++◌, ◌<◌, ◌≤◌, [], ◌∷◌, ℕ, List, false, length, get_or, IfOk, OnOk};
 ghost use Rattle.rewrite_rules.specs.declared.table.Row.{Row};
 ghost use Rattle.body_rewrites.specs.Alone.{form_of};
 ghost use Rattle.body_rewrites.specs.Asking.{all_asked, asked_as, asked_for, AddsLine, AreLaidOut, AreRootClasses, AreCandidateClasses, AreEmpty, NoneStands, NoneServes, is_alone, form_alone};
 ghost use Rattle.body_rewrites.specs.Rewrites.{asked_widths};
-ghost use Rattle.body_rewrites.specs.Roots.{root_of};
+ghost use Rattle.body_rewrites.specs.Roots.{fits, root_of};
 
 use crate::alone::form_of;
 use crate::asked::{Asked, Form, asked_as, widths_of};
@@ -15,36 +15,45 @@ use peephole_machine::IntegerType;
 use rewrite_rules::{TableRow, row_count};
 use std::alloc::{AllocError, Global};
 
-// The class behind the last one, of which there are 169.
+// The class behind the last one, of which there are 447.
 fn behind_class(last: usize) -> usize
-    ensures same { (class : ℕ) → class < 169 → class ≤ last → class < result }
+    ensures same { (class : ℕ) → class < 447 → class ≤ last → class < result }
     ensures only { (class : ℕ) → class < result → class ≤ last }
-    ensures inside { result ≤ 169 }
+    ensures inside { result ≤ 447 }
 {
-    if last < 168 { last + 1 } else { 169 }
+    if last < 446 { last + 1 } else { 447 }
 }
 
 // The first class and the one behind the last of the instructions where a line with the root may apply.
 fn classes_of_root(root: Root) -> (usize, usize)
     ensures are { AreRootClasses root result }
-    ensures inside { result.1 ≤ 169 }
+    ensures inside { result.1 ≤ 447 }
 {
     match root {
         Root::Classes(first, last) => (first, behind_class(last)),
-        Root::Tree => (0, 169),
-        Root::Any => (0, 169),
+        Root::Tree => (0, 447),
+        Root::Any => (0, 447),
     }
 }
 
+// The same of a line whose row is ready, as what runs the module is exact where the row has to be; else none.
+fn classes_if_ready(ready: bool, root: Root) -> (usize, usize)
+    ensures are { (class : ℕ) → class < 447 → ((ready && fits class true root) ≡ true)
+        ↔ ((result.0 ≤ class) × (class < result.1)) }
+    ensures inside { result.1 ≤ 447 }
+{
+    if ready { classes_of_root(root) } else { (0, 0) }
+}
+
 // The same of the line; none where its left side is an operand alone.
-fn classes_of(asked: &Asked) -> (usize, usize)
-    ensures are { AreCandidateClasses asked.now result }
-    ensures inside { result.1 ≤ 169 }
+fn classes_of(asked: &Asked, exact: bool) -> (usize, usize)
+    ensures are { AreCandidateClasses exact asked.now result }
+    ensures inside { result.1 ≤ 447 }
 {
     match asked.form {
         Form::Own(_) => classes_of_root(asked.root),
         Form::Alone(_) => (0, 0),
-        Form::Other => classes_of_root(asked.root),
+        Form::Other => classes_if_ready(asked.line.row.is_ready(exact), asked.root),
     }
 }
 
@@ -88,22 +97,23 @@ fn is_alone(asked: &Asked) -> bool
 // Adds the line: among those of an operand alone, or to the lists of the used classes where it may apply.
 fn add_line(
     asked: &Asked,
+    exact: bool,
     used: &[bool],
     lists: &mut [Vec<Asked>],
     alone: &mut Vec<Asked>,
 ) -> Result<(), AllocError>
-    requires used { length used.now ≡ 169 }
-    requires lists { length lists.old ≡ 169 }
+    requires used { length used.now ≡ 447 }
+    requires lists { length lists.old ≡ 447 }
     ensures added { OnOk result ((lines : List Asked)
-        → AreLaidOut used.now lines lists.old alone.old.items
-        → AreLaidOut used.now (lines ++ asked.now ∷ []) lists.new alone.new.items) }
-    ensures long { OnOk result (length lists.new ≡ 169) }
+        → AreLaidOut exact used.now lines lists.old alone.old.items
+        → AreLaidOut exact used.now (lines ++ asked.now ∷ []) lists.new alone.new.items) }
+    ensures long { OnOk result (length lists.new ≡ 447) }
 {
     if is_alone(asked) {
         alone.push(asked.again())?;
         return Ok(());
     }
-    add_candidate(asked, classes_of(asked), used, lists)
+    add_candidate(asked, classes_of(asked, exact), used, lists)
 }
 
 // Whether an instruction of a used class may stand where a line with the root applies. Of several classes it looks at none.
@@ -149,16 +159,17 @@ fn may_serve(row: &TableRow, form: Form, used: &[bool]) -> bool
 fn add_row(
     number: usize,
     row: TableRow,
+    exact: bool,
     used: &[bool],
     lists: &mut [Vec<Asked>],
     alone: &mut Vec<Asked>,
 ) -> Result<(), AllocError>
-    requires used { length used.now ≡ 169 }
-    requires lists { length lists.old ≡ 169 }
+    requires used { length used.now ≡ 447 }
+    requires lists { length lists.old ≡ 447 }
     ensures added { OnOk result ((lines : List Asked)
-        → AreLaidOut used.now lines lists.old alone.old.items
-        → AreLaidOut used.now (lines ++ asked_for number row) lists.new alone.new.items) }
-    ensures long { OnOk result (length lists.new ≡ 169) }
+        → AreLaidOut exact used.now lines lists.old alone.old.items
+        → AreLaidOut exact used.now (lines ++ asked_for number row) lists.new alone.new.items) }
+    ensures long { OnOk result (length lists.new ≡ 447) }
 {
     let form = form_of(&row);
     if !may_serve(&row, form, used) {
@@ -167,22 +178,29 @@ fn add_row(
     let (width, more) = widths_of(row.widths());
     add_line(
         &asked_as(number, row.again(), form, width),
+        exact,
         used,
         lists,
         alone,
     )?;
     match more {
-        Some(width) => add_line(&asked_as(number, row, form, width), used, lists, alone),
+        Some(width) => add_line(
+            &asked_as(number, row, form, width),
+            exact,
+            used,
+            lists,
+            alone,
+        ),
         None => Ok(()),
     }
 }
 
 // An empty list for each class.
 fn empty_lists(alloc: Global) -> Result<Vec<Vec<Asked>>, AllocError>
-    ensures { IfOk result (λ lists. AreEmpty 169 lists.items) }
+    ensures { IfOk result (λ lists. AreEmpty 447 lists.items) }
 {
     let mut lists = Vec::new(alloc);
-    for _ in 0..169usize {
+    for _ in 0..447usize {
         lists.push(Vec::new(alloc))?;
     }
     Ok(lists)
@@ -190,32 +208,35 @@ fn empty_lists(alloc: Global) -> Result<Vec<Vec<Asked>>, AllocError>
 
 // Adds the lines of all rows.
 fn add_rows(
+    exact: bool,
     used: &[bool],
     lists: &mut [Vec<Asked>],
     alone: &mut Vec<Asked>,
 ) -> Result<(), AllocError>
-    requires used { length used.now ≡ 169 }
-    requires none { AreLaidOut used.now [] lists.old alone.old.items }
-    ensures { OnOk result (AreLaidOut used.now all_asked lists.new alone.new.items) }
+    requires used { length used.now ≡ 447 }
+    requires none { AreLaidOut exact used.now [] lists.old alone.old.items }
+    ensures { OnOk result (AreLaidOut exact used.now all_asked lists.new alone.new.items) }
 {
     for number in 0..row_count() {
         if let Some(row) = TableRow::numbered(number) {
-            add_row(number, row, used, lists, alone)?;
+            add_row(number, row, exact, used, lists, alone)?;
         }
     }
     Ok(())
 }
 
-/// For each used class the lines that may apply where such an instruction stands, but those of an operand alone; and these.
+/// For each used class the lines that may apply where such an instruction stands, but those of an operand alone, and those on exact rows
+/// where what runs the module isn't exact; and those of an operand alone.
 pub(crate) fn lay_out(
     alloc: Global,
+    exact: bool,
     used: &[bool],
 ) -> Result<(Vec<Vec<Asked>>, Vec<Asked>), AllocError>
-    requires { length used.now ≡ 169 }
-    ensures { IfOk result (λ laid. AreLaidOut used.now all_asked laid.0.items laid.1.items) }
+    requires { length used.now ≡ 447 }
+    ensures { IfOk result (λ laid. AreLaidOut exact used.now all_asked laid.0.items laid.1.items) }
 {
     let mut lists = empty_lists(alloc)?;
     let mut alone = Vec::new(alloc);
-    add_rows(used, &mut lists, &mut alone)?;
+    add_rows(exact, used, &mut lists, &mut alone)?;
     Ok((lists, alone))
 }

@@ -120,8 +120,8 @@ fn start_of(starts: &[usize], end: usize) -> usize
     }
 }
 
-// Whether what runs the body's module is exact.
-fn is_exact(body: &Body<'_>) -> bool
+/// Whether what runs the body's module is exact.
+pub(crate) fn is_exact(body: &Body<'_>) -> bool
     ensures { result ≡ (context_of body.now).info.exact }
 {
     let info = body.info;

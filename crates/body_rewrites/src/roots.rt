@@ -13,23 +13,23 @@ use peephole_machine::{IntegerType, Operation};
 use rewrite_rules::{Operator, Own, Step, Widths};
 use wasm_code::OperatorAndByteOffset;
 
-// The class of the instructions of a row: its number, and one for all rows that no line of the table names.
+// The class of the instructions of a row of the instruction table, of which there are 446: its number; and one more for what is none.
 fn class_of(row: u16) -> usize
     ensures is { result ≡ class_of row }
-    ensures small { result ≤ 168 }
+    ensures small { result ≤ 446 }
 {
-    if row < 168 { row as usize } else { 168 }
+    if row < 446 { row as usize } else { 446 }
 }
 
 /// The class of the instruction that stands at the operator; any where none does.
 pub(crate) fn class_at(operators: &[OperatorAndByteOffset], at: usize) -> usize
     ensures is { IsClassAt operators.now at result }
     ensures told { result ≡ class_told operators.now at }
-    ensures small { result ≤ 168 }
+    ensures small { result ≤ 446 }
 {
     match instr_at(operators, at) {
         Some(instr) => class_of(instr.row()),
-        None => 168,
+        None => 446,
     }
 }
 
@@ -84,7 +84,7 @@ fn own_root(own: Own) -> Root
         Own::Unfold => Root::Classes(36, 37),
         Own::ThroughGlobal => Root::Tree,
         Own::WithNop => Root::Tree,
-        Own::Fold => Root::Classes(40, 168),
+        Own::Fold => Root::Classes(40, 446),
         Own::Forget => Root::Classes(2, 2),
         Own::TeeToSet => Root::Classes(6, 6),
         Own::DropNop => Root::Classes(0, 0),

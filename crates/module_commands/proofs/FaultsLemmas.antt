@@ -19,7 +19,7 @@ use Rattle.module_commands.specs.Lines.{rewrite_line}
 use Rattle.module_commands.specs.Lists.{InTurn}
 use Rattle.module_commands.specs.Reports.{TellsIfUnread, TellsUnreadable, made_lines}
 use Rattle.module_commands.specs.declared.failure.Failure.{Failure}
-use Rattle.module_commands.specs.declared.failure.Failure.TheVariants.{Nothing, Input, TooLong, Component, TextFormat, Output, Memory}
+use Rattle.module_commands.specs.declared.failure.Failure.TheVariants.{Nothing, Input, TooLong, Component, TextFormat, SharedMemory, Output, Memory}
 use Rattle.module_commands.specs.declared.form.Form.{Form}
 use Rattle.module_commands.specs.declared.options.Options.{Options}
 use Rattle.module_commands.specs.declared.options.Task.{Task}
@@ -95,6 +95,7 @@ read_fails only bytes Input h = absurd h
 read_fails only bytes TooLong h = absurd h
 read_fails only bytes Component h = absurd h
 read_fails only bytes TextFormat h = absurd h
+read_fails only bytes SharedMemory h = absurd h
 read_fails only bytes Output h = tt
 read_fails only bytes Memory h = tt
 
@@ -127,6 +128,10 @@ task_fails Rewrite options bytes TextFormat none h = absurd h
 task_fails Lists options bytes TextFormat none h = absurd h
 task_fails Blocks options bytes TextFormat none h = absurd h
 task_fails (Rules form) options bytes TextFormat none h = absurd h
+task_fails Rewrite options bytes SharedMemory none h = absurd h
+task_fails Lists options bytes SharedMemory none h = absurd h
+task_fails Blocks options bytes SharedMemory none h = absurd h
+task_fails (Rules form) options bytes SharedMemory none h = absurd h
 task_fails task options bytes Output none h = h
 task_fails task options bytes Memory none h = h
 
@@ -136,5 +141,6 @@ report_fails only bytes Input h = absurd h
 report_fails only bytes TooLong h = absurd h
 report_fails only bytes Component h = absurd h
 report_fails only bytes TextFormat h = absurd h
+report_fails only bytes SharedMemory h = absurd h
 report_fails only bytes Output h = tt
 report_fails only bytes Memory h = tt

@@ -10,7 +10,7 @@ use Rattle.wasm_module.specs.Module.{Layout}
 use Rattle.peephole_machine.specs.Values.{context_in}
 use Rattle.body_rewrites.specs.declared.rewrite.Rewrite.{Rewrite}
 use Rattle.module_rewrites.specs.Function.{IsFunction}
-use Rattle.module_rewrites.specs.Scope.{Scope}
+use Rattle.module_rewrites.specs.Scope.{Scope, IsMarked}
 use Rattle.module_commands.specs.Lines.{rewrite_line, rewrite_lines}
 use Rattle.module_commands.specs.Lists.{AreTheRewrites, ListsFunction}
 use Rattle.module_commands.specs.declared.form.Form.{Form}
@@ -41,11 +41,12 @@ Operators = List (Operator × ℕ)
 -- the lines of a function that was read
 pub lists_function : (form : Form) (scope lent : Scope) (bytes : List ℕ) (info : Module) (layout : Layout) (n : ℕ) (locals : Types)
     (expression : ℕ) (operators : Operators) (list : List Rewrite) (index : ℕ) (text : List ℕ) → lent ≡ scope →
-    IsFunction bytes info layout n locals expression operators →
+    IsMarked scope info → IsFunction bytes info layout n locals expression operators →
     ((l : Types) (x : ℕ) (o : Operators) → IsFunction bytes info layout n l x o → (locals ≡ l) × (operators ≡ o)) →
     AreTheRewrites (context_in info locals) lent operators list → (layout.imported_functions + n < 2 ^ 64 → index ≡ layout.imported_functions + n) →
     text ≡ rewrite_lines form index list → ListsFunction form scope bytes info layout n text
-lists_function form scope lent bytes info layout n locals expression operators list index text scope_is f only are at is = record {
+lists_function form scope lent bytes info layout n locals expression operators list index text scope_is marked f only are at is = record {
+  marked = marked;
   list = list;
   are = λ l x o k.
       let s = only l x o k in
@@ -57,9 +58,10 @@ lists_function form scope lent bytes info layout n locals expression operators l
 }
 
 -- the lines of one that can't be read: none
-pub lists_nothing : (form : Form) (scope : Scope) (bytes : List ℕ) (info : Module) (layout : Layout) (n : ℕ) →
+pub lists_nothing : (form : Form) (scope : Scope) (bytes : List ℕ) (info : Module) (layout : Layout) (n : ℕ) → IsMarked scope info →
     ((l : Types) (x : ℕ) (o : Operators) → IsFunction bytes info layout n l x o → ⊥) → ListsFunction form scope bytes info layout n []
-lists_nothing form scope bytes info layout n never = record {
+lists_nothing form scope bytes info layout n marked never = record {
+  marked = marked;
   list = [];
   are = λ l x o f. absurd (never l x o f);
   none = λ _. refl;

@@ -23,9 +23,9 @@ use Rattle.module_commands.specs.declared.options.Options.{Options}
 pub rewritten_outcome : (options : Options) (scope : Scope) (count : ℕ) (bytes module_bytes written : List ℕ) (made given : List MadeRewrite)
     (stopped told : Option MutationError) → scope ≡ scope_of options → IsDoseOf options.dose scope.function bytes count →
     Mutates scope count bytes made module_bytes stopped →
-    ChoosesTimes scope bytes (seeded options.seed) made module_bytes stopped → DoesAsBefore bytes module_bytes → given ≡ made → told ≡ stopped →
-    IsWrittenAs options.strip_debug module_bytes written → ((start : List ℕ) → DoesAsBefore start module_bytes → DoesAsBefore start written) →
-    IsOutcome options count bytes given told written
+    ChoosesTimes scope bytes (seeded options.seed) made module_bytes stopped → DoesAsBefore scope.exact bytes module_bytes → given ≡ made → told ≡ stopped →
+    IsWrittenAs options.strip_debug module_bytes written →
+    ((exact : Bool) (start : List ℕ) → DoesAsBefore exact start module_bytes → DoesAsBefore exact start written) → IsOutcome options count bytes given told written
 rewritten_outcome options scope count bytes module_bytes written made given stopped told is counted mutates chosen does made_is stopped_is as_written after =
     subst (λ (s : Option MutationError). IsOutcome options count bytes given s written) (sym stopped_is)
     (subst (λ (ms : List MadeRewrite). IsOutcome options count bytes ms stopped written) (sym made_is) (record {
@@ -36,7 +36,7 @@ rewritten_outcome options scope count bytes module_bytes written made given stop
         chosen = subst (λ (s : Scope). ChoosesTimes s bytes (seeded options.seed) made module_bytes stopped) is chosen;
       });
       is_written = as_written;
-      does = after bytes does;
+      does = after options.exact bytes (subst (λ (s : Scope). DoesAsBefore s.exact bytes module_bytes) is does);
     }))
 
 -- of one that is left as it is
@@ -44,8 +44,8 @@ pub left_outcome : (options : Options) (count : ℕ) (bytes module_bytes written
     (stopped told : Option MutationError) → IsDoseOf options.dose options.function bytes count → IsReason (scope_of options) bytes reason →
     (IsForSize reason → GivesUp (scope_of options) bytes (seeded options.seed)) → leaves_by options bytes reason ≡ true → module_bytes ≡ bytes →
     made ≡ [] → stopped ≡ stopped_by reason → given ≡ made → told ≡ stopped → IsWrittenAs options.strip_debug module_bytes written →
-    ((start : List ℕ) → DoesAsBefore start module_bytes → DoesAsBefore start written) → DoesAsBefore bytes module_bytes →
-    IsOutcome options count bytes given told written
+    ((exact : Bool) (start : List ℕ) → DoesAsBefore exact start module_bytes → DoesAsBefore exact start written) →
+    ((exact : Bool) → DoesAsBefore exact bytes module_bytes) → IsOutcome options count bytes given told written
 left_outcome options count bytes module_bytes written reason made given stopped told counted is gives_up left same none stopped_for made_is stopped_is as_written after does =
     subst (λ (s : Option MutationError). IsOutcome options count bytes given s written) (sym stopped_is)
     (subst (λ (ms : List MadeRewrite). IsOutcome options count bytes ms stopped written) (sym made_is) (record {
@@ -54,7 +54,7 @@ left_outcome options count bytes module_bytes written reason made given stopped 
       is_made =
           inr (record { reason = reason; is = is; leaves = left; gives_up = gives_up; none = none; stopped_is = stopped_for; same = same });
       is_written = as_written;
-      does = after bytes does;
+      does = after options.exact bytes (does options.exact);
     }))
 
 -- nothing is shown where nothing is made

@@ -1,6 +1,10 @@
 -- Why a run has no success (this project).
 use Rattle.std.specs.Prelude.{◌≡◌, ℕ, ◌<◌, nat_le, ◌&&◌, Bool, true, false, List, length, Option, IfSome}
+use Rattle.std.specs.List.{list_any}
+use Rattle.wasm_types.specs.Module.{Module}
+use Rattle.wasm_types.specs.declared.types.MemoryType.{MemoryType}
 use Rattle.wasm_module.specs.Fault.{IsModuleFault}
+use Rattle.wasm_module.specs.Module.{Layout, IsModule}
 use Rattle.module_rewrites.specs.Attempt.{IsForSize, IsReason, RefusesIndexOf}
 use Rattle.module_rewrites.specs.Chosen.{GivesUp}
 use Rattle.module_rewrites.specs.Seeded.{seeded}
@@ -10,10 +14,14 @@ use Rattle.module_rewrites.specs.declared.mutation.MutationError.TheVariants.{Re
 use Rattle.module_commands.specs.Front.{is_component, is_text}
 use Rattle.module_commands.specs.Scope.{scope_of}
 use Rattle.module_commands.specs.declared.failure.Failure.{Failure}
-use Rattle.module_commands.specs.declared.failure.Failure.TheVariants.{Nothing, Input, TooLong, Component, TextFormat, Output, Memory}
+use Rattle.module_commands.specs.declared.failure.Failure.TheVariants.{Nothing, Input, TooLong, Component, TextFormat, SharedMemory, Output, Memory}
 use Rattle.module_commands.specs.declared.options.Options.{Options}
 use Rattle.module_commands.specs.declared.options.Task.{Task}
 use Rattle.module_commands.specs.declared.options.Task.TheVariants.{Rewrite, List as Lists, Blocks, Rules}
+
+-- threads share one of the memories
+abbrev pub is_any_shared : List MemoryType → Bool
+is_any_shared memories = list_any (λ memory. memory.shared) memories
 
 -- the module can't be read: it is refused
 abbrev pub FailsToRead : (bytes : List ℕ) → Failure → Type 0
@@ -89,29 +97,52 @@ FailsAtTask Lists options bytes e = FailsToList options.function bytes e
 FailsAtTask Blocks options bytes e = FailsToList options.function bytes e
 FailsAtTask (Rules form) options bytes e = FailsToReport e
 
--- no module is taken from the input, whose bytes may be known: it isn't read, or it is a component or a text
-abbrev pub FailsToTakeModule : (input : Option (List ℕ)) → Failure → Type 0
-FailsToTakeModule input Component = IfSome input (λ bytes. is_component bytes ≡ true)
-FailsToTakeModule input TextFormat = IfSome input (λ bytes. is_text bytes ≡ true)
-FailsToTakeModule input e = FailsToTake input e
+-- Threads share a memory of the module with these bytes, what runs which is to be exact.
+pub record SharesMemory (bytes : List ℕ) : Type 0 where
+  pub info : Module
+  pub layout : Layout
+  pub is : IsModule bytes info layout
+  pub exact : info.exact ≡ true
+  pub shared : is_any_shared info.memories ≡ true
 
--- the input is at fault: its reader, its length, or that it is a component or a text
+-- what runs the module can't be exact: threads share a memory of it, or no memory is left
+abbrev pub FailsToBeExact : (bytes : List ℕ) → Failure → Type 0
+FailsToBeExact bytes SharedMemory = SharesMemory bytes
+FailsToBeExact bytes Memory = Unit {0}
+FailsToBeExact bytes e = ⊥
+
+-- no module is taken from the input, whose bytes may be known: it isn't read, it is a component or a text, or what runs it is to be exact, and can't be
+abbrev pub FailsToTakeModule : (exact : Bool) → (input : Option (List ℕ)) → Failure → Type 0
+FailsToTakeModule exact input SharedMemory = (exact ≡ true) × IfSome input SharesMemory
+FailsToTakeModule exact input Component = IfSome input (λ bytes. is_component bytes ≡ true)
+FailsToTakeModule exact input TextFormat = IfSome input (λ bytes. is_text bytes ≡ true)
+FailsToTakeModule exact input e = FailsToTake input e
+
+-- the input is at fault: its reader, its length, that it is a component or a text, or that threads share a memory of it
 abbrev pub IsOfInput : Failure → Type 0
 IsOfInput Input = Unit {0}
 IsOfInput TooLong = Unit {0}
 IsOfInput Component = Unit {0}
 IsOfInput TextFormat = Unit {0}
+IsOfInput SharedMemory = Unit {0}
 IsOfInput e = ⊥
 
 -- the bytes are neither a component nor a text
 abbrev pub IsNoOther : (bytes : List ℕ) → Type 0
 IsNoOther bytes = (is_component bytes ≡ false) × (is_text bytes ≡ false)
 
--- A run fails: as the input isn't read, since it is a component or a text, or as its task fails; for a reason of the module only where it is neither.
+-- the task is one with a module
+abbrev pub TakesModule : Task → Type 0
+TakesModule (Rules form) = ⊥
+TakesModule task = Unit {0}
+
+-- A run fails: as the input isn't read, since it is a component or a text, as what runs it is to be exact and threads share a memory of it, or as its task fails;
+-- for a reason of the module only where it is neither.
 abbrev pub FailsToDo : Task → Options → (bytes : List ℕ) → Failure → Type 0
 FailsToDo task options bytes Input = Unit {0}
 FailsToDo task options bytes TooLong = 1073741824 < length bytes
 FailsToDo task options bytes Component = is_component bytes ≡ true
 FailsToDo task options bytes TextFormat = is_text bytes ≡ true
+FailsToDo task options bytes SharedMemory = (options.exact ≡ true) × SharesMemory bytes
 FailsToDo task options bytes (Nothing reason) = IsNoOther bytes × FailsAtTask task options bytes (Nothing reason)
 FailsToDo task options bytes e = FailsAtTask task options bytes e

@@ -12,7 +12,7 @@ use Rattle.body_rewrites.specs.Rewrites.{asked_below}
 use Rattle.module_rewrites.specs.Attempt.{CanRead}
 use Rattle.module_rewrites.specs.Function.{IsFunction}
 use Rattle.module_rewrites.specs.Mutated.{IsChosen}
-use Rattle.module_rewrites.specs.Scope.{Scope, wanted_of}
+use Rattle.module_rewrites.specs.Scope.{Scope, IsMarked, wanted_of}
 use Rattle.module_commands.specs.Lines.{rewrite_lines}
 use Rattle.module_commands.specs.declared.form.Form.{Form}
 
@@ -48,6 +48,7 @@ AreTheRewrites context scope operators list = AreThose (IsWantedBy context opera
 -- The text has a line for each such rewrite that there is of the function of the n-th code entry, and no other; none where that can't be
 -- read. (An index has 64 bits.)
 pub record ListsFunction (form : Form) (scope : Scope) (bytes : List ℕ) (info : Module) (layout : Layout) (n : ℕ) (text : List ℕ) : Type 0 where
+  pub marked : IsMarked scope info
   pub list : List Rewrite
   pub are : (locals : List PrimitiveTypeInfo) (expression : ℕ) (operators : List (Operator × ℕ)) →
       IsFunction bytes info layout n locals expression operators → AreTheRewrites (context_in info locals) scope operators list

@@ -118,7 +118,8 @@ choose rows = is_given (codes "seed") rows || is_given (codes "count") rows || i
 
 -- what chooses rules, or which of their rewrites are made, is given
 abbrev pub choose_rules : List Row → Bool
-choose_rules rows = is_given (codes "rule") rows || is_given (codes "not-rule") rows || is_set (codes "shrink") rows
+choose_rules rows =
+    is_given (codes "rule") rows || is_given (codes "not-rule") rows || is_set (codes "shrink") rows || is_set (codes "exact") rows
 
 -- what is of one module, or says how what is told of it is written, is given: the module, a function of it, or that it is told as JSON
 abbrev pub choose_module : Flags → List Row → Bool
@@ -234,6 +235,7 @@ pub record AreOptions (rows : List Row) (options : Options) : Type 0 where
   pub rules : AreRules (all_of (codes "rule") rows) (all_of (codes "not-rule") rows) options.rules.items
   pub max_size : IsNumberOr 18446744073709551615 (one_of (codes "max-size") rows) options.max_size
   pub shrink : options.shrink ≡ is_set (codes "shrink") rows
+  pub exact : options.exact ≡ is_set (codes "exact") rows
   pub stats : options.stats ≡ reports (flags_of rows)
   pub reach : options.reach ≡ (flags_of rows).reach
   pub json : options.json ≡ (flags_of rows).json

@@ -4,7 +4,7 @@ use Rattle.std.specs.Io.KnownBytes.{Appends}
 use Rattle.wasm_types.specs.Module.{Module}
 use Rattle.wasm_module.specs.Module.{Layout, IsModule}
 use Rattle.module_rewrites.specs.Attempt.{CanRead}
-use Rattle.module_rewrites.specs.Scope.{Scope}
+use Rattle.module_rewrites.specs.Scope.{Scope, IsMarked}
 use Rattle.module_rewrites.specs.declared.mutation.MutationError.{MutationError}
 use Rattle.module_rewrites.specs.declared.times.MadeRewrite.{MadeRewrite}
 use Rattle.module_commands.specs.Blocks.{TellsUnread}
@@ -50,6 +50,7 @@ pub record ReportsModule (options : Options) (bytes : List ℕ) (old new : Optio
   pub info : Module
   pub layout : Layout
   pub is : IsModule bytes info layout
+  pub marked : IsMarked (scope_of options) info
   pub between : Option (List ℕ)
   pub functions : ReportsFunctions (form_of options) bytes info layout old between
   pub text : List ℕ

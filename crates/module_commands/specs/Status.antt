@@ -3,7 +3,7 @@ use Rattle.std.specs.Prelude.{ℕ}
 use Rattle.module_rewrites.specs.declared.attempt.Reason.{Reason}
 use Rattle.module_rewrites.specs.declared.attempt.Reason.TheVariants.{NoRule, NoOwnFunction, Unreadable, NoFunction, UnknownImport, Refused}
 use Rattle.module_commands.specs.declared.failure.Failure.{Failure}
-use Rattle.module_commands.specs.declared.failure.Failure.TheVariants.{Nothing, Input, TooLong, Component, TextFormat, Output, Memory}
+use Rattle.module_commands.specs.declared.failure.Failure.TheVariants.{Nothing, Input, TooLong, Component, TextFormat, SharedMemory, Output, Memory}
 
 -- 1 where the module is refused, 2 where no rule applies or it has no function of its own, 3 where there is no function that can be read
 abbrev pub status_for : Reason → ℕ
@@ -21,5 +21,6 @@ status_of Input = 1
 status_of TooLong = 1
 status_of Component = 1
 status_of TextFormat = 1
+status_of SharedMemory = 1
 status_of Output = 1
 status_of Memory = 1

@@ -56,7 +56,7 @@ pub record IsOutcome (options : Options) (count : ℕ) (bytes : List ℕ) (made 
   pub module_bytes : List ℕ
   pub is_made : IsRewrittenBy options count bytes made stopped module_bytes ⊎ IsLeft options bytes made stopped module_bytes
   pub is_written : IsWrittenAs options.strip_debug module_bytes written
-  pub does : DoesAsBefore bytes written
+  pub does : DoesAsBefore options.exact bytes written
 
 -- A device has grown by such bytes, and a run that ends so has written them.
 pub record WritesMutated (options : Options) (bytes : List ℕ) (ending : Ending) (old new : Option (List ℕ)) : Type 0 where

@@ -116,6 +116,17 @@ fn shrink_argument<'a>(alloc: Global) -> Arg<'a>
     )
 }
 
+fn exact_argument<'a>(alloc: Global) -> Arg<'a>
+    ensures rule { rule_of result ≡ flag (codes "exact") }
+    ensures local { result.global ≡ false }
+{
+    flag_argument(
+        alloc,
+        "exact",
+        "Rules on floats, vectors and memories too: the module does as before where what runs it does on these what the standard says",
+    )
+}
+
 fn list_argument<'a>(alloc: Global) -> Arg<'a>
     ensures rule { rule_of result ≡ flag (codes "list") }
     ensures local { result.global ≡ false }
@@ -249,6 +260,7 @@ pub fn command<'a>(alloc: Global, names: &'a [&'a str]) -> Result<Command<'a>, A
         .arg(rule_argument(alloc, names))?
         .arg(other_argument(alloc, names))?
         .arg(shrink_argument(alloc))?
+        .arg(exact_argument(alloc))?
         .arg(size_argument(alloc))?
         .arg(list_argument(alloc))?
         .arg(blocks_argument(alloc))?

@@ -225,7 +225,7 @@ pub fn list_blocks<W: Write>(
         bytes.now (W.contents output.old) (W.contents output.new)) }
     ensures fails { IfErr result (FailsToList options.now.function bytes.now) }
 {
-    let module = module_of(alloc, bytes)?;
+    let module = module_of(alloc, bytes, false)?;
     let chosen = chosen_entries(&module.layout, options.function)?;
     let form = options.form();
     let from = chosen.start;

@@ -21,6 +21,8 @@ pub enum Failure {
     Component,
     /// The input is the text of a module or a component.
     TextFormat,
+    /// What runs the module isn't exact: threads share one of its memories.
+    SharedMemory,
     /// The output can't be written.
     Output,
     /// No memory is left.
@@ -64,6 +66,10 @@ impl fmt::Display for Failure {
             Failure::TextFormat => write!(
                 f,
                 "BadMagic at 0x0: it is the text of a module: wat2wasm or wasm-tools parse writes its bytes"
+            ),
+            Failure::SharedMemory => write!(
+                f,
+                "--exact: threads share a memory of the module, and another one may write there: leave it out"
             ),
             Failure::Output => write!(f, "the output can't be written"),
             Failure::Memory => write!(f, "no memory is left"),

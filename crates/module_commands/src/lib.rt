@@ -20,6 +20,7 @@ mod options;
 mod reach;
 mod rules;
 mod running;
+mod sharing;
 mod showing;
 mod stats;
 mod words;

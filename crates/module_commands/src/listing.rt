@@ -8,6 +8,7 @@ ghost use Rattle.module_commands.specs.Lines.{rewrite_line, rewrite_lines, rewri
 ghost use Rattle.module_commands.specs.Lists.{AreTheRewrites, ListsFunction, WritesList};
 ghost use Rattle.module_commands.specs.Scope.{scope_of};
 ghost use Rattle.peephole_machine.specs.Values.{context_in};
+ghost use Rattle.module_rewrites.specs.Scope.{IsMarked};
 ghost use Rattle.wasm_module.specs.Module.{IsModule};
 
 use crate::failure::Failure;
@@ -133,6 +134,7 @@ fn list_function<W: Write>(
 ) -> Result<(), Failure>
     requires module { IsModule bytes.now wasm.now.info wasm.now.layout }
     requires inside { n < length wasm.now.layout.entries }
+    requires marked { IsMarked (scope_of options.now) wasm.now.info }
     ensures lines { OnOk result ((text : List ℕ)
         × Appends (W.contents output.old) (W.contents output.new) text
         × ListsFunction (form_of options.now) (scope_of options.now) bytes.now wasm.now.info
@@ -169,7 +171,7 @@ pub fn list_rewrites<W: Write>(
         (W.contents output.old) (W.contents output.new)) }
     ensures fails { IfErr result (FailsToList options.now.function bytes.now) }
 {
-    let module = module_of(alloc, bytes)?;
+    let module = module_of(alloc, bytes, options.exact)?;
     let chosen = chosen_entries(&module.layout, options.function)?;
     let from = chosen.start;
     let to = chosen.end;

@@ -1,5 +1,5 @@
 //! The module rewritten as the options say.
-ghost use Rattle.std.specs.Prelude.{◌≡◌, ℕ, List, [], true, length, nat_le, IfOk, IfErr};
+ghost use Rattle.std.specs.Prelude.{◌≡◌, Bool, ℕ, List, [], true, length, nat_le, IfOk, IfErr};
 ghost use Rattle.module_rewrites.specs.Attempt.{IsForSize, IsReason};
 ghost use Rattle.module_rewrites.specs.Chosen.{GivesUp};
 ghost use Rattle.module_rewrites.specs.DoesAsBefore.{DoesAsBefore};
@@ -27,7 +27,7 @@ use wasm_sections::{read_sections, without_debug};
 // want of memory alone. It does what the module does.
 fn stripped(alloc: Global, bytes: &[u8]) -> Result<Vec<u8>, Failure>
     ensures stripped { IfOk result (λ new. IsWrittenAs true bytes.now new.items) }
-    ensures does { IfOk result (λ new. DoesAsBefore bytes.now new.items) }
+    ensures does { IfOk result (λ new. (exact : Bool) → DoesAsBefore exact bytes.now new.items) }
     ensures memory { IfErr result (λ e. e ≡ Memory) }
 {
     rewritten_modules_do_as_before();
@@ -42,8 +42,8 @@ fn finished(alloc: Global, strip: bool, new: RewrittenModule) -> Result<Rewritte
     ensures made { IfOk result (λ m. m.made.items ≡ new.made.items) }
     ensures stopped { IfOk result (λ m. m.stopped ≡ new.stopped) }
     ensures bytes { IfOk result (λ m. IsWrittenAs strip new.bytes.items m.bytes.items) }
-    ensures does { IfOk result (λ m. (start : List ℕ) → DoesAsBefore start new.bytes.items
-        → DoesAsBefore start m.bytes.items) }
+    ensures does { IfOk result (λ m. (exact : Bool) (start : List ℕ)
+        → DoesAsBefore exact start new.bytes.items → DoesAsBefore exact start m.bytes.items) }
     ensures memory { IfErr result (λ e. e ≡ Memory) }
 {
     rewritten_modules_do_as_before();
@@ -65,7 +65,7 @@ fn unchanged(
     stopped: Option<MutationError>,
 ) -> Result<RewrittenModule, Failure>
     ensures bytes { IfOk result (λ m. m.bytes.items ≡ bytes.now) }
-    ensures does { IfOk result (λ m. DoesAsBefore bytes.now m.bytes.items) }
+    ensures does { IfOk result (λ m. (exact : Bool) → DoesAsBefore exact bytes.now m.bytes.items) }
     ensures made { IfOk result (λ m. m.made.items ≡ []) }
     ensures stopped { IfOk result (λ m. m.stopped ≡ stopped) }
     ensures memory { IfErr result (λ e. e ≡ Memory) }

@@ -42,6 +42,8 @@ pub struct Options {
     /// Whether each rewrite makes the module smaller: it leaves no more operators, and fewer bytes, or as many that come earlier in the
     /// dictionary. A module of which none does is written as it is.
     pub shrink: bool,
+    /// Whether what runs the module does on floats, vectors and memories what the standard says, so that rules on these are applied.
+    pub exact: bool,
     /// Whether the functions, the rewrites and the sizes are reported.
     pub stats: bool,
     /// Whether the report tells how much the rules reach.
@@ -71,6 +73,7 @@ impl Options {
             function: self.function,
             max_size: self.max_size,
             shrinking: self.shrink,
+            exact: self.exact,
         }
     }
 

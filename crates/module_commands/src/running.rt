@@ -2,7 +2,7 @@
 ghost use Rattle.std.specs.Prelude.{◌≡◌, ◌≢◌, ℕ, List, true, false, OnOk, IfErr, IfOk, IfSome, IsErrOf, IsTrue};
 ghost use Rattle.std.specs.Io.KnownBytes.{Appends, Consumes, IsAtEnd};
 ghost use Rattle.module_commands.specs.Blocks.{WritesBlocks};
-ghost use Rattle.module_commands.specs.Failures.{FailsToDo, FailsToInform, FailsToReport, FailsToRewrite, FailsToTakeModule, IsNoOther, IsOfInput};
+ghost use Rattle.module_commands.specs.Failures.{FailsToDo, FailsToInform, FailsToReport, FailsToRewrite, FailsToTakeModule, IsNoOther, IsOfInput, SharesMemory, TakesModule};
 ghost use Rattle.module_commands.specs.declared.failure.Failure.TheVariants.{Output};
 ghost use Rattle.module_commands.specs.Form.{form_of};
 ghost use Rattle.module_commands.specs.Lists.{WritesList};
@@ -25,6 +25,7 @@ use crate::mutating::rewritten;
 use crate::options::{Options, Task};
 use crate::reach::reach_of;
 use crate::rules::list_rules;
+use crate::sharing::check_exact;
 use crate::stats::{report_functions, report_reach, rewrites_report};
 use device_tally::Tally;
 use module_rewrites::Watch;
@@ -65,7 +66,7 @@ fn report_module<E: Write>(
         (E.contents notes.old) (E.contents notes.new)) }
     ensures fails { IfErr result (FailsToInform bytes.now) }
 {
-    let module = module_of(alloc, bytes)?;
+    let module = module_of(alloc, bytes, options.exact)?;
     report_functions(alloc, bytes, &module, options.form(), notes)?;
     report_reach_asked(alloc, bytes, &module, options, notes)
 }
@@ -172,13 +173,19 @@ fn rewrite<W: Write, E: Write, P: Watch + Drop>(
     write_rewritten(alloc, options, bytes, output, notes, watch)
 }
 
-// All bytes of the input, which are neither a component nor a text.
-fn take_module<R: Read>(alloc: Global, input: &mut Tally<R>) -> Result<Vec<u8>, Failure>
+// All bytes of the input, which are neither a component nor a text, nor, where what runs the module is to be exact, those of one of
+// which threads share a memory.
+fn take_module<R: Read>(
+    alloc: Global,
+    exact: bool,
+    input: &mut Tally<R>,
+) -> Result<Vec<u8>, Failure>
     ensures bytes { IfOk result (λ text. Consumes (R.remaining input.old.device)
         (R.remaining input.new.device) text.items) }
     ensures end { OnOk result (IsAtEnd (R.remaining input.new.device)) }
     ensures other { IfOk result (λ text. IsNoOther text.items) }
-    ensures fails { IfErr result (FailsToTakeModule (R.remaining input.old.device)) }
+    ensures alone { exact ≡ true → IfOk result (λ text. ¬ (SharesMemory text.items)) }
+    ensures fails { IfErr result (FailsToTakeModule exact (R.remaining input.old.device)) }
     // `Input` only where a read failed; with the bytes, none did.
     ensures input { IsErrOf result Failure.Input → IsTrue input.new.failed }
     ensures sound { OnOk result (input.new.failed ≡ input.old.failed) }
@@ -190,6 +197,7 @@ fn take_module<R: Read>(alloc: Global, input: &mut Tally<R>) -> Result<Vec<u8>, 
     if is_text(&bytes) {
         return Err(Failure::TextFormat);
     }
+    check_exact(alloc, exact, &bytes)?;
     Ok(bytes)
 }
 
@@ -239,10 +247,13 @@ pub fn run<R: Read, W: Write, E: Write, P: Watch + Drop>(
         (E.contents notes.old) (E.contents notes.new))) }
     ensures quiet { options.now.stats ≡ false → options.now.show ≡ false
         → notes.new ≡ notes.old }
+    // Where what runs the module is to be exact, threads share none of its memories.
+    ensures alone { TakesModule options.now.task → options.now.exact ≡ true → OnOk result
+        (IfSome (R.remaining input.old.device) (λ bytes. ¬ (SharesMemory bytes))) }
     // `Input` only where a read failed; where the run succeeds, none did.
     ensures input { IsErrOf result Failure.Input → IsTrue input.new.failed }
     ensures sound { OnOk result (input.new.failed ≡ input.old.failed) }
-    // Nothing is written or noted where the input can't be read, is too long, or is a component or a text.
+    // Nothing is written or noted where the input can't be read, is too long, is a component or a text, or such a memory is shared.
     ensures untouched { IfErr result (λ e. IsOfInput e
         → (output.new ≡ output.old) × (notes.new ≡ notes.old)) }
     // Why it fails: with `NoRule`, only where no rule applies in a function that can be read; with `Unreadable`, only where none can;
@@ -261,17 +272,17 @@ pub fn run<R: Read, W: Write, E: Write, P: Watch + Drop>(
     match options.task {
         Task::Rules(form) => list_rules(alloc, form, output),
         Task::Rewrite => {
-            let bytes = take_module(alloc, input)?;
+            let bytes = take_module(alloc, options.exact, input)?;
             rewrite(alloc, options, &bytes, output, notes, watch)
         }
         Task::List => {
-            let bytes = take_module(alloc, input)?;
+            let bytes = take_module(alloc, options.exact, input)?;
             list_rewrites(alloc, &bytes, options, output)?;
             output.flush()?;
             Ok(Ending::Whole)
         }
         Task::Blocks => {
-            let bytes = take_module(alloc, input)?;
+            let bytes = take_module(alloc, options.exact, input)?;
             list_blocks(alloc, &bytes, options, output)?;
             output.flush()?;
             Ok(Ending::Whole)

@@ -113,7 +113,8 @@ fn choose_rules(matches: &ArgMatches<'_>) -> bool
     let rule = is_given(matches, "rule");
     let other = is_given(matches, "not-rule");
     let shrink = is_set(matches, "shrink");
-    rule || other || shrink
+    let exact = is_set(matches, "exact");
+    rule || other || shrink || exact
 }
 
 // Whether what is of one module, or says how what is told of it is written, is given.
@@ -423,6 +424,7 @@ pub fn options_from(alloc: Global, matches: &ArgMatches<'_>) -> Result<Options, 
         rules: wanted_rules(alloc, matches)?,
         max_size: size_of(matches, "max-size").unwrap_or(usize::MAX),
         shrink: is_set(matches, "shrink"),
+        exact: is_set(matches, "exact"),
         stats: reports(flags),
         reach: flags.reach,
         json: flags.json,
@@ -456,7 +458,7 @@ fn text_for(misuse: Misuse) -> &'static str {
             "--list, --blocks and --list-rules exclude each other, and with them --stats, --reach, --show and --strip-debug"
         }
         Misuse::Ignored => {
-            "--list, --blocks and --list-rules ignore --seed, --count and --max-size, the last two --rule, --not-rule and --shrink, and --list-rules a module, --function and --json: leave them out"
+            "--list, --blocks and --list-rules ignore --seed, --count and --max-size, the last two --rule, --not-rule, --shrink and --exact, and --list-rules a module, --function and --json: leave them out"
         }
         Misuse::NothingToTell => "--json goes with --list, --blocks, --stats or --reach",
         Misuse::Plus => "a plus stands before a number: leave it out",

@@ -53,7 +53,7 @@ pub record OneReading : Type 0 where
 abbrev pub OneModule : Type 0
 OneModule =
     (bytes : List ℕ) (info other : Module) (layout place : Layout) → IsModule bytes info layout → IsModule bytes other place →
-    (info ≡ other) × (layout ≡ place)
+    info.exact ≡ other.exact → (info ≡ other) × (layout ≡ place)
 
 -- that a rewritten module is made of what the module is made of, with globals more
 abbrev pub MadeAlike : Type 0
@@ -203,12 +203,12 @@ unread_twice a b c info layout old x y n entry at cannot =
     let last = y.unread n between.entry between.at never in
     record { entry = last.entry; at = last.at; text_is = between.text_is ∙ last.text_is }
 
-pub does_after : OfPrograms → (a b c : List ℕ) → DoesAsBefore a b → DoesAsBefore b c → DoesAsBefore a c
-does_after law a b c h k = record { functions = λ info layout old is are. go info layout old (h.functions info layout old is are) }
+pub does_after : OfPrograms → (exact : Bool) (a b c : List ℕ) → DoesAsBefore exact a b → DoesAsBefore exact b c → DoesAsBefore exact a c
+does_after law exact a b c h k = record { functions = λ info layout old is mark are. go info layout old mark (h.functions info layout old is mark are) }
   where
-    go : (info : Module) (layout : Layout) (old : Functions) → IsModuleAfter a info layout old b → IsModuleAfter a info layout old c
-    go info layout old x =
-        let y = k.functions (wider_module b x.more info) x.again x.functions x.is x.are in
+    go : (info : Module) (layout : Layout) (old : Functions) → info.exact ≡ exact → IsModuleAfter a info layout old b → IsModuleAfter a info layout old c
+    go info layout old mark x =
+        let y = k.functions (wider_module b x.more info) x.again x.functions x.is mark x.are in
         let twice = wider_twice info b c x.more y.more in
         record {
           more = x.more ++ y.more;
@@ -376,27 +376,27 @@ module _ (one : OneReading) (law : OfPrograms) (alike : MadeAlike) {scope : Scop
 -- ---- whole modules
 
 pub mutated_does : OneReading → OfPrograms → OfModules → (scope : Scope) (bytes : List ℕ) (function : ℕ) (rewrite : Rewrite)
-    (new : List ℕ) → IsMutated scope bytes function rewrite new → DoesAsBefore bytes new
-mutated_does one law unique scope bytes function rewrite new m = record { functions = λ info layout old is are. go info layout old is are }
+    (new : List ℕ) → IsMutated scope bytes function rewrite new → DoesAsBefore scope.exact bytes new
+mutated_does one law unique scope bytes function rewrite new m = record { functions = λ info layout old is mark are. go info layout old is mark are }
   where
-    go : (info : Module) (layout : Layout) (old : Functions) → IsModule bytes info layout → AreFunctions bytes info layout old →
+    go : (info : Module) (layout : Layout) (old : Functions) → IsModule bytes info layout → info.exact ≡ scope.exact → AreFunctions bytes info layout old →
         IsModuleAfter bytes info layout old new
-    go info layout old is are =
-        let (infos, layouts) = unique.one bytes info m.info layout m.layout is m.is in
+    go info layout old is mark are =
+        let (infos, layouts) = unique.one bytes info m.info layout m.layout is m.is (mark ∙ sym m.marked) in
         let entry : MutatesEntry scope bytes info layout m.mutates.0 rewrite new =
         subst (λ (p : Module × Layout). MutatesEntry scope bytes p.0 p.1 m.mutates.0 rewrite new)
         (ap₂ (λ (i : Module) (l : Layout). (i, l)) (sym infos) (sym layouts)) m.mutates.2 in
         module_after one law unique.made is entry old are
 
 pub each_does : OneReading → OfPrograms → OfModules → (scope : Scope) (bytes : List ℕ) (m : MadeRewrite) (made : List MadeRewrite)
-    (new : List ℕ) → RewritesEach scope bytes (m ∷ made) new → DoesAsBefore bytes new
+    (new : List ℕ) → RewritesEach scope bytes (m ∷ made) new → DoesAsBefore scope.exact bytes new
 each_does one law unique scope bytes m [] new h =
-    subst (DoesAsBefore bytes) (sym h.2) (mutated_does one law unique scope bytes m.function m.rewrite h.0 h.1)
+    subst (DoesAsBefore scope.exact bytes) (sym h.2) (mutated_does one law unique scope bytes m.function m.rewrite h.0 h.1)
 each_does one law unique scope bytes m (k ∷ made) new h =
-    does_after law bytes h.0 new (mutated_does one law unique scope bytes m.function m.rewrite h.0 h.1)
+    does_after law scope.exact bytes h.0 new (mutated_does one law unique scope bytes m.function m.rewrite h.0 h.1)
     (each_does one law unique scope h.0 k made new h.2)
 
 pub mutates_does : OneReading → OfPrograms → OfModules → (scope : Scope) (count : ℕ) (bytes : List ℕ) (made : List MadeRewrite)
-    (new : List ℕ) (stopped : Option MutationError) → Mutates scope count bytes made new stopped → DoesAsBefore bytes new
+    (new : List ℕ) (stopped : Option MutationError) → Mutates scope count bytes made new stopped → DoesAsBefore scope.exact bytes new
 mutates_does one law unique scope count bytes [] new stopped h = absurd (let some = h.some in omega (arith, some))
 mutates_does one law unique scope count bytes (m ∷ made) new stopped h = each_does one law unique scope bytes m made new h.each

@@ -12,7 +12,7 @@ use Rattle.module_rewrites.specs.Dose.{AreOperators, HasOperators, IsOfReading}
 use Rattle.module_rewrites.specs.declared.attempt.Reason.{Reason}
 use Rattle.module_rewrites.specs.declared.attempt.Reason.TheVariants.{NoRule, NoOwnFunction, Unreadable, NoFunction, UnknownImport, Refused}
 use Rattle.module_rewrites.specs.Mutated.{RefusesMutation}
-use Rattle.module_rewrites.specs.Scope.{Scope}
+use Rattle.module_rewrites.specs.Scope.{Scope, IsMarked}
 use Rattle.module_rewrites.specs.declared.mutation.MutationError.TheVariants.{Memory}
 
 -- the operators of the functions of the first `count` code entries
@@ -54,10 +54,11 @@ module _ (only : Option ℕ) (bytes : List ℕ) (info : Module) (layout : Layout
 
 -- memory was wanting at one of the entries
 pub refused_within : (scope : Scope) (bytes : List ℕ) (info : Module) (layout : Layout) (start end n : ℕ) → IsModule bytes info layout →
+    IsMarked scope info →
     AreChosen scope.function layout start end → start ≤ n → n < end → RefusesMutation scope bytes Memory
-refused_within scope bytes info layout start end n is may low high =
+refused_within scope bytes info layout start end n is marked may low high =
     let own = (may.chosen n).0 (low, high) in
-    record { info = info; layout = layout; is = is; n = n; inside = own.0; chosen = own.1; refuses = tt }
+    record { info = info; layout = layout; is = is; marked = marked; n = n; inside = own.0; chosen = own.1; refuses = tt }
 
 -- which isn't that no rewrite can be made
 pub index_of_reading : (layout : Layout) (only : Option ℕ) (r : Reason) → RefusesIndex layout only r → IsOfReading r

@@ -6,7 +6,7 @@ use Rattle.wasm_types.specs.Module.{Module}
 use Rattle.wasm_module.specs.Module.{Layout, IsModule}
 use Rattle.body_rewrites.specs.declared.rewrite.Rewrite.{Rewrite}
 use Rattle.module_rewrites.specs.Mutated.{CannotMutate, HasNoMutation, IsChosen, IsInVain, IsMutated, IsOfSize, IsRefusedForSize, MutatesOne, RefusesChosenEntry, RefusesEntry, RefusesMutation, last_of}
-use Rattle.module_rewrites.specs.Scope.{Scope}
+use Rattle.module_rewrites.specs.Scope.{Scope, IsMarked}
 use Rattle.module_rewrites.specs.Size.{IsSmallEnough}
 use Rattle.module_rewrites.specs.declared.mutation.MutationError.{MutationError}
 use Rattle.module_rewrites.specs.declared.mutation.MutationError.TheVariants.{Read, Memory, TooLong, NotSmaller, Write}
@@ -103,7 +103,8 @@ refuses scope bytes (Write error) h = h
 refuses scope bytes TooLong h = h
 refuses scope bytes NotSmaller h = h
 
-module _ (scope : Scope) (bytes : List ℕ) (info : Module) (layout : Layout) (known : IsModule bytes info layout) where
+module _ (scope : Scope) (bytes : List ℕ) (info : Module) (layout : Layout) (known : IsModule bytes info layout)
+    (marked : IsMarked scope info) where
   -- any function may be rewritten
   pub refuses_any : scope.function ≡ None → (e : MutationError) →
       (n : ℕ) × (n < length layout.entries) × RefusesEntry scope bytes info layout n e → RefusesMutation scope bytes e
@@ -111,6 +112,7 @@ module _ (scope : Scope) (bytes : List ℕ) (info : Module) (layout : Layout) (k
     info = info;
     layout = layout;
     is = known;
+    marked = marked;
     n = h.0;
     inside = h.1;
     chosen = subst (λ (o : Option ℕ). IsChosen o (layout.imported_functions + h.0)) (sym any) tt;
@@ -123,13 +125,14 @@ module _ (scope : Scope) (bytes : List ℕ) (info : Module) (layout : Layout) (k
     info = info;
     layout = layout;
     is = known;
+    marked = marked;
     chosen = subst (λ (o : Option ℕ). IsChosen o function) (sym any) tt;
     fits = fits;
     mutates = h;
   }
 
   pub cannot_any : ((n : ℕ) → n < length layout.entries → HasNoMutation scope bytes info layout n) → CannotMutate scope bytes
-  cannot_any h = record { info = info; layout = layout; is = known; none = λ n inside chosen. h n inside }
+  cannot_any h = record { info = info; layout = layout; is = known; marked = marked; none = λ n inside chosen. h n inside }
 
   -- the function that is named
   pub refuses_one : (named : ℕ) → scope.function ≡ Some named → (e : MutationError) →
@@ -139,6 +142,7 @@ module _ (scope : Scope) (bytes : List ℕ) (info : Module) (layout : Layout) (k
     info = info;
     layout = layout;
     is = known;
+    marked = marked;
     n = h.0;
     inside = h.1;
     chosen = subst (λ (o : Option ℕ). IsChosen o (layout.imported_functions + h.0)) (sym one) h.2;
@@ -152,6 +156,7 @@ module _ (scope : Scope) (bytes : List ℕ) (info : Module) (layout : Layout) (k
     info = info;
     layout = layout;
     is = known;
+    marked = marked;
     chosen = subst (λ (o : Option ℕ). IsChosen o function) (sym one) h.0;
     fits = fits;
     mutates = h.1;
@@ -164,5 +169,6 @@ module _ (scope : Scope) (bytes : List ℕ) (info : Module) (layout : Layout) (k
     info = info;
     layout = layout;
     is = known;
+    marked = marked;
     none = λ n inside chosen. h n inside (subst (λ (o : Option ℕ). IsChosen o (layout.imported_functions + n)) one chosen);
   }

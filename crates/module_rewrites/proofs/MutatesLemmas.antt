@@ -151,6 +151,7 @@ no_room scope bytes function rewrite new m = record {
   info = m.info;
   layout = m.layout;
   is = m.is;
+  marked = m.marked;
   n = m.mutates.0;
   inside = slice_get_within m.layout.entries m.mutates.0 m.mutates.2.function.entry m.mutates.2.function.is.at;
   chosen = subst (IsChosen scope.function) m.mutates.1 m.chosen;

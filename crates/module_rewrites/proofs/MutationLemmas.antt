@@ -41,7 +41,7 @@ use Rattle.body_rewrites.specs.declared.rewrite.Rewrite.{Rewrite}
 use Rattle.module_rewrites.specs.Function.{IsFunction}
 use Rattle.module_rewrites.specs.Chosen.{TriesInVain, by_size}
 use Rattle.module_rewrites.specs.Mutated.{HasNoMutation, IsBehindLocals, IsMutated, IsOfSize, MutatesEntry, RefusesEntry, WasRewrittenAt}
-use Rattle.module_rewrites.specs.Scope.{Scope, wanted_of}
+use Rattle.module_rewrites.specs.Scope.{Scope, IsMarked, wanted_of}
 use Rattle.module_rewrites.specs.Writing.{WritesAt}
 use Rattle.module_rewrites.specs.Size.{IsNotFor}
 use Rattle.module_rewrites.specs.declared.mutation.MutationError.{MutationError}
@@ -65,7 +65,7 @@ RewrittenBytesAreAModule =
 abbrev pub OneReading : Type 0
 OneReading =
     (bytes : List ℕ) (info other : Module) (layout place : Layout) → IsModule bytes info layout → IsModule bytes other place →
-    (info ≡ other) × (layout ≡ place)
+    info.exact ≡ other.exact → (info ≡ other) × (layout ≡ place)
 
 -- ---- what calls answer
 
@@ -264,13 +264,13 @@ module _ (scope : Scope) (bytes : List ℕ) (info : Module) (layout : Layout) (n
 
 -- what was read of a module that was rewritten, but for its bytes
 pub was_rewritten : (scope : Scope) (bytes : List ℕ) (info : Module) (layout : Layout) (function : ℕ) (rewrite : Rewrite) (new : List ℕ) (read : Module)
-    (place : Layout) → OneReading → IsModule bytes info layout → read ≡ record info { input = [] } → place ≡ layout →
-    IsMutated scope bytes function rewrite new → WasRewrittenAt read place function new
-was_rewritten scope bytes info layout function rewrite new read place one is read_is place_is m =
-    let same = one bytes m.info info m.layout layout m.is is in
+    (place : Layout) → OneReading → IsModule bytes info layout → IsMarked scope info → read ≡ record info { input = [] } → place ≡ layout →
+    IsMutated scope bytes function rewrite new → WasRewrittenAt scope read place function new
+was_rewritten scope bytes info layout function rewrite new read place one is marked read_is place_is m =
+    let same = one bytes m.info info m.layout layout m.is is (m.marked ∙ sym marked) in
     let k = m.mutates.2 in
     let input : m.info ≡ record m.info { input = bytes } = ap (λ (b : List ℕ). record m.info { input = b }) m.is.input in
-    let mine : WasRewrittenAt (record m.info { input = [] }) m.layout function new = (
+    let mine : WasRewrittenAt scope (record m.info { input = [] }) m.layout function new = (
       m.mutates.0,
       m.mutates.1,
       record {
@@ -283,9 +283,10 @@ was_rewritten scope bytes info layout function rewrite new read place one is rea
         globals = k.function.is.indices.globals;
         some = some_types k.more (asks_for_numbers k.rewritten);
       },
+      m.marked,
     ) in
-    subst (λ (l : Layout). WasRewrittenAt read l function new) (same.1 ∙ sym place_is)
-    (subst (λ (i : Module). WasRewrittenAt i m.layout function new) (ap (λ (i : Module). record i { input = [] }) same.0 ∙ sym read_is) mine)
+    subst (λ (l : Layout). WasRewrittenAt scope read l function new) (same.1 ∙ sym place_is)
+    (subst (λ (i : Module). WasRewrittenAt scope i m.layout function new) (ap (λ (i : Module). record i { input = [] }) same.0 ∙ sym read_is) mine)
 
 -- no global that is asked for has the type `Empty`
 asks_for_none : {scope : Scope} {bytes : List ℕ} {info : Module} {layout : Layout} {s : Stream} {n : ℕ} {rewrite : Rewrite} {contents : List ℕ}

@@ -17,7 +17,7 @@ use Rattle.module_rewrites.specs.ChosenTimes.{ChoosesEach, ChoosesTimes}
 use Rattle.module_rewrites.specs.Drawing.{EachInVain, IsFirstBefore, IsFirstBehind, NamesEntry, by_word, contents_length, in_order}
 use Rattle.module_rewrites.specs.Mutated.{CannotMutate, HasNoMutation, IsChosen, IsOfSize, RefusesChosenEntry, RefusesEntry, RefusesMutation}
 use Rattle.module_rewrites.specs.Mutates.{EndsFor, Mutates}
-use Rattle.module_rewrites.specs.Scope.{Scope, draws_of}
+use Rattle.module_rewrites.specs.Scope.{Scope, IsMarked, draws_of}
 use Rattle.module_rewrites.specs.Stopped.{HadMemory}
 use Rattle.module_rewrites.specs.Writing.{MakesAt}
 use Rattle.module_rewrites.specs.declared.mutation.MutationError.{MutationError}
@@ -151,7 +151,7 @@ module _ (one : OneWriting) (scope : Scope) (bytes : List ℕ) (info : Module) (
 abbrev pub OneModule : Type 0
 OneModule =
     (bytes : List ℕ) (info other : Module) (layout place : Layout) → IsModule bytes info layout → IsModule bytes other place →
-    (info ≡ other) × (layout ≡ place)
+    info.exact ≡ other.exact → (info ≡ other) × (layout ≡ place)
 
 abbrev pub EntriesFit : Type 0
 EntriesFit =
@@ -163,34 +163,35 @@ module _ (one : OneWriting) (reading : OneModule) (fit : EntriesFit) (scope : Sc
       sum_by contents_length layout.entries < 2 ^ 64
   few_bytes bytes info layout is few = omega (arith, fit bytes info layout is, few)
 
-  alike : (bytes : List ℕ) (i j : Module) (k l : Layout) → IsModule bytes i k → IsModule bytes j l → ◌≡◌ {A = Module × Layout} (j, l) (i, k)
-  alike bytes i j k l m n = let same = reading bytes i j k l m n in sym (ap₂ (λ (x : Module) (y : Layout). (x, y)) same.0 same.1)
+  alike : (bytes : List ℕ) (i j : Module) (k l : Layout) → IsModule bytes i k → IsModule bytes j l → IsMarked scope i → IsMarked scope j →
+      ◌≡◌ {A = Module × Layout} (j, l) (i, k)
+  alike bytes i j k l m n e f = let same = reading bytes i j k l m n (e ∙ sym f) in sym (ap₂ (λ (x : Module) (y : Layout). (x, y)) same.0 same.1)
 
   pub module_one : (bytes new other : List ℕ) (s after later : Stream) (f g : ℕ) (r q : Rewrite) → length bytes < 2 ^ 64 →
       ChoosesOfModule scope bytes s f r new after → ChoosesOfModule scope bytes s g q other later → (f ≡ g) × (r ≡ q) × (new ≡ other) × (after ≡ later)
   module_one bytes new other s after later f g r q few a b =
       let there = subst (λ (p : Module × Layout). ChoosesBy scope bytes p.0 p.1 scope.function s g q other later)
-      (alike bytes a.info b.info a.layout b.layout a.is b.is) b.chooses in
+      (alike bytes a.info b.info a.layout b.layout a.is b.is a.marked b.marked) b.chooses in
       chooses_one one scope bytes a.info a.layout a.is (few_bytes bytes a.info a.layout a.is few) scope.function s f g r q new other after later a.chooses there
 
   pub gives_up_none : (bytes new : List ℕ) (s after : Stream) (f : ℕ) (r : Rewrite) → length bytes < 2 ^ 64 → ChoosesOfModule scope bytes s f r new after →
       GivesUp scope bytes s → ⊥
   gives_up_none bytes new s after f r few c g =
       let there = subst (λ (p : Module × Layout). GivesUpOn scope bytes p.0 p.1 scope.function s g.left)
-      (alike bytes c.info g.info c.layout g.layout c.is g.is) g.vain in
+      (alike bytes c.info g.info c.layout g.layout c.is g.is c.marked g.marked) g.vain in
       gives_up_apart one scope bytes c.info c.layout c.is (few_bytes bytes c.info c.layout c.is few) scope.function s f r new after g.left c.chooses there
 
   pub cannot_none : (bytes new : List ℕ) (s after : Stream) (f : ℕ) (r : Rewrite) → length bytes < 2 ^ 64 → ChoosesOfModule scope bytes s f r new after →
       CannotMutate scope bytes → ⊥
   cannot_none bytes new s after f r few c g =
       let there = subst (λ (p : Module × Layout). (n : ℕ) → n < length p.1.entries → IsChosen scope.function (p.1.imported_functions + n) →
-      HasNoMutation scope bytes p.0 p.1 n) (alike bytes c.info g.info c.layout g.layout c.is g.is) g.none in
+      HasNoMutation scope bytes p.0 p.1 n) (alike bytes c.info g.info c.layout g.layout c.is g.is c.marked g.marked) g.none in
       cannot_apart one scope bytes c.info c.layout c.is (few_bytes bytes c.info c.layout c.is few) scope.function s f r new after c.chooses there
 
   chosen_apart : (bytes : List ℕ) (e : MutationError) → IsOfSize e → RefusesChosenEntry scope bytes e → CannotMutate scope bytes → ⊥
   chosen_apart bytes e size r g =
       let there = subst (λ (p : Module × Layout). (n : ℕ) → n < length p.1.entries → IsChosen scope.function (p.1.imported_functions + n) →
-      HasNoMutation scope bytes p.0 p.1 n) (alike bytes r.info g.info r.layout g.layout r.is g.is) g.none in
+      HasNoMutation scope bytes p.0 p.1 n) (alike bytes r.info g.info r.layout g.layout r.is g.is r.marked g.marked) g.none in
       written_apart one scope bytes r.info r.layout e r.n r.inside r.chosen size r.refuses there
 
   pub refused_apart : (bytes : List ℕ) (e : MutationError) → IsOfSize e → RefusesMutation scope bytes e → CannotMutate scope bytes → ⊥

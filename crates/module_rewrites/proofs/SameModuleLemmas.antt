@@ -1,5 +1,5 @@
 -- Other bytes that are the same module do what it does.
-use Rattle.std.proofs.Common.{◌≡◌, ℕ, ◌+◌, List, [], ◌++◌, Some, arith, refl, sym, ap, ap₂, subst, ◌∙◌, append-nil}
+use Rattle.std.proofs.Common.{◌≡◌, ℕ, Bool, ◌+◌, List, [], ◌++◌, Some, arith, refl, sym, ap, ap₂, subst, ◌∙◌, append-nil}
 use Rattle.std.specs.Prelude.{slice_get, slice_range}
 use Rattle.std.proofs.lemmas.Option.{same_Some}
 use Rattle.wasm_code.specs.declared.operator.Operator.{Operator}
@@ -100,10 +100,10 @@ itself {bytes} {info} {layout} is = record {
   entries = λ k old at. record { entry = old; at = at; text_is = refl };
 }
 
-pub does_itself : OfPrograms → OwnBytesStay → (bytes : List ℕ) → DoesAsBefore bytes bytes
+pub does_itself : OfPrograms → OwnBytesStay → (exact : Bool) (bytes : List ℕ) → DoesAsBefore exact bytes bytes
 unfolding itself
-does_itself law stay bytes = record {
-  functions = λ info layout old is are. same_does law stay (itself is) (λ making m. m) old are;
+does_itself law stay exact bytes = record {
+  functions = λ info layout old is mark are. same_does law stay (itself is) (λ making m. m) old are;
 }
 
 -- what is known of modules without their sections for debuggers
@@ -114,10 +114,10 @@ pub record OfStripped : Type 0 where
   pub made : (bytes new : List ℕ) (sections left : List Section) (making : Making) → IsWithoutDebug bytes sections new → SpellsModule new left →
       IsMadeOf bytes sections making → IsMadeOf new left making
 
-pub does_stripped : OfPrograms → OwnBytesStay → OfStripped → (bytes new : List ℕ) (sections : List Section) → SpellsModule bytes sections →
-    IsWithoutDebug bytes sections new → DoesAsBefore bytes new
-does_stripped law stay of bytes new sections spells without = record {
-  functions = λ info layout old is are.
+pub does_stripped : OfPrograms → OwnBytesStay → OfStripped → (exact : Bool) (bytes new : List ℕ) (sections : List Section) →
+    SpellsModule bytes sections → IsWithoutDebug bytes sections new → DoesAsBefore exact bytes new
+does_stripped law stay of exact bytes new sections spells without = record {
+  functions = λ info layout old is mark are.
       let there : IsWithoutDebug bytes layout.sections new =
       subst (λ (ss : List Section). IsWithoutDebug bytes ss new) (of.one bytes sections layout.sections spells is.spells) without in
       let s = of.same bytes info layout new is there in

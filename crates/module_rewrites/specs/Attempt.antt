@@ -7,7 +7,7 @@ use Rattle.wasm_sections.specs.declared.fault.ModuleError.{ModuleError}
 use Rattle.wasm_module.specs.Module.{Layout, IsModule}
 use Rattle.module_rewrites.specs.Function.{IsFunction, IsFunctionFault, IsWantOfMemory}
 use Rattle.module_rewrites.specs.Mutated.{CannotMutate, IsChosen, IsOfSize, RefusesMutation}
-use Rattle.module_rewrites.specs.Scope.{Scope}
+use Rattle.module_rewrites.specs.Scope.{Scope, IsMarked}
 use Rattle.module_rewrites.specs.declared.function.FunctionError.{FunctionError}
 use Rattle.module_rewrites.specs.declared.attempt.Reason.{Reason}
 use Rattle.module_rewrites.specs.declared.attempt.Reason.TheVariants.{NoRule, NoOwnFunction, Unreadable, NoFunction, UnknownImport, Refused}
@@ -109,6 +109,6 @@ pub record AreChosen (only : Option ℕ) (layout : Layout) (start end : ℕ) : T
   pub named : (only ≡ None) ⊎ (start < end)
 
 -- That is why nothing of the module is rewritten, by any scope by which nothing of it can be, and these of its code entries may be.
-abbrev pub IsReasonWithin : (bytes : List ℕ) → Layout → (start end : ℕ) → Reason → Type 0
-IsReasonWithin bytes layout start end reason =
-    (scope : Scope) → CannotMutate scope bytes → AreChosen scope.function layout start end → IsReason scope bytes reason
+abbrev pub IsReasonWithin : (bytes : List ℕ) → Module → Layout → (start end : ℕ) → Reason → Type 0
+IsReasonWithin bytes info layout start end reason =
+    (scope : Scope) → IsMarked scope info → CannotMutate scope bytes → AreChosen scope.function layout start end → IsReason scope bytes reason

@@ -6,7 +6,7 @@ use Rattle.wasm_module.specs.Module.{Layout, IsModule}
 use Rattle.body_rewrites.specs.declared.rewrite.Rewrite.{Rewrite}
 use Rattle.module_rewrites.specs.Drawing.{DrawsEntry, EachInVain, IsFirstBefore, IsFirstBehind, NamesInVain}
 use Rattle.module_rewrites.specs.Mutated.{HasNoMutation}
-use Rattle.module_rewrites.specs.Scope.{Scope, draws_of}
+use Rattle.module_rewrites.specs.Scope.{Scope, IsMarked, draws_of}
 use Rattle.module_rewrites.specs.Writing.{DoesNotFit, MakesAt}
 
 -- An attempt at the n-th code entry is in vain: there is no rewrite, and no word is drawn; or the module with the one that words choose isn't small enough.
@@ -38,6 +38,7 @@ pub record ChoosesOfModule (scope : Scope) (bytes : List ℕ) (stream : Stream) 
   pub info : Module
   pub layout : Layout
   pub is : IsModule bytes info layout
+  pub marked : IsMarked scope info
   pub chooses : ChoosesBy scope bytes info layout scope.function stream function rewrite new after
 
 -- ---- no rewrite fits
@@ -67,6 +68,7 @@ pub record GivesUp (scope : Scope) (bytes : List ℕ) (stream : Stream) : Type 0
   pub info : Module
   pub layout : Layout
   pub is : IsModule bytes info layout
+  pub marked : IsMarked scope info
   pub left : Stream
   pub vain : GivesUpOn scope bytes info layout scope.function stream left
 

@@ -1,5 +1,5 @@
 -- A rewritten module is valid where the old one was, and does what that did (this project).
-use Rattle.std.specs.Prelude.{◌≡◌, ℕ, ◌+◌, List, [], ◌++◌, length, Option, Some, None, ⊤, slice_get, slice_range}
+use Rattle.std.specs.Prelude.{◌≡◌, Bool, ℕ, ◌+◌, List, [], ◌++◌, length, Option, Some, None, ⊤, slice_get, slice_range}
 use Rattle.std.specs.List.{All}
 use Rattle.wasm_code.specs.declared.operator.Operator.{Operator}
 use Rattle.wasm_types.specs.Module.{Module}
@@ -96,7 +96,8 @@ pub record IsModuleAfter (bytes : List ℕ) (info : Module) (layout : Layout) (o
       HasContents new again.entries n (slice_range bytes entry.contents entry.end)
   pub made : (making : Making) → IsMadeOf bytes layout.sections making → IsMadeOf new again.sections (with_more_globals more making)
 
--- Whichever functions are taken of the module that the first bytes are, the second bytes are a module with these, which do as before.
-pub record DoesAsBefore (bytes new : List ℕ) : Type 0 where
-  pub functions : (info : Module) (layout : Layout) (old : Functions) → IsModule bytes info layout → AreFunctions bytes info layout old →
-      IsModuleAfter bytes info layout old new
+-- Whichever functions are taken of the module that the first bytes are, the second bytes are a module with these, which do as before: in every sound
+-- embedder, or where what runs the module is exact, in every one that is, which does on exact rows what the standard says.
+pub record DoesAsBefore (exact : Bool) (bytes new : List ℕ) : Type 0 where
+  pub functions : (info : Module) (layout : Layout) (old : Functions) → IsModule bytes info layout → info.exact ≡ exact →
+      AreFunctions bytes info layout old → IsModuleAfter bytes info layout old new

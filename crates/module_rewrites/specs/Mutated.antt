@@ -17,7 +17,7 @@ use Rattle.body_rewrites.specs.declared.rewrite.Rewrite.{Rewrite}
 use Rattle.body_rewrites.specs.Random.{AppendsByWords, HasNoRewrite}
 use Rattle.module_rewrites.specs.Function.{IsFunction}
 use Rattle.module_rewrites.specs.ReadAgain.{IsReadAgain}
-use Rattle.module_rewrites.specs.Scope.{Scope, wanted_of}
+use Rattle.module_rewrites.specs.Scope.{Scope, IsMarked, wanted_of}
 use Rattle.module_rewrites.specs.Size.{IsSmallEnough}
 use Rattle.module_rewrites.specs.Writing.{Exceeds, IsNoSmaller, IsWritten}
 use Rattle.module_rewrites.specs.declared.mutation.MutationError.{MutationError}
@@ -49,11 +49,12 @@ abbrev pub MutatesOne : Scope → (bytes : List ℕ) → Module → Layout → (
 MutatesOne scope bytes info layout function rewrite new =
     (n : ℕ) × (function ≡ layout.imported_functions + n) × MutatesEntry scope bytes info layout n rewrite new
 
--- The same of the bytes of a module, at a function that may be rewritten; and the new module is small enough.
+-- The same of the bytes of a module, exact or not as the scope says, at a function that may be rewritten; and the new module is small enough.
 pub record IsMutated (scope : Scope) (bytes : List ℕ) (function : ℕ) (rewrite : Rewrite) (new : List ℕ) : Type 0 where
   pub info : Module
   pub layout : Layout
   pub is : IsModule bytes info layout
+  pub marked : IsMarked scope info
   pub chosen : IsChosen scope.function function
   pub fits : IsSmallEnough scope bytes new
   pub mutates : MutatesOne scope bytes info layout function rewrite new
@@ -65,11 +66,12 @@ HasNoMutation scope bytes info layout n =
     (locals : List PrimitiveTypeInfo) (expression : ℕ) (operators : List (Operator × ℕ)) → IsFunction bytes info layout n locals expression operators →
     HasNoRewrite (context_in info locals) scope.rules (wanted_of scope) operators
 
--- No rewrite can be made in any function that may be rewritten.
+-- No rewrite can be made in any function that may be rewritten, of the module that is exact or not as the scope says.
 pub record CannotMutate (scope : Scope) (bytes : List ℕ) : Type 0 where
   pub info : Module
   pub layout : Layout
   pub is : IsModule bytes info layout
+  pub marked : IsMarked scope info
   pub none : (n : ℕ) → n < length layout.entries → IsChosen scope.function (layout.imported_functions + n) →
       HasNoMutation scope bytes info layout n
 
@@ -95,6 +97,7 @@ pub record RefusesChosenEntry (scope : Scope) (bytes : List ℕ) (e : MutationEr
   pub info : Module
   pub layout : Layout
   pub is : IsModule bytes info layout
+  pub marked : IsMarked scope info
   pub n : ℕ
   pub inside : n < length layout.entries
   pub chosen : IsChosen scope.function (layout.imported_functions + n)
@@ -107,9 +110,10 @@ RefusesMutation scope bytes e = RefusesChosenEntry scope bytes e
 
 -- ---- for private functions
 
--- the new bytes are a module rewritten at the function with the index, of which this was read but for its bytes
-abbrev pub WasRewrittenAt : Module → Layout → (function : ℕ) → (new : List ℕ) → Type 0
-WasRewrittenAt info layout function new = (n : ℕ) × (function ≡ layout.imported_functions + n) × WasRewritten info layout n new
+-- the new bytes are a module rewritten at the function with the index, of which this was read but for its bytes, exact or not as the scope says
+abbrev pub WasRewrittenAt : Scope → Module → Layout → (function : ℕ) → (new : List ℕ) → Type 0
+WasRewrittenAt scope info layout function new =
+    (n : ℕ) × (function ≡ layout.imported_functions + n) × WasRewritten info layout n new × IsMarked scope info
 
 -- the rewrite's module isn't small enough: another rewrite may fit
 abbrev pub IsOfSize : MutationError → Type 0

@@ -14,7 +14,7 @@ use std::alloc::{AllocError, Global};
 use std::ops::Range;
 use thiserror::Error as ErrorTexts;
 use wasm_module::laws::one_reading;
-use wasm_module::{Layout, ModuleError, read_module};
+use wasm_module::{Layout, ModuleError, read_marked};
 use wasm_types::ModuleInfo;
 
 /// Why nothing of a module is rewritten.
@@ -163,7 +163,7 @@ fn without_rewrite(
 ) -> Reason
     requires module { IsModule bytes.now info.now layout.now }
     requires inside { entries.end ≤ length layout.now.entries }
-    ensures reason { IsReasonWithin bytes.now layout.now entries.start entries.end result }
+    ensures reason { IsReasonWithin bytes.now info.now layout.now entries.start entries.end result }
     ensures size { ¬ (IsForSize result) }
 {
     if entries.start >= entries.end {
@@ -188,14 +188,14 @@ pub(crate) fn rewrite_first<R: Rng>(
     ensures chosen { IfOk result (λ m. ChoosesOfModule scope.now bytes.now
         (R.stream generator.old) m.mutated.function m.mutated.rewrite m.mutated.bytes.items
         (R.stream generator.new)) }
-    ensures read { IfOk result (λ m. WasRewrittenAt
+    ensures read { IfOk result (λ m. WasRewrittenAt scope.now
         m.read.info m.read.layout m.mutated.function m.mutated.bytes.items) }
     ensures fails { IfErr result (IsReason scope.now bytes.now) }
     ensures gives_up { IfErr result (λ e. IsForSize e
         → GivesUp scope.now bytes.now (R.stream generator.old)) }
 {
     one_reading();
-    let module = match read_module(alloc, bytes) {
+    let module = match read_marked(alloc, bytes, scope.exact) {
         Ok(module) => module,
         Err(e) => return Err(Reason::Refused(MutationError::Read(e))),
     };

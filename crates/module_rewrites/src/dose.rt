@@ -11,7 +11,7 @@ use crate::mutation::MutationError;
 use crate::scope::Scope;
 use std::alloc::Global;
 use std::ops::Range;
-use wasm_module::{Layout, read_module};
+use wasm_module::{Layout, read_marked};
 use wasm_types::ModuleInfo;
 
 /// How many rewrites are wanted of a module.
@@ -90,7 +90,7 @@ fn all_operators(alloc: Global, bytes: &[u8], scope: &Scope<'_>) -> Result<u128,
     ensures fails { IfErr result (IsReason scope.now bytes.now) }
     ensures reading { IfErr result IsOfReading }
 {
-    let module = match read_module(alloc, bytes) {
+    let module = match read_marked(alloc, bytes, scope.exact) {
         Ok(module) => module,
         Err(e) => return Err(Reason::Refused(MutationError::Read(e))),
     };

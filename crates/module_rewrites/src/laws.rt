@@ -1,5 +1,5 @@
 //! What holds of rewritten modules. A function here does nothing: its contract is the law.
-ghost use Rattle.std.specs.Prelude.{◌≡◌, ◌<◌, ◌≤◌, ◌+◌, ◌^◌, ◌++◌, ℕ, List, Option, None, length, true};
+ghost use Rattle.std.specs.Prelude.{◌≡◌, ◌<◌, ◌≤◌, ◌+◌, ◌^◌, ◌++◌, Bool, ℕ, List, Option, None, length, true};
 ghost use Rattle.std.specs.List.{sum_by};
 ghost use Rattle.rand_core.specs.Stream.{Stream};
 ghost use Rattle.wasm_code.specs.declared.operator.Operator.{Operator};
@@ -57,19 +57,20 @@ pub fn rewritten_modules_are_read_again()
 }
 
 /// A module in which an operator was rewritten (`one`), or several, one after another (`each`), is valid where it was, and does what it
-/// did; so it does without its custom sections that name places in the code (`stripped`), and as it is (`itself`). What does as a
+/// did, in every sound embedder, or in every exact one where the scope says that what runs it is exact; so it does without its custom sections that name places in the code (`stripped`), and as it is (`itself`). What does as a
 /// second module, which does as a third, does as that (`follow`).
 pub fn rewritten_modules_do_as_before()
     ensures one { (scope : Scope) (bytes new : List ℕ) (function : ℕ) (rewrite : Rewrite)
-        → IsMutated scope bytes function rewrite new → DoesAsBefore bytes new }
+        → IsMutated scope bytes function rewrite new → DoesAsBefore scope.exact bytes new }
     ensures each { (scope : Scope) (count : ℕ) (bytes new : List ℕ) (made : List MadeRewrite)
         (stopped : Option MutationError) → Mutates scope count bytes made new stopped
-        → DoesAsBefore bytes new }
-    ensures stripped { (bytes new : List ℕ) (sections : List Section) → SpellsModule bytes sections
-        → IsWithoutDebug bytes sections new → DoesAsBefore bytes new }
-    ensures itself { (bytes : List ℕ) → DoesAsBefore bytes bytes }
-    ensures follow { (bytes between new : List ℕ) → DoesAsBefore bytes between
-        → DoesAsBefore between new → DoesAsBefore bytes new }
+        → DoesAsBefore scope.exact bytes new }
+    ensures stripped { (exact : Bool) (bytes new : List ℕ) (sections : List Section)
+        → SpellsModule bytes sections → IsWithoutDebug bytes sections new
+        → DoesAsBefore exact bytes new }
+    ensures itself { (exact : Bool) (bytes : List ℕ) → DoesAsBefore exact bytes bytes }
+    ensures follow { (exact : Bool) (bytes between new : List ℕ) → DoesAsBefore exact bytes between
+        → DoesAsBefore exact between new → DoesAsBefore exact bytes new }
 {
     one_reading();
     one_list();

@@ -6,7 +6,7 @@ ghost use Rattle.peephole_machine.specs.Values.{context_in};
 ghost use Rattle.body_rewrites.specs.Random.{AppendsByWords, HasNoRewrite};
 ghost use Rattle.module_rewrites.specs.Chosen.{AllInVain, ChoosesAgain, ChoosesBy, ChoosesFrom, ChoosesOfModule, ChoosesWithin, GivesUp, GivesUpAgain, GivesUpInOrder, GivesUpOn, TriesInVain};
 ghost use Rattle.module_rewrites.specs.Mutated.{CannotMutate, HasNoMutation, IsBehindLocals, IsInVain, IsMutated, IsOfSize, IsRefusedForSize, MutatesEntry, MutatesOne, RefusesEntry, RefusesMutation, WasRewrittenAt, last_of};
-ghost use Rattle.module_rewrites.specs.Scope.{wanted_of};
+ghost use Rattle.module_rewrites.specs.Scope.{IsMarked, wanted_of};
 ghost use Rattle.module_rewrites.specs.Size.{IsSmallEnough};
 ghost use Rattle.module_rewrites.specs.Writing.{MakesAt};
 ghost use Rattle.module_rewrites.specs.declared.mutation.MutationError.TheVariants.{Memory, Write};
@@ -442,6 +442,7 @@ pub(crate) fn mutate_chosen<R: Rng>(
     layout: &Layout,
 ) -> Result<Option<Mutated>, MutationError>
     requires module { IsModule bytes.now info.now layout.now }
+    requires marked { IsMarked scope.now info.now }
     ensures mutated { IfOk result (λ o. IfSome o (λ m.
         IsMutated scope.now bytes.now m.function m.rewrite m.bytes.items)) }
     ensures chosen { IfOk result (λ o. IfSome o (λ m. ChoosesBy
@@ -469,13 +470,13 @@ pub(crate) fn mutate_with<R: Rng>(
     generator: &mut R,
     scope: &Scope<'_>,
 ) -> Result<Option<Step>, MutationError>
-    requires { WasRewrittenAt read.info read.layout function bytes.now }
+    requires { WasRewrittenAt scope.now read.info read.layout function bytes.now }
     ensures mutated { IfOk result (λ o. IfSome o (λ m. IsMutated scope.now bytes.now
         m.mutated.function m.mutated.rewrite m.mutated.bytes.items)) }
     ensures chosen { IfOk result (λ o. IfSome o (λ m. ChoosesOfModule
         scope.now bytes.now (R.stream generator.old) m.mutated.function m.mutated.rewrite
         m.mutated.bytes.items (R.stream generator.new))) }
-    ensures read { IfOk result (λ o. IfSome o (λ m. WasRewrittenAt
+    ensures read { IfOk result (λ o. IfSome o (λ m. WasRewrittenAt scope.now
         m.read.info m.read.layout m.mutated.function m.mutated.bytes.items)) }
     ensures none { IfOk result (λ o. IfNone o (CannotMutate scope.now bytes.now)) }
     ensures refused { IfErr result (RefusesMutation scope.now bytes.now) }

@@ -1,10 +1,10 @@
-//! What of a module may be rewritten.
+//! What of a module may be rewritten, and on what.
 
 use body_rewrites::Growth;
 use rewrite_rules::Rule;
 use std::marker::Model;
 
-/// What of a module may be rewritten, how large a new one may be, and whether it is made smaller.
+/// What of a module may be rewritten, how large a new one may be, whether it is made smaller, and whether what runs it is exact.
 #[derive(Drop)]
 pub struct Scope<'a> {
     /// The rules.
@@ -17,6 +17,9 @@ pub struct Scope<'a> {
     /// Whether each rewrite is to make the module smaller: it leaves no more operators, and the module has fewer bytes, or as many
     /// and comes before the old one as words stand in a dictionary.
     pub shrinking: bool,
+    /// Whether what runs the module does what the standard says on the exact rows, on floats, vectors and memories, and no other thread
+    /// writes its memories: only then is a row with one of these operators applied.
+    pub exact: bool,
 }
 
 // What leaves no more operators.
@@ -41,6 +44,7 @@ impl<'a> Model for Scope<'a> {
       function = s.function;
       most = s.max_size;
       shrinking = s.shrinking;
+      exact = s.exact;
     } };
 }
 

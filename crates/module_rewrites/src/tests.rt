@@ -30,6 +30,7 @@ fn rewritten(alloc: Global, rules: &[Rule], seed: u64) -> Result<RewrittenModule
         function: None,
         max_size: 1_000,
         shrinking: false,
+        exact: false,
     };
     let mut generator = StdRng::seed_from_u64(seed);
     let mut unwatched = Unwatched;

@@ -92,7 +92,8 @@ fn stopped(rewritten: RewrittenModule, e: MutationError) -> RewrittenModule
 ///
 /// The new bytes are a module again, of at most as many bytes as the scope says. It is valid where the old one was, and each of its
 /// functions, called with any arguments in any memory, tables and globals, does what it did, through loops, branches, recursion,
-/// calls of imports and calls through tables. They differ from the old ones in the places of the old code, the globals that are
+/// calls of imports and calls through tables; where the scope says that what runs it is exact, so it is in what does on the exact rows
+/// what the standard says, and else in whatever does the same for the same. They differ from the old ones in the places of the old code, the globals that are
 /// appended, and the sizes and numbers that stand before them.
 ///
 /// Each rewrite is shown to the watcher once it stands in `made`; one for which no memory was left there is not shown.
@@ -120,8 +121,8 @@ pub fn rewrite_module<R: Rng, W: Watch>(
     // The new module is the old one rewritten once or more, at most `count` times, and what stands round each rewrite runs as before.
     ensures mutated { IfOk result (λ m.
         Mutates scope.now count bytes.now m.made.items m.bytes.items m.stopped) }
-    // It is valid where the old one was, and its functions do what they did, in every sound embedder.
-    ensures does_as_before { IfOk result (λ m. DoesAsBefore bytes.now m.bytes.items) }
+    // It is valid where the old one was, and its functions do what they did, in every sound embedder, or in every exact one.
+    ensures does_as_before { IfOk result (λ m. DoesAsBefore scope.now.exact bytes.now m.bytes.items) }
     // Each rewrite is the one that the generator's words choose from where the last one left it.
     ensures chosen { IfOk result (λ m. ChoosesTimes scope.now bytes.now
         (R.stream generator.old) m.made.items m.bytes.items m.stopped) }

@@ -5,14 +5,14 @@ ghost use Rattle.wasm_module.specs.Module.{IsModule};
 use crate::error::ShowError;
 use module_rewrites::{FunctionBody, read_function};
 use std::alloc::Global;
-use wasm_module::{Layout, Module, ModuleFault, read_module};
+use wasm_module::{Layout, Module, ModuleFault, read_marked};
 use wasm_types::ModuleInfo;
 
-/// The module; none where the bytes are none.
+/// The module; none where the bytes are none. Rewrites on exact rows are shown too, whatever runs it.
 pub(crate) fn module_of<'a>(alloc: Global, bytes: &'a [u8]) -> Result<Option<Module<'a>>, ShowError>
     ensures { IfOk result (λ o. IfSome o (λ m. IsModule bytes.now m.info m.layout)) }
 {
-    match read_module(alloc, bytes) {
+    match read_marked(alloc, bytes, true) {
         Ok(module) => Ok(Some(module)),
         Err(e) => {
             if e.kind == ModuleFault::Memory {

@@ -15,7 +15,7 @@ use Rattle.peephole_machine.specs.Machine.{run}
 use Rattle.peephole_machine.proofs.LawLemmas.{exact_world}
 
 abbrev info : Module
-info = record (module_of []) { memories = record { memory64 = false } ∷ []; exact = true }
+info = record (module_of []) { memories = record { memory64 = false; shared = false } ∷ []; exact = true }
 
 abbrev start : State
 start = record { locals = []; globals = []; rest = 0; world = exact_world info 64 }

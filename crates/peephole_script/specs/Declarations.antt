@@ -1,5 +1,5 @@
 -- What lines say of the module that the body comes from (this project's rules).
-use Rattle.std.specs.Prelude.{◌≡◌, ◌⊎◌, ◌^◌, ◌&&◌, MatchResult, ℕ, List, [], ◌∷◌, ◌++◌, length, nat_lt, Option, Some, None, Result, if◌then◌else◌}
+use Rattle.std.specs.Prelude.{◌≡◌, ◌⊎◌, ◌^◌, ◌&&◌, MatchResult, ℕ, false, List, [], ◌∷◌, ◌++◌, length, nat_lt, Option, Some, None, Result, if◌then◌else◌}
 use Rattle.wasm_types.specs.Module.{Module}
 use Rattle.wasm_types.specs.declared.types.TypeInfo.TheVariants.{Func}
 use Rattle.peephole_script.specs.declared.fault.Fault.{Fault}
@@ -21,7 +21,7 @@ with_global info _ = None
 
 -- `memory 32|64`: a memory with indexes of so many bits
 abbrev pub with_memory : Module → List (List ℕ) → Option Module
-with_memory info (bits ∷ []) = given (is_64 bits) (λ wide. Some (record info { memories = info.memories ++ record { memory64 = wide } ∷ [] }))
+with_memory info (bits ∷ []) = given (is_64 bits) (λ wide. Some (record info { memories = info.memories ++ record { memory64 = wide; shared = false } ∷ [] }))
 with_memory info _ = None
 
 -- `table func|extern 32|64`: a table of such elements, with indexes of so many bits

@@ -66,7 +66,10 @@ fn add_memory(info: &mut ModuleInfo, words: &[&str]) -> Result<(), Fault>
     let Some(memory64) = is_64(bits) else {
         return Err(Fault::BadArgument);
     };
-    info.memory_types.push(MemoryType { memory64 })?;
+    info.memory_types.push(MemoryType {
+        memory64,
+        shared: false,
+    })?;
     Ok(())
 }
 

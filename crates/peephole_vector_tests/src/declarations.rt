@@ -27,11 +27,11 @@ types | 10 | 01 4d 00 5f 00 | 0 of 1, then UnknownForm at 11 | a structure with 
 types | 10 | 01 4e 02 60 00 00 | Truncated at 11 | a group that is cut
 types | 10 | 03 60 00 00 60 01 40 00 60 | 1 of 3, then UnknownForm at 14 | a value type that isn't one
 types | 10 | 01 60 00 | Truncated at 11 | a type that is cut
-imports | 100 | 05 01 6d 01 66 00 03 00 01 74 01 70 01 02 05 00 00 02 04 8001 00 00 03 7e 01 00 00 04 00 09 | [Function(3), Table(TableType { element_type: Other, table64: false }), Memory(MemoryType { memory64: true }), Global(I64), Tag(9)] | a function of type 3, a table of 2 to 5 functions, a memory of 128 pages or more that 64 bits index, a global that may be written, and a tag of type 9
+imports | 100 | 05 01 6d 01 66 00 03 00 01 74 01 70 01 02 05 00 00 02 04 8001 00 00 03 7e 01 00 00 04 00 09 | [Function(3), Table(TableType { element_type: Other, table64: false }), Memory(MemoryType { memory64: true, shared: false }), Global(I64), Tag(9)] | a function of type 3, a table of 2 to 5 functions, a memory of 128 pages or more that 64 bits index, a global that may be written, and a tag of type 9
 imports | 100 | 02 00 00 00 03 00 00 05 00 | 1 of 2, then UnknownForm at 105 | another kind of import
 imports | 100 | 03 00 00 01 6e 00 00 00 00 03 64 02 00 00 00 04 00 05 | [Table(TableType { element_type: Other, table64: false }), Global(Empty), Tag(5)] | a table of any references, a global of the type (ref 2), and a tag of type 5
 imports | 100 | 01 00 00 03 63 65 6e 00 | 0 of 1, then UnknownForm at 101 | a global of a shared heap type
-memories | 0 | 06 00 01 01 01 02 04 01 05 01 02 03 01 02 07 01 02 | [MemoryType { memory64: false }, MemoryType { memory64: false }, MemoryType { memory64: true }, MemoryType { memory64: true }, MemoryType { memory64: false }, MemoryType { memory64: true }] | with and without a maximum, that 32 or 64 bits index, and shared ones of either width
+memories | 0 | 06 00 01 01 01 02 04 01 05 01 02 03 01 02 07 01 02 | [MemoryType { memory64: false, shared: false }, MemoryType { memory64: false, shared: false }, MemoryType { memory64: true, shared: false }, MemoryType { memory64: true, shared: false }, MemoryType { memory64: false, shared: true }, MemoryType { memory64: true, shared: true }] | with and without a maximum, that 32 or 64 bits index, and shared ones of either width
 memories | 0 | 02 00 01 02 01 | 1 of 2, then UnknownForm at 3 | a shared memory without a maximum
 memories | 0 | 01 08 01 00 | 0 of 1, then UnknownForm at 1 | pages of another size
 tables | 0 | 02 70 00 00 6f 05 01 02 | [TableType { element_type: Other, table64: false }, TableType { element_type: Other, table64: true }] | of functions, and of references from outside that 64 bits index

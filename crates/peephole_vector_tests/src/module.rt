@@ -53,7 +53,7 @@ const UNKNOWN: &str =
 /// function the type, the types of the globals, tables and memories, the imported ones first; then how many functions are
 /// imported, how many globals the module's own section has, the entries and how many sections there are; then what isn't known.
 const KNOWN: &str = "
-2 [1, 0, 1] [I64, F32] [TableType { element_type: Other, table64: false }, TableType { element_type: Other, table64: false }] [MemoryType { memory64: false }, MemoryType { memory64: true }] | 1 1 [Entry { start: 87, contents: 88, end: 92 }, Entry { start: 92, contents: 93, end: 95 }] 8 | Unknown { types: None, imports: None, tables: None, memories: None, globals: None }
+2 [1, 0, 1] [I64, F32] [TableType { element_type: Other, table64: false }, TableType { element_type: Other, table64: false }] [MemoryType { memory64: false, shared: false }, MemoryType { memory64: true, shared: false }] | 1 1 [Entry { start: 87, contents: 88, end: 92 }, Entry { start: 92, contents: 93, end: 95 }] 8 | Unknown { types: None, imports: None, tables: None, memories: None, globals: None }
 2 [0] [] [] [] | 0 0 [Entry { start: 25, contents: 26, end: 28 }] 3 | Unknown { types: None, imports: None, tables: None, memories: None, globals: None }
 3 [2] [] [] [] | 0 0 [Entry { start: 28, contents: 29, end: 31 }] 3 | Unknown { types: None, imports: None, tables: None, memories: None, globals: None }
 1 [0, 0] [I32, Empty] [TableType { element_type: Other, table64: false }] [] | 1 2 [Entry { start: 47, contents: 48, end: 50 }] 5 | Unknown { types: None, imports: None, tables: None, memories: None, globals: None }

@@ -236,7 +236,10 @@ fn module_of(alloc: Global) -> Result<ModuleInfo<'static>, Fail> {
     let mut info = ModuleInfo::new(alloc, &[]);
     info.global_types.extend_from_slice(&VALUES)?;
     for memory64 in [false, true] {
-        info.memory_types.push(MemoryType { memory64 })?;
+        info.memory_types.push(MemoryType {
+            memory64,
+            shared: false,
+        })?;
     }
     info.table_types.push(TableType {
         element_type: ElementType::Func,

@@ -31,7 +31,10 @@ fn analysis_of(alloc: Global) -> Result<PeepholeMutationAnalysis<'static>, Fail>
     info.types_map
         .push(TypeInfo::Func(FuncInfo { params, returns }))?;
     info.function_map.push(0)?;
-    info.memory_types.push(MemoryType { memory64: true })?;
+    info.memory_types.push(MemoryType {
+        memory64: true,
+        shared: false,
+    })?;
     let locals = Vec::from_slice(alloc, &[PrimitiveTypeInfo::F32])?;
     Ok(PeepholeMutationAnalysis::new(&info, locals)?)
 }

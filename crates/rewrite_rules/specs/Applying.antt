@@ -11,8 +11,8 @@ use Rattle.rewrite_rules.specs.Pattern.{holes}
 use Rattle.rewrite_rules.specs.Numbers.{constant_at}
 use Rattle.rewrite_rules.specs.Order.{is_in, effect_at}
 use Rattle.rewrite_rules.specs.Instance.{Applies}
-use Rattle.rewrite_rules.specs.Line.{is_formed}
-use Rattle.rewrite_rules.specs.Table.{line_of}
+use Rattle.rewrite_rules.specs.Line.{is_formed, is_exact_line}
+use Rattle.rewrite_rules.specs.Table.{line_of, needs_exact}
 use Rattle.rewrite_rules.specs.Operands.{AreTypes}
 
 -- The row's line for the width is well formed, as each line of the table is for each of its row's widths.
@@ -38,3 +38,7 @@ pub record IsTold (row : Row) (t : IntegerType) (types : List (Option PrimitiveT
       Applies context (line_of row t) x (constant_at numbers)
   pub only : (context : Context) (x : ℕ → List Instruction) → AreFound context x row t types effects exact →
       Applies context (line_of row t) x (constant_at numbers) → answer ≡ true
+
+-- A line that is well formed has an exact row exactly where its row has the step.
+abbrev pub ExactRowsAreTold : Type 0
+ExactRowsAreTold = (row : Row) (t : IntegerType) → IsFormed row t → is_exact_line (line_of row t) ≡ needs_exact row

@@ -23,6 +23,11 @@ use Rattle.rewrite_rules.specs.declared.table.Row.{Row}
 use Rattle.rewrite_rules.specs.declared.table.TheConstants.{ORDERS, GROUPS, LONGER, FORMS, NEUTRAL, POWERS, TWICE}
 use Rattle.rewrite_rules.specs.declared.table.TheConstants.{ALONE, TESTS, OPPOSITES, PARTS, SHORTER, BACK, FRONT, AGAIN, SIGNS, EQUALS, COUNTED, TURNED}
 use Rattle.rewrite_rules.specs.declared.table.TheConstants.{ABSORBED, SETTLED}
+use Rattle.rewrite_rules.specs.declared.table.TheConstants.{FLOATS, FLOAT_BITS, FLOAT_SIGNS, FLOAT_COPIES, FLOAT_TESTS, FLOAT_SELVES, FLOAT_TURNS, FLOAT_ORDERS}
+use Rattle.rewrite_rules.specs.declared.table.TheConstants.{VECTOR_BITS, VECTOR_FORMS, LANE_SUMS, LANE_NEGATIVES, LANE_ZEROS, LANE_MAGNITUDES}
+use Rattle.rewrite_rules.specs.declared.table.TheConstants.{LANE_ORDERS, WIDE_ORDERS, LANE_OPPOSITES, WIDE_OPPOSITES, LANE_COMPLEMENTS, WIDE_COMPLEMENTS}
+use Rattle.rewrite_rules.specs.declared.table.TheConstants.{LANE_BOUNDS, LANE_REPEATS, LANE_CHOICES, LANE_SHIFTS, LANE_TURNS, LANE_FLOATS}
+use Rattle.rewrite_rules.specs.declared.table.TheConstants.{LANE_SPLATS, LANE_BITS, SPLAT_BITS, SIGNED_LANES, EXTENDED_LANES, VECTOR_DECIDED}
 use Rattle.rewrite_rules.specs.Pattern.{Kind, fixed, any, operands_of, Pattern, Patterns, hole, constant, drawn, apply, none, ◌▹◌}
 use Rattle.rewrite_rules.specs.Instance.{row_number, immediate_of}
 use Rattle.rewrite_rules.specs.Parts.{parts_of}
@@ -173,7 +178,12 @@ row_in e = record { widths = e.1; condition = e.2; left = e.3; right = e.4 }
 unfoldable pub parts : List (List Entry)
 parts =
     ORDERS ∷ GROUPS ∷ LONGER ∷ FORMS ∷ NEUTRAL ∷ POWERS ∷ TWICE ∷ ALONE ∷ TESTS ∷ OPPOSITES ∷ PARTS ∷ SHORTER ∷ BACK ∷ FRONT ∷ AGAIN ∷
-    SIGNS ∷ EQUALS ∷ COUNTED ∷ TURNED ∷ ABSORBED ∷ SETTLED ∷ []
+    SIGNS ∷ EQUALS ∷ COUNTED ∷ TURNED ∷ ABSORBED ∷ SETTLED ∷ FLOATS ∷ FLOAT_BITS ∷ FLOAT_SIGNS ∷ FLOAT_COPIES ∷
+    FLOAT_TESTS ∷ FLOAT_SELVES ∷ FLOAT_TURNS ∷ FLOAT_ORDERS ∷
+    VECTOR_BITS ∷ VECTOR_FORMS ∷ LANE_SUMS ∷ LANE_NEGATIVES ∷ LANE_ZEROS ∷ LANE_MAGNITUDES ∷
+    LANE_ORDERS ∷ WIDE_ORDERS ∷ LANE_OPPOSITES ∷ WIDE_OPPOSITES ∷ LANE_COMPLEMENTS ∷ WIDE_COMPLEMENTS ∷
+    LANE_BOUNDS ∷ LANE_REPEATS ∷ LANE_CHOICES ∷ LANE_SHIFTS ∷ LANE_TURNS ∷ LANE_FLOATS ∷
+    LANE_SPLATS ∷ LANE_BITS ∷ SPLAT_BITS ∷ SIGNED_LANES ∷ EXTENDED_LANES ∷ VECTOR_DECIDED ∷ []
 
 abbrev pub part_at : ℕ → List Entry
 part_at n = get_or parts n []

@@ -66,8 +66,8 @@ impl TableRow {
         has_exact(self.left()) || has_exact(self.right())
     }
 
-    // Whether what runs the module is as the row asks.
-    fn is_ready(&self, exact: bool) -> bool
+    /// Whether what runs the module is as the row asks: exact, where the row has an exact row.
+    pub fn is_ready(&self, exact: bool) -> bool
         ensures { result ≡ (exact || not (needs_exact self.now)) }
     {
         exact || !self.needs_exact()

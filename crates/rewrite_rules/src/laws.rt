@@ -1,5 +1,6 @@
 //! What holds of the rules. A function here does nothing: its contract is the laws.
 
+ghost use Rattle.rewrite_rules.specs.Applying.{ExactRowsAreTold};
 ghost use Rattle.rewrite_rules.specs.Laws.{LinesKeepCode, TableIsRight};
 ghost use Rattle.rewrite_rules.specs.Names.{NamesDiffer, AreFew};
 ghost use Rattle.rewrite_rules.specs.Needs.{NeedsAreEnough};
@@ -51,6 +52,11 @@ pub fn parts_are_instructions()
     table_is_right();
     sides_are_parts();
 }
+
+/// A line that is well formed has an exact row exactly where `TableRow::needs_exact` says so of its row.
+pub fn exact_rows_are_told()
+    ensures { ExactRowsAreTold }
+{}
 
 /// `TableRow::types_fit` tells exactly whether operands leave the types of their holes.
 pub fn types_are_told()

@@ -5,9 +5,13 @@ ghost use Rattle.rewrite_rules.specs.Lines.{shown, shown_at};
 ghost use Rattle.rewrite_rules.specs.Names.{begin_at};
 
 use crate::table::{
-    ABSORBED, AGAIN, ALONE, BACK, COUNTED, EQUALS, FORMS, FRONT, GROUPS, LONGER, NEUTRAL,
-    OPPOSITES, ORDERS, PARTS, POWERS, Row, SETTLED, SHORTER, SIGNS, TESTS, TURNED, TWICE,
-    TableLine,
+    ABSORBED, AGAIN, ALONE, BACK, COUNTED, EQUALS, EXTENDED_LANES, FLOAT_BITS, FLOAT_COPIES,
+    FLOAT_ORDERS, FLOAT_SELVES, FLOAT_SIGNS, FLOAT_TESTS, FLOAT_TURNS, FLOATS, FORMS, FRONT,
+    GROUPS, LANE_BITS, LANE_BOUNDS, LANE_CHOICES, LANE_COMPLEMENTS, LANE_FLOATS, LANE_MAGNITUDES,
+    LANE_NEGATIVES, LANE_OPPOSITES, LANE_ORDERS, LANE_REPEATS, LANE_SHIFTS, LANE_SPLATS, LANE_SUMS,
+    LANE_TURNS, LANE_ZEROS, LONGER, NEUTRAL, OPPOSITES, ORDERS, PARTS, POWERS, Row, SETTLED,
+    SHORTER, SIGNED_LANES, SIGNS, SPLAT_BITS, TESTS, TURNED, TWICE, TableLine, VECTOR_BITS,
+    VECTOR_DECIDED, VECTOR_FORMS, WIDE_COMPLEMENTS, WIDE_OPPOSITES, WIDE_ORDERS,
 };
 
 // The lines of each constant, each of which stands once in memory.
@@ -52,6 +56,70 @@ static TURNED_LINES: [TableLine; TURNED.len()] = TURNED;
 static ABSORBED_LINES: [TableLine; ABSORBED.len()] = ABSORBED;
 
 static SETTLED_LINES: [TableLine; SETTLED.len()] = SETTLED;
+
+static FLOATS_LINES: [TableLine; FLOATS.len()] = FLOATS;
+
+static FLOAT_BITS_LINES: [TableLine; FLOAT_BITS.len()] = FLOAT_BITS;
+
+static FLOAT_SIGNS_LINES: [TableLine; FLOAT_SIGNS.len()] = FLOAT_SIGNS;
+
+static FLOAT_COPIES_LINES: [TableLine; FLOAT_COPIES.len()] = FLOAT_COPIES;
+
+static FLOAT_TESTS_LINES: [TableLine; FLOAT_TESTS.len()] = FLOAT_TESTS;
+
+static FLOAT_SELVES_LINES: [TableLine; FLOAT_SELVES.len()] = FLOAT_SELVES;
+
+static FLOAT_TURNS_LINES: [TableLine; FLOAT_TURNS.len()] = FLOAT_TURNS;
+
+static FLOAT_ORDERS_LINES: [TableLine; FLOAT_ORDERS.len()] = FLOAT_ORDERS;
+
+static VECTOR_BITS_LINES: [TableLine; VECTOR_BITS.len()] = VECTOR_BITS;
+
+static VECTOR_FORMS_LINES: [TableLine; VECTOR_FORMS.len()] = VECTOR_FORMS;
+
+static LANE_SUMS_LINES: [TableLine; LANE_SUMS.len()] = LANE_SUMS;
+
+static LANE_NEGATIVES_LINES: [TableLine; LANE_NEGATIVES.len()] = LANE_NEGATIVES;
+
+static LANE_ZEROS_LINES: [TableLine; LANE_ZEROS.len()] = LANE_ZEROS;
+
+static LANE_MAGNITUDES_LINES: [TableLine; LANE_MAGNITUDES.len()] = LANE_MAGNITUDES;
+
+static LANE_ORDERS_LINES: [TableLine; LANE_ORDERS.len()] = LANE_ORDERS;
+
+static WIDE_ORDERS_LINES: [TableLine; WIDE_ORDERS.len()] = WIDE_ORDERS;
+
+static LANE_OPPOSITES_LINES: [TableLine; LANE_OPPOSITES.len()] = LANE_OPPOSITES;
+
+static WIDE_OPPOSITES_LINES: [TableLine; WIDE_OPPOSITES.len()] = WIDE_OPPOSITES;
+
+static LANE_COMPLEMENTS_LINES: [TableLine; LANE_COMPLEMENTS.len()] = LANE_COMPLEMENTS;
+
+static WIDE_COMPLEMENTS_LINES: [TableLine; WIDE_COMPLEMENTS.len()] = WIDE_COMPLEMENTS;
+
+static LANE_BOUNDS_LINES: [TableLine; LANE_BOUNDS.len()] = LANE_BOUNDS;
+
+static LANE_REPEATS_LINES: [TableLine; LANE_REPEATS.len()] = LANE_REPEATS;
+
+static LANE_CHOICES_LINES: [TableLine; LANE_CHOICES.len()] = LANE_CHOICES;
+
+static LANE_SHIFTS_LINES: [TableLine; LANE_SHIFTS.len()] = LANE_SHIFTS;
+
+static LANE_TURNS_LINES: [TableLine; LANE_TURNS.len()] = LANE_TURNS;
+
+static LANE_FLOATS_LINES: [TableLine; LANE_FLOATS.len()] = LANE_FLOATS;
+
+static LANE_SPLATS_LINES: [TableLine; LANE_SPLATS.len()] = LANE_SPLATS;
+
+static LANE_BITS_LINES: [TableLine; LANE_BITS.len()] = LANE_BITS;
+
+static SPLAT_BITS_LINES: [TableLine; SPLAT_BITS.len()] = SPLAT_BITS;
+
+static SIGNED_LANES_LINES: [TableLine; SIGNED_LANES.len()] = SIGNED_LANES;
+
+static EXTENDED_LANES_LINES: [TableLine; EXTENDED_LANES.len()] = EXTENDED_LANES;
+
+static VECTOR_DECIDED_LINES: [TableLine; VECTOR_DECIDED.len()] = VECTOR_DECIDED;
 
 // The line with that number among these.
 fn line_in(lines: &'static [TableLine], number: usize) -> Option<&'static TableLine>
@@ -187,6 +255,198 @@ fn in_settled(number: usize) -> Option<&'static TableLine>
     line_in(&SETTLED_LINES, number)
 }
 
+fn in_floats(number: usize) -> Option<&'static TableLine>
+    ensures { shown_at result ≡ slice_get FLOATS number }
+{
+    line_in(&FLOATS_LINES, number)
+}
+
+fn in_float_bits(number: usize) -> Option<&'static TableLine>
+    ensures { shown_at result ≡ slice_get FLOAT_BITS number }
+{
+    line_in(&FLOAT_BITS_LINES, number)
+}
+
+fn in_float_signs(number: usize) -> Option<&'static TableLine>
+    ensures { shown_at result ≡ slice_get FLOAT_SIGNS number }
+{
+    line_in(&FLOAT_SIGNS_LINES, number)
+}
+
+fn in_float_copies(number: usize) -> Option<&'static TableLine>
+    ensures { shown_at result ≡ slice_get FLOAT_COPIES number }
+{
+    line_in(&FLOAT_COPIES_LINES, number)
+}
+
+fn in_float_tests(number: usize) -> Option<&'static TableLine>
+    ensures { shown_at result ≡ slice_get FLOAT_TESTS number }
+{
+    line_in(&FLOAT_TESTS_LINES, number)
+}
+
+fn in_float_selves(number: usize) -> Option<&'static TableLine>
+    ensures { shown_at result ≡ slice_get FLOAT_SELVES number }
+{
+    line_in(&FLOAT_SELVES_LINES, number)
+}
+
+fn in_float_turns(number: usize) -> Option<&'static TableLine>
+    ensures { shown_at result ≡ slice_get FLOAT_TURNS number }
+{
+    line_in(&FLOAT_TURNS_LINES, number)
+}
+
+fn in_float_orders(number: usize) -> Option<&'static TableLine>
+    ensures { shown_at result ≡ slice_get FLOAT_ORDERS number }
+{
+    line_in(&FLOAT_ORDERS_LINES, number)
+}
+
+fn in_vector_bits(number: usize) -> Option<&'static TableLine>
+    ensures { shown_at result ≡ slice_get VECTOR_BITS number }
+{
+    line_in(&VECTOR_BITS_LINES, number)
+}
+
+fn in_vector_forms(number: usize) -> Option<&'static TableLine>
+    ensures { shown_at result ≡ slice_get VECTOR_FORMS number }
+{
+    line_in(&VECTOR_FORMS_LINES, number)
+}
+
+fn in_lane_sums(number: usize) -> Option<&'static TableLine>
+    ensures { shown_at result ≡ slice_get LANE_SUMS number }
+{
+    line_in(&LANE_SUMS_LINES, number)
+}
+
+fn in_lane_negatives(number: usize) -> Option<&'static TableLine>
+    ensures { shown_at result ≡ slice_get LANE_NEGATIVES number }
+{
+    line_in(&LANE_NEGATIVES_LINES, number)
+}
+
+fn in_lane_zeros(number: usize) -> Option<&'static TableLine>
+    ensures { shown_at result ≡ slice_get LANE_ZEROS number }
+{
+    line_in(&LANE_ZEROS_LINES, number)
+}
+
+fn in_lane_magnitudes(number: usize) -> Option<&'static TableLine>
+    ensures { shown_at result ≡ slice_get LANE_MAGNITUDES number }
+{
+    line_in(&LANE_MAGNITUDES_LINES, number)
+}
+
+fn in_lane_orders(number: usize) -> Option<&'static TableLine>
+    ensures { shown_at result ≡ slice_get LANE_ORDERS number }
+{
+    line_in(&LANE_ORDERS_LINES, number)
+}
+
+fn in_wide_orders(number: usize) -> Option<&'static TableLine>
+    ensures { shown_at result ≡ slice_get WIDE_ORDERS number }
+{
+    line_in(&WIDE_ORDERS_LINES, number)
+}
+
+fn in_lane_opposites(number: usize) -> Option<&'static TableLine>
+    ensures { shown_at result ≡ slice_get LANE_OPPOSITES number }
+{
+    line_in(&LANE_OPPOSITES_LINES, number)
+}
+
+fn in_wide_opposites(number: usize) -> Option<&'static TableLine>
+    ensures { shown_at result ≡ slice_get WIDE_OPPOSITES number }
+{
+    line_in(&WIDE_OPPOSITES_LINES, number)
+}
+
+fn in_lane_complements(number: usize) -> Option<&'static TableLine>
+    ensures { shown_at result ≡ slice_get LANE_COMPLEMENTS number }
+{
+    line_in(&LANE_COMPLEMENTS_LINES, number)
+}
+
+fn in_wide_complements(number: usize) -> Option<&'static TableLine>
+    ensures { shown_at result ≡ slice_get WIDE_COMPLEMENTS number }
+{
+    line_in(&WIDE_COMPLEMENTS_LINES, number)
+}
+
+fn in_lane_bounds(number: usize) -> Option<&'static TableLine>
+    ensures { shown_at result ≡ slice_get LANE_BOUNDS number }
+{
+    line_in(&LANE_BOUNDS_LINES, number)
+}
+
+fn in_lane_repeats(number: usize) -> Option<&'static TableLine>
+    ensures { shown_at result ≡ slice_get LANE_REPEATS number }
+{
+    line_in(&LANE_REPEATS_LINES, number)
+}
+
+fn in_lane_choices(number: usize) -> Option<&'static TableLine>
+    ensures { shown_at result ≡ slice_get LANE_CHOICES number }
+{
+    line_in(&LANE_CHOICES_LINES, number)
+}
+
+fn in_lane_shifts(number: usize) -> Option<&'static TableLine>
+    ensures { shown_at result ≡ slice_get LANE_SHIFTS number }
+{
+    line_in(&LANE_SHIFTS_LINES, number)
+}
+
+fn in_lane_turns(number: usize) -> Option<&'static TableLine>
+    ensures { shown_at result ≡ slice_get LANE_TURNS number }
+{
+    line_in(&LANE_TURNS_LINES, number)
+}
+
+fn in_lane_floats(number: usize) -> Option<&'static TableLine>
+    ensures { shown_at result ≡ slice_get LANE_FLOATS number }
+{
+    line_in(&LANE_FLOATS_LINES, number)
+}
+
+fn in_lane_splats(number: usize) -> Option<&'static TableLine>
+    ensures { shown_at result ≡ slice_get LANE_SPLATS number }
+{
+    line_in(&LANE_SPLATS_LINES, number)
+}
+
+fn in_lane_bits(number: usize) -> Option<&'static TableLine>
+    ensures { shown_at result ≡ slice_get LANE_BITS number }
+{
+    line_in(&LANE_BITS_LINES, number)
+}
+
+fn in_splat_bits(number: usize) -> Option<&'static TableLine>
+    ensures { shown_at result ≡ slice_get SPLAT_BITS number }
+{
+    line_in(&SPLAT_BITS_LINES, number)
+}
+
+fn in_signed_lanes(number: usize) -> Option<&'static TableLine>
+    ensures { shown_at result ≡ slice_get SIGNED_LANES number }
+{
+    line_in(&SIGNED_LANES_LINES, number)
+}
+
+fn in_extended_lanes(number: usize) -> Option<&'static TableLine>
+    ensures { shown_at result ≡ slice_get EXTENDED_LANES number }
+{
+    line_in(&EXTENDED_LANES_LINES, number)
+}
+
+fn in_vector_decided(number: usize) -> Option<&'static TableLine>
+    ensures { shown_at result ≡ slice_get VECTOR_DECIDED number }
+{
+    line_in(&VECTOR_DECIDED_LINES, number)
+}
+
 // The same, by the number of the constant.
 fn line_of(part: usize, number: usize) -> Option<&'static TableLine>
     ensures { shown_at result ≡ slice_get (part_at part) number }
@@ -213,33 +473,47 @@ fn line_of(part: usize, number: usize) -> Option<&'static TableLine>
         18 => in_turned(number),
         19 => in_absorbed(number),
         20 => in_settled(number),
+        21 => in_floats(number),
+        22 => in_float_bits(number),
+        23 => in_float_signs(number),
+        24 => in_float_copies(number),
+        25 => in_float_tests(number),
+        26 => in_float_selves(number),
+        27 => in_float_turns(number),
+        28 => in_float_orders(number),
+        29 => in_vector_bits(number),
+        30 => in_vector_forms(number),
+        31 => in_lane_sums(number),
+        32 => in_lane_negatives(number),
+        33 => in_lane_zeros(number),
+        34 => in_lane_magnitudes(number),
+        35 => in_lane_orders(number),
+        36 => in_wide_orders(number),
+        37 => in_lane_opposites(number),
+        38 => in_wide_opposites(number),
+        39 => in_lane_complements(number),
+        40 => in_wide_complements(number),
+        41 => in_lane_bounds(number),
+        42 => in_lane_repeats(number),
+        43 => in_lane_choices(number),
+        44 => in_lane_shifts(number),
+        45 => in_lane_turns(number),
+        46 => in_lane_floats(number),
+        47 => in_lane_splats(number),
+        48 => in_lane_bits(number),
+        49 => in_splat_bits(number),
+        50 => in_signed_lanes(number),
+        51 => in_extended_lanes(number),
+        52 => in_vector_decided(number),
         _ => None,
     }
 }
 
 // How many lines each constant has.
-const COUNTS: [usize; 21] = [
-    ORDERS.len(),
-    GROUPS.len(),
-    LONGER.len(),
-    FORMS.len(),
-    NEUTRAL.len(),
-    POWERS.len(),
-    TWICE.len(),
-    ALONE.len(),
-    TESTS.len(),
-    OPPOSITES.len(),
-    PARTS.len(),
-    SHORTER.len(),
-    BACK.len(),
-    FRONT.len(),
-    AGAIN.len(),
-    SIGNS.len(),
-    EQUALS.len(),
-    COUNTED.len(),
-    TURNED.len(),
-    ABSORBED.len(),
-    SETTLED.len(),
+const COUNTS: [usize; 53] = [
+    15, 10, 10, 11, 16, 8, 7, 6, 12, 10, 15, 6, 11, 11, 17, 16, 15, 16, 4, 14, 19, 20, 20, 18, 12,
+    20, 12, 24, 12, 19, 18, 21, 24, 20, 16, 20, 16, 20, 16, 20, 16, 12, 24, 24, 24, 24, 20, 24, 24,
+    20, 24, 24, 14,
 ];
 
 // The line with that number in the table.
@@ -277,27 +551,7 @@ pub(crate) fn name_at(number: usize) -> Option<&'static str>
 }
 
 // How many lines there are.
-const LINE_COUNT: usize = ORDERS.len()
-    + GROUPS.len()
-    + LONGER.len()
-    + FORMS.len()
-    + NEUTRAL.len()
-    + POWERS.len()
-    + TWICE.len()
-    + ALONE.len()
-    + TESTS.len()
-    + OPPOSITES.len()
-    + PARTS.len()
-    + SHORTER.len()
-    + BACK.len()
-    + FRONT.len()
-    + AGAIN.len()
-    + SIGNS.len()
-    + EQUALS.len()
-    + COUNTED.len()
-    + TURNED.len()
-    + ABSORBED.len()
-    + SETTLED.len();
+const LINE_COUNT: usize = 871;
 
 /// How many rows there are.
 pub fn row_count() -> usize

@@ -136,7 +136,8 @@ pub struct Row {
 pub type TableLine = (Option<&'static str>, Widths, Option<Condition>, Side, Side);
 
 // A step as rows write it: `c` and `d` are the numbers of the constants on the left side, `N` is the width in bits, and `log c` the place
-// of the lowest bit of `c`, and `sign` the highest bit alone. An operator has its instruction's name; where its types are its own, the whole one, in parentheses.
+// of the lowest bit of `c`, and `sign` the highest bit alone. An operator has its instruction's name; where its types are its own, as on
+// floats and vectors, the whole one, in parentheses, with its lane, where it has one.
 macro_rules! step {
     (x) => { Step::Operand(0) };
     (y) => { Step::Operand(1) };
@@ -196,6 +197,133 @@ macro_rules! step {
     ((i64.extend8_s)) => { Step::Whole(Operation::Extend8S(IntegerType::I64)) };
     ((i64.extend16_s)) => { Step::Whole(Operation::Extend16S(IntegerType::I64)) };
     ((i64.extend32_s)) => { Step::Whole(Operation::Extend32S) };
+    ((i32.and)) => { Step::Whole(Operation::Binary(IntegerType::I32, Binary::And)) };
+    ((i32.or)) => { Step::Whole(Operation::Binary(IntegerType::I32, Binary::Or)) };
+    ((f32.eq)) => { Step::Exact(62, None) };
+    ((f32.ne)) => { Step::Exact(63, None) };
+    ((f32.lt)) => { Step::Exact(64, None) };
+    ((f32.gt)) => { Step::Exact(65, None) };
+    ((f32.le)) => { Step::Exact(66, None) };
+    ((f32.ge)) => { Step::Exact(67, None) };
+    ((f64.eq)) => { Step::Exact(68, None) };
+    ((f64.ne)) => { Step::Exact(69, None) };
+    ((f64.lt)) => { Step::Exact(70, None) };
+    ((f64.gt)) => { Step::Exact(71, None) };
+    ((f64.le)) => { Step::Exact(72, None) };
+    ((f64.ge)) => { Step::Exact(73, None) };
+    ((f32.abs)) => { Step::Exact(110, None) };
+    ((f32.neg)) => { Step::Exact(111, None) };
+    ((f32.copysign)) => { Step::Exact(123, None) };
+    ((f64.abs)) => { Step::Exact(124, None) };
+    ((f64.neg)) => { Step::Exact(125, None) };
+    ((f64.copysign)) => { Step::Exact(137, None) };
+    ((i32.reinterpret_f32)) => { Step::Exact(159, None) };
+    ((i64.reinterpret_f64)) => { Step::Exact(160, None) };
+    ((f32.reinterpret_i32)) => { Step::Exact(161, None) };
+    ((f64.reinterpret_i64)) => { Step::Exact(162, None) };
+    ((i32x4.splat)) => { Step::Exact(206, None) };
+    ((i64x2.splat)) => { Step::Exact(207, None) };
+    ((f32x4.splat)) => { Step::Exact(208, None) };
+    ((f64x2.splat)) => { Step::Exact(209, None) };
+    ((i8x16.extract_lane_s $lane:literal)) => { Step::Exact(210, Some($lane)) };
+    ((i8x16.extract_lane_u $lane:literal)) => { Step::Exact(211, Some($lane)) };
+    ((i16x8.extract_lane_s $lane:literal)) => { Step::Exact(213, Some($lane)) };
+    ((i16x8.extract_lane_u $lane:literal)) => { Step::Exact(214, Some($lane)) };
+    ((i32x4.extract_lane $lane:literal)) => { Step::Exact(216, Some($lane)) };
+    ((i32x4.replace_lane $lane:literal)) => { Step::Exact(217, Some($lane)) };
+    ((i64x2.extract_lane $lane:literal)) => { Step::Exact(218, Some($lane)) };
+    ((i64x2.replace_lane $lane:literal)) => { Step::Exact(219, Some($lane)) };
+    ((f32x4.extract_lane $lane:literal)) => { Step::Exact(220, Some($lane)) };
+    ((f64x2.extract_lane $lane:literal)) => { Step::Exact(222, Some($lane)) };
+    ((i8x16.eq)) => { Step::Exact(224, None) };
+    ((i8x16.ne)) => { Step::Exact(225, None) };
+    ((i8x16.lt_s)) => { Step::Exact(226, None) };
+    ((i8x16.lt_u)) => { Step::Exact(227, None) };
+    ((i8x16.gt_s)) => { Step::Exact(228, None) };
+    ((i8x16.gt_u)) => { Step::Exact(229, None) };
+    ((i8x16.le_s)) => { Step::Exact(230, None) };
+    ((i8x16.le_u)) => { Step::Exact(231, None) };
+    ((i8x16.ge_s)) => { Step::Exact(232, None) };
+    ((i8x16.ge_u)) => { Step::Exact(233, None) };
+    ((i16x8.eq)) => { Step::Exact(234, None) };
+    ((i16x8.ne)) => { Step::Exact(235, None) };
+    ((i16x8.lt_s)) => { Step::Exact(236, None) };
+    ((i16x8.lt_u)) => { Step::Exact(237, None) };
+    ((i16x8.gt_s)) => { Step::Exact(238, None) };
+    ((i16x8.gt_u)) => { Step::Exact(239, None) };
+    ((i16x8.le_s)) => { Step::Exact(240, None) };
+    ((i16x8.le_u)) => { Step::Exact(241, None) };
+    ((i16x8.ge_s)) => { Step::Exact(242, None) };
+    ((i16x8.ge_u)) => { Step::Exact(243, None) };
+    ((i32x4.eq)) => { Step::Exact(244, None) };
+    ((i32x4.ne)) => { Step::Exact(245, None) };
+    ((i32x4.lt_s)) => { Step::Exact(246, None) };
+    ((i32x4.lt_u)) => { Step::Exact(247, None) };
+    ((i32x4.gt_s)) => { Step::Exact(248, None) };
+    ((i32x4.gt_u)) => { Step::Exact(249, None) };
+    ((i32x4.le_s)) => { Step::Exact(250, None) };
+    ((i32x4.le_u)) => { Step::Exact(251, None) };
+    ((i32x4.ge_s)) => { Step::Exact(252, None) };
+    ((i32x4.ge_u)) => { Step::Exact(253, None) };
+    ((v128.not)) => { Step::Exact(266, None) };
+    ((v128.and)) => { Step::Exact(267, None) };
+    ((v128.andnot)) => { Step::Exact(268, None) };
+    ((v128.or)) => { Step::Exact(269, None) };
+    ((v128.xor)) => { Step::Exact(270, None) };
+    ((v128.bitselect)) => { Step::Exact(271, None) };
+    ((i8x16.abs)) => { Step::Exact(285, None) };
+    ((i8x16.neg)) => { Step::Exact(286, None) };
+    ((i8x16.shl)) => { Step::Exact(296, None) };
+    ((i8x16.shr_s)) => { Step::Exact(297, None) };
+    ((i8x16.shr_u)) => { Step::Exact(298, None) };
+    ((i8x16.add)) => { Step::Exact(299, None) };
+    ((i8x16.sub)) => { Step::Exact(302, None) };
+    ((i8x16.min_s)) => { Step::Exact(307, None) };
+    ((i8x16.min_u)) => { Step::Exact(308, None) };
+    ((i8x16.max_s)) => { Step::Exact(309, None) };
+    ((i8x16.max_u)) => { Step::Exact(310, None) };
+    ((i16x8.abs)) => { Step::Exact(317, None) };
+    ((i16x8.neg)) => { Step::Exact(318, None) };
+    ((i16x8.shl)) => { Step::Exact(328, None) };
+    ((i16x8.shr_s)) => { Step::Exact(329, None) };
+    ((i16x8.shr_u)) => { Step::Exact(330, None) };
+    ((i16x8.add)) => { Step::Exact(331, None) };
+    ((i16x8.sub)) => { Step::Exact(334, None) };
+    ((i16x8.mul)) => { Step::Exact(338, None) };
+    ((i16x8.min_s)) => { Step::Exact(339, None) };
+    ((i16x8.min_u)) => { Step::Exact(340, None) };
+    ((i16x8.max_s)) => { Step::Exact(341, None) };
+    ((i16x8.max_u)) => { Step::Exact(342, None) };
+    ((i32x4.abs)) => { Step::Exact(348, None) };
+    ((i32x4.neg)) => { Step::Exact(349, None) };
+    ((i32x4.shl)) => { Step::Exact(356, None) };
+    ((i32x4.shr_s)) => { Step::Exact(357, None) };
+    ((i32x4.shr_u)) => { Step::Exact(358, None) };
+    ((i32x4.add)) => { Step::Exact(359, None) };
+    ((i32x4.sub)) => { Step::Exact(360, None) };
+    ((i32x4.mul)) => { Step::Exact(361, None) };
+    ((i32x4.min_s)) => { Step::Exact(362, None) };
+    ((i32x4.min_u)) => { Step::Exact(363, None) };
+    ((i32x4.max_s)) => { Step::Exact(364, None) };
+    ((i32x4.max_u)) => { Step::Exact(365, None) };
+    ((i64x2.abs)) => { Step::Exact(371, None) };
+    ((i64x2.neg)) => { Step::Exact(372, None) };
+    ((i64x2.shl)) => { Step::Exact(379, None) };
+    ((i64x2.shr_s)) => { Step::Exact(380, None) };
+    ((i64x2.shr_u)) => { Step::Exact(381, None) };
+    ((i64x2.add)) => { Step::Exact(382, None) };
+    ((i64x2.sub)) => { Step::Exact(383, None) };
+    ((i64x2.mul)) => { Step::Exact(384, None) };
+    ((i64x2.eq)) => { Step::Exact(385, None) };
+    ((i64x2.ne)) => { Step::Exact(386, None) };
+    ((i64x2.lt_s)) => { Step::Exact(387, None) };
+    ((i64x2.gt_s)) => { Step::Exact(388, None) };
+    ((i64x2.le_s)) => { Step::Exact(389, None) };
+    ((i64x2.ge_s)) => { Step::Exact(390, None) };
+    ((f32x4.abs)) => { Step::Exact(395, None) };
+    ((f32x4.neg)) => { Step::Exact(396, None) };
+    ((f64x2.abs)) => { Step::Exact(406, None) };
+    ((f64x2.neg)) => { Step::Exact(407, None) };
 }
 
 // A side of seven steps, behind which is nothing but `end`.
@@ -205,10 +333,13 @@ macro_rules! side {
     };
 }
 
-// The widths, by what stands behind `for`.
+// The widths, by what stands behind `for`: in parentheses the types of the operands, of which the last one is that of all further ones.
 macro_rules! widths {
     () => { Widths::Both };
     (any) => { Widths::Any };
+    (($a:ident)) => { Widths::Operands(PrimitiveTypeInfo::$a, PrimitiveTypeInfo::$a, PrimitiveTypeInfo::$a) };
+    (($a:ident $b:ident)) => { Widths::Operands(PrimitiveTypeInfo::$a, PrimitiveTypeInfo::$b, PrimitiveTypeInfo::$b) };
+    (($a:ident $b:ident $c:ident)) => { Widths::Operands(PrimitiveTypeInfo::$a, PrimitiveTypeInfo::$b, PrimitiveTypeInfo::$c) };
     ($t:ident) => { Widths::Only(IntegerType::$t) };
 }
 
@@ -233,7 +364,7 @@ macro_rules! row {
     ([$($l:tt)+] => [$($r:tt)+] $(if $($k:tt)+)?) => {
         row!(: [$($l)+] => [$($r)+] $(if $($k)+)?)
     };
-    ($($name:literal)? $(for $widths:ident)?: [$($l:tt)+] => [$($r:tt)+] $(if $($k:tt)+)?) => {
+    ($($name:literal)? $(for $widths:tt)?: [$($l:tt)+] => [$($r:tt)+] $(if $($k:tt)+)?) => {
         (
             name!($($name)?),
             widths!($($widths)?),
@@ -588,4 +719,754 @@ pub const SETTLED: [TableLine; 19] = [
     row!([x y le_u (i32.popcnt)] => [x y le_u]),
     row!([x y gt_u (i32.popcnt)] => [x y gt_u]),
     row!([x y ge_u (i32.popcnt)] => [x y ge_u]),
+];
+
+/// Signs of floats twice, and bits read as a float and back.
+pub const FLOATS: [TableLine; 20] = [
+    row!("drop_double_float_negation" for (F32): [x (f32.neg) (f32.neg)] => [x]),
+    row!(for (F64): [x (f64.neg) (f64.neg)] => [x]),
+    row!("double_float_negation" for (F32): [x] => [x (f32.neg) (f32.neg)]),
+    row!(for (F64): [x] => [x (f64.neg) (f64.neg)]),
+    row!("drop_neg_in_abs" for (F32): [x (f32.neg) (f32.abs)] => [x (f32.abs)]),
+    row!(for (F64): [x (f64.neg) (f64.abs)] => [x (f64.abs)]),
+    row!("neg_in_abs" for (F32): [x (f32.abs)] => [x (f32.neg) (f32.abs)]),
+    row!(for (F64): [x (f64.abs)] => [x (f64.neg) (f64.abs)]),
+    row!("drop_abs_again" for (F32): [x (f32.abs) (f32.abs)] => [x (f32.abs)]),
+    row!(for (F64): [x (f64.abs) (f64.abs)] => [x (f64.abs)]),
+    row!("abs_again" for (F32): [x (f32.abs)] => [x (f32.abs) (f32.abs)]),
+    row!(for (F64): [x (f64.abs)] => [x (f64.abs) (f64.abs)]),
+    row!("drop_reinterpretations" for (F32): [x (i32.reinterpret_f32) (f32.reinterpret_i32)] => [x]),
+    row!(for (I32): [x (f32.reinterpret_i32) (i32.reinterpret_f32)] => [x]),
+    row!(for (F64): [x (i64.reinterpret_f64) (f64.reinterpret_i64)] => [x]),
+    row!(for (I64): [x (f64.reinterpret_i64) (i64.reinterpret_f64)] => [x]),
+    row!("reinterpret_and_back" for (F32): [x] => [x (i32.reinterpret_f32) (f32.reinterpret_i32)]),
+    row!(for (I32): [x] => [x (f32.reinterpret_i32) (i32.reinterpret_f32)]),
+    row!(for (F64): [x] => [x (i64.reinterpret_f64) (f64.reinterpret_i64)]),
+    row!(for (I64): [x] => [x (f64.reinterpret_i64) (i64.reinterpret_f64)]),
+];
+
+/// The sign of a float by its bits.
+pub const FLOAT_BITS: [TableLine; 20] = [
+    row!("neg_to_bits" for (F32): [x (f32.neg)] => [x (i32.reinterpret_f32) sign xor (f32.reinterpret_i32)]),
+    row!(for (F64): [x (f64.neg)] => [x (i64.reinterpret_f64) sign xor (f64.reinterpret_i64)]),
+    row!("bits_to_neg" for (F32): [x (i32.reinterpret_f32) sign xor (f32.reinterpret_i32)] => [x (f32.neg)]),
+    row!(for (F64): [x (i64.reinterpret_f64) sign xor (f64.reinterpret_i64)] => [x (f64.neg)]),
+    row!("abs_to_bits" for (F32): [x (f32.abs)] => [x (i32.reinterpret_f32) 0x7fffffff and (f32.reinterpret_i32)]),
+    row!(for (F64): [x (f64.abs)] => [x (i64.reinterpret_f64) 0x7fffffffffffffff and (f64.reinterpret_i64)]),
+    row!("bits_to_abs" for (F32): [x (i32.reinterpret_f32) 0x7fffffff and (f32.reinterpret_i32)] => [x (f32.abs)]),
+    row!(for (F64): [x (i64.reinterpret_f64) 0x7fffffffffffffff and (f64.reinterpret_i64)] => [x (f64.abs)]),
+    row!("neg_abs_to_bits" for (F32): [x (f32.abs) (f32.neg)] => [x (i32.reinterpret_f32) sign or (f32.reinterpret_i32)]),
+    row!(for (F64): [x (f64.abs) (f64.neg)] => [x (i64.reinterpret_f64) sign or (f64.reinterpret_i64)]),
+    row!("bits_to_neg_abs" for (F32): [x (i32.reinterpret_f32) sign or (f32.reinterpret_i32)] => [x (f32.abs) (f32.neg)]),
+    row!(for (F64): [x (i64.reinterpret_f64) sign or (f64.reinterpret_i64)] => [x (f64.abs) (f64.neg)]),
+    row!("neg_behind_bits" for (F32): [x (f32.neg) (i32.reinterpret_f32)] => [x (i32.reinterpret_f32) sign xor]),
+    row!(for (F64): [x (f64.neg) (i64.reinterpret_f64)] => [x (i64.reinterpret_f64) sign xor]),
+    row!("neg_before_bits" for (F32): [x (i32.reinterpret_f32) sign xor] => [x (f32.neg) (i32.reinterpret_f32)]),
+    row!(for (F64): [x (i64.reinterpret_f64) sign xor] => [x (f64.neg) (i64.reinterpret_f64)]),
+    row!("abs_behind_bits" for (F32): [x (f32.abs) (i32.reinterpret_f32)] => [x (i32.reinterpret_f32) 0x7fffffff and]),
+    row!(for (F64): [x (f64.abs) (i64.reinterpret_f64)] => [x (i64.reinterpret_f64) 0x7fffffffffffffff and]),
+    row!("abs_before_bits" for (F32): [x (i32.reinterpret_f32) 0x7fffffff and] => [x (f32.abs) (i32.reinterpret_f32)]),
+    row!(for (F64): [x (i64.reinterpret_f64) 0x7fffffffffffffff and] => [x (f64.abs) (i64.reinterpret_f64)]),
+];
+
+/// The sign of one float with the bits of another.
+pub const FLOAT_SIGNS: [TableLine; 18] = [
+    row!("drop_neg_in_copysign" for (F32): [x (f32.neg) y (f32.copysign)] => [x y (f32.copysign)]),
+    row!(for (F64): [x (f64.neg) y (f64.copysign)] => [x y (f64.copysign)]),
+    row!("neg_in_copysign" for (F32): [x y (f32.copysign)] => [x (f32.neg) y (f32.copysign)]),
+    row!(for (F64): [x y (f64.copysign)] => [x (f64.neg) y (f64.copysign)]),
+    row!("drop_abs_in_copysign" for (F32): [x (f32.abs) y (f32.copysign)] => [x y (f32.copysign)]),
+    row!(for (F64): [x (f64.abs) y (f64.copysign)] => [x y (f64.copysign)]),
+    row!("abs_in_copysign" for (F32): [x y (f32.copysign)] => [x (f32.abs) y (f32.copysign)]),
+    row!(for (F64): [x y (f64.copysign)] => [x (f64.abs) y (f64.copysign)]),
+    row!("drop_copysign_of_self" for (F32): [x x (f32.copysign)] => [x]),
+    row!(for (F64): [x x (f64.copysign)] => [x]),
+    row!("copysign_of_self" for (F32): [x] => [x x (f32.copysign)]),
+    row!(for (F64): [x] => [x x (f64.copysign)]),
+    row!("abs_of_copysign" for (F32): [x y (f32.copysign) (f32.abs)] => [x (f32.abs)]),
+    row!(for (F64): [x y (f64.copysign) (f64.abs)] => [x (f64.abs)]),
+    row!("drop_first_copysign" for (F32): [x y (f32.copysign) z (f32.copysign)] => [x z (f32.copysign)]),
+    row!(for (F64): [x y (f64.copysign) z (f64.copysign)] => [x z (f64.copysign)]),
+    row!("drop_inner_copysign" for (F32): [x y z (f32.copysign) (f32.copysign)] => [x z (f32.copysign)]),
+    row!(for (F64): [x y z (f64.copysign) (f64.copysign)] => [x z (f64.copysign)]),
+];
+
+/// The sign of a float turned before it is copied, or behind that.
+pub const FLOAT_COPIES: [TableLine; 12] = [
+    row!("neg_out_of_copysign" for (F32): [x y (f32.neg) (f32.copysign)] => [x y (f32.copysign) (f32.neg)]),
+    row!(for (F64): [x y (f64.neg) (f64.copysign)] => [x y (f64.copysign) (f64.neg)]),
+    row!("neg_into_copysign" for (F32): [x y (f32.copysign) (f32.neg)] => [x y (f32.neg) (f32.copysign)]),
+    row!(for (F64): [x y (f64.copysign) (f64.neg)] => [x y (f64.neg) (f64.copysign)]),
+    row!("drop_copysign_of_neg" for (F32): [x x (f32.neg) (f32.copysign)] => [x (f32.neg)]),
+    row!(for (F64): [x x (f64.neg) (f64.copysign)] => [x (f64.neg)]),
+    row!("copysign_of_neg" for (F32): [x (f32.neg)] => [x x (f32.neg) (f32.copysign)]),
+    row!(for (F64): [x (f64.neg)] => [x x (f64.neg) (f64.copysign)]),
+    row!("drop_copysign_of_abs" for (F32): [x x (f32.abs) (f32.copysign)] => [x (f32.abs)]),
+    row!(for (F64): [x x (f64.abs) (f64.copysign)] => [x (f64.abs)]),
+    row!("copysign_of_abs" for (F32): [x (f32.abs)] => [x x (f32.abs) (f32.copysign)]),
+    row!(for (F64): [x (f64.abs)] => [x x (f64.abs) (f64.copysign)]),
+];
+
+/// Comparisons of floats, turned around, or by the test of the opposite.
+pub const FLOAT_TESTS: [TableLine; 20] = [
+    row!("commute_floats" for (F32): [x y (f32.eq)] => [y x (f32.eq)]),
+    row!(for (F32): [x y (f32.ne)] => [y x (f32.ne)]),
+    row!(for (F64): [x y (f64.eq)] => [y x (f64.eq)]),
+    row!(for (F64): [x y (f64.ne)] => [y x (f64.ne)]),
+    row!("turn_floats" for (F32): [x y (f32.lt)] => [y x (f32.gt)]),
+    row!(for (F32): [x y (f32.gt)] => [y x (f32.lt)]),
+    row!(for (F32): [x y (f32.le)] => [y x (f32.ge)]),
+    row!(for (F32): [x y (f32.ge)] => [y x (f32.le)]),
+    row!(for (F64): [x y (f64.lt)] => [y x (f64.gt)]),
+    row!(for (F64): [x y (f64.gt)] => [y x (f64.lt)]),
+    row!(for (F64): [x y (f64.le)] => [y x (f64.ge)]),
+    row!(for (F64): [x y (f64.ge)] => [y x (f64.le)]),
+    row!("negate_float_equality" for (F32): [x y (f32.ne)] => [x y (f32.eq) (i32.eqz)]),
+    row!(for (F32): [x y (f32.eq)] => [x y (f32.ne) (i32.eqz)]),
+    row!(for (F64): [x y (f64.ne)] => [x y (f64.eq) (i32.eqz)]),
+    row!(for (F64): [x y (f64.eq)] => [x y (f64.ne) (i32.eqz)]),
+    row!("drop_float_negation" for (F32): [x y (f32.eq) (i32.eqz)] => [x y (f32.ne)]),
+    row!(for (F32): [x y (f32.ne) (i32.eqz)] => [x y (f32.eq)]),
+    row!(for (F64): [x y (f64.eq) (i32.eqz)] => [x y (f64.ne)]),
+    row!(for (F64): [x y (f64.ne) (i32.eqz)] => [x y (f64.eq)]),
+];
+
+/// A float compared with itself.
+pub const FLOAT_SELVES: [TableLine; 12] = [
+    row!("cancel_float_comparison" for (F32): [x x (f32.lt)] => [0]),
+    row!(for (F32): [x x (f32.gt)] => [0]),
+    row!(for (I32 F64 F64): [y y (f64.lt)] => [0]),
+    row!(for (I32 F64 F64): [y y (f64.gt)] => [0]),
+    row!("self_equality_to_le" for (F32): [x x (f32.eq)] => [x x (f32.le)]),
+    row!(for (F64): [x x (f64.eq)] => [x x (f64.le)]),
+    row!("self_equality_to_ge" for (F32): [x x (f32.eq)] => [x x (f32.ge)]),
+    row!(for (F64): [x x (f64.eq)] => [x x (f64.ge)]),
+    row!("self_order_to_equality" for (F32): [x x (f32.le)] => [x x (f32.eq)]),
+    row!(for (F32): [x x (f32.ge)] => [x x (f32.eq)]),
+    row!(for (F64): [x x (f64.le)] => [x x (f64.eq)]),
+    row!(for (F64): [x x (f64.ge)] => [x x (f64.eq)]),
+];
+
+/// Comparisons of floats whose signs are turned.
+pub const FLOAT_TURNS: [TableLine; 24] = [
+    row!("drop_compared_negations" for (F32): [x (f32.neg) y (f32.neg) (f32.eq)] => [y x (f32.eq)]),
+    row!(for (F32): [x (f32.neg) y (f32.neg) (f32.ne)] => [y x (f32.ne)]),
+    row!(for (F32): [x (f32.neg) y (f32.neg) (f32.lt)] => [y x (f32.lt)]),
+    row!(for (F32): [x (f32.neg) y (f32.neg) (f32.gt)] => [y x (f32.gt)]),
+    row!(for (F32): [x (f32.neg) y (f32.neg) (f32.le)] => [y x (f32.le)]),
+    row!(for (F32): [x (f32.neg) y (f32.neg) (f32.ge)] => [y x (f32.ge)]),
+    row!(for (F64): [x (f64.neg) y (f64.neg) (f64.eq)] => [y x (f64.eq)]),
+    row!(for (F64): [x (f64.neg) y (f64.neg) (f64.ne)] => [y x (f64.ne)]),
+    row!(for (F64): [x (f64.neg) y (f64.neg) (f64.lt)] => [y x (f64.lt)]),
+    row!(for (F64): [x (f64.neg) y (f64.neg) (f64.gt)] => [y x (f64.gt)]),
+    row!(for (F64): [x (f64.neg) y (f64.neg) (f64.le)] => [y x (f64.le)]),
+    row!(for (F64): [x (f64.neg) y (f64.neg) (f64.ge)] => [y x (f64.ge)]),
+    row!("negate_compared" for (F32): [y x (f32.eq)] => [x (f32.neg) y (f32.neg) (f32.eq)]),
+    row!(for (F32): [y x (f32.ne)] => [x (f32.neg) y (f32.neg) (f32.ne)]),
+    row!(for (F32): [y x (f32.lt)] => [x (f32.neg) y (f32.neg) (f32.lt)]),
+    row!(for (F32): [y x (f32.gt)] => [x (f32.neg) y (f32.neg) (f32.gt)]),
+    row!(for (F32): [y x (f32.le)] => [x (f32.neg) y (f32.neg) (f32.le)]),
+    row!(for (F32): [y x (f32.ge)] => [x (f32.neg) y (f32.neg) (f32.ge)]),
+    row!(for (F64): [y x (f64.eq)] => [x (f64.neg) y (f64.neg) (f64.eq)]),
+    row!(for (F64): [y x (f64.ne)] => [x (f64.neg) y (f64.neg) (f64.ne)]),
+    row!(for (F64): [y x (f64.lt)] => [x (f64.neg) y (f64.neg) (f64.lt)]),
+    row!(for (F64): [y x (f64.gt)] => [x (f64.neg) y (f64.neg) (f64.gt)]),
+    row!(for (F64): [y x (f64.le)] => [x (f64.neg) y (f64.neg) (f64.le)]),
+    row!(for (F64): [y x (f64.ge)] => [x (f64.neg) y (f64.neg) (f64.ge)]),
+];
+
+/// Whether floats are equal, by both orders, and their order by both of its parts.
+pub const FLOAT_ORDERS: [TableLine; 12] = [
+    row!("equality_to_orders" for (F32): [x y (f32.eq)] => [x y (f32.le) x y (f32.ge) (i32.and)]),
+    row!(for (F64): [x y (f64.eq)] => [x y (f64.le) x y (f64.ge) (i32.and)]),
+    row!("orders_to_equality" for (F32): [x y (f32.le) x y (f32.ge) (i32.and)] => [x y (f32.eq)]),
+    row!(for (F64): [x y (f64.le) x y (f64.ge) (i32.and)] => [x y (f64.eq)]),
+    row!("order_to_parts" for (F32): [x y (f32.le)] => [x y (f32.lt) x y (f32.eq) (i32.or)]),
+    row!(for (F32): [x y (f32.ge)] => [x y (f32.gt) x y (f32.eq) (i32.or)]),
+    row!(for (F64): [x y (f64.le)] => [x y (f64.lt) x y (f64.eq) (i32.or)]),
+    row!(for (F64): [x y (f64.ge)] => [x y (f64.gt) x y (f64.eq) (i32.or)]),
+    row!("parts_to_order" for (F32): [x y (f32.lt) x y (f32.eq) (i32.or)] => [x y (f32.le)]),
+    row!(for (F32): [x y (f32.gt) x y (f32.eq) (i32.or)] => [x y (f32.ge)]),
+    row!(for (F64): [x y (f64.lt) x y (f64.eq) (i32.or)] => [x y (f64.le)]),
+    row!(for (F64): [x y (f64.gt) x y (f64.eq) (i32.or)] => [x y (f64.ge)]),
+];
+
+/// Vectors by their bits: operands in another order or grouped otherwise, and what changes nothing.
+pub const VECTOR_BITS: [TableLine; 19] = [
+    row!("double_vector_complement" for (V128): [x] => [x (v128.not) (v128.not)]),
+    row!("drop_double_vector_complement" for (V128): [x (v128.not) (v128.not)] => [x]),
+    row!("commute_vector_bits" for (V128): [x y (v128.and)] => [y x (v128.and)]),
+    row!(for (V128): [x y (v128.or)] => [y x (v128.or)]),
+    row!(for (V128): [x y (v128.xor)] => [y x (v128.xor)]),
+    row!("associate_vector_bits_left" for (V128): [x y z (v128.and) (v128.and)] => [x y (v128.and) z (v128.and)]),
+    row!(for (V128): [x y z (v128.or) (v128.or)] => [x y (v128.or) z (v128.or)]),
+    row!(for (V128): [x y z (v128.xor) (v128.xor)] => [x y (v128.xor) z (v128.xor)]),
+    row!("associate_vector_bits_right" for (V128): [x y (v128.and) z (v128.and)] => [x y z (v128.and) (v128.and)]),
+    row!(for (V128): [x y (v128.or) z (v128.or)] => [x y z (v128.or) (v128.or)]),
+    row!(for (V128): [x y (v128.xor) z (v128.xor)] => [x y z (v128.xor) (v128.xor)]),
+    row!("vector_complement_to_xor" for (V128): [x (v128.not)] => [x ones (i32x4.splat) (v128.xor)]),
+    row!("xor_to_vector_complement" for (V128): [x ones (i32x4.splat) (v128.xor)] => [x (v128.not)]),
+    row!("put_neutral_vector" for (V128): [x] => [x 0 (i32x4.splat) (v128.or)]),
+    row!(for (V128): [x] => [x 0 (i32x4.splat) (v128.xor)]),
+    row!(for (V128): [x] => [x ones (i32x4.splat) (v128.and)]),
+    row!("drop_neutral_vector" for (V128): [x 0 (i32x4.splat) (v128.or)] => [x]),
+    row!(for (V128): [x 0 (i32x4.splat) (v128.xor)] => [x]),
+    row!(for (V128): [x ones (i32x4.splat) (v128.and)] => [x]),
+];
+
+/// Vectors by their bits: complements, operands that stand twice, and selections.
+pub const VECTOR_FORMS: [TableLine; 18] = [
+    row!("and_not_to_and" for (V128): [x y (v128.andnot)] => [x y (v128.not) (v128.and)]),
+    row!("and_to_and_not" for (V128): [x y (v128.not) (v128.and)] => [x y (v128.andnot)]),
+    row!("vector_complement_of_both" for (V128): [x y (v128.and) (v128.not)] => [x (v128.not) y (v128.not) (v128.or)]),
+    row!(for (V128): [x y (v128.or) (v128.not)] => [x (v128.not) y (v128.not) (v128.and)]),
+    row!("both_vector_complements" for (V128): [x (v128.not) y (v128.not) (v128.or)] => [x y (v128.and) (v128.not)]),
+    row!(for (V128): [x (v128.not) y (v128.not) (v128.and)] => [x y (v128.or) (v128.not)]),
+    row!("repeat_vector" for (V128): [x] => [x x (v128.and)]),
+    row!(for (V128): [x] => [x x (v128.or)]),
+    row!("drop_repeated_vector" for (V128): [x x (v128.and)] => [x]),
+    row!(for (V128): [x x (v128.or)] => [x]),
+    row!("cancel_vector" for (V128): [x x (v128.xor)] => [0 (i32x4.splat)]),
+    row!("drop_bitselect" for (V128): [x x z (v128.bitselect)] => [x]),
+    row!("bitselect_to_bits" for (V128): [x y z (v128.bitselect)] => [x z (v128.and) y z (v128.andnot) (v128.or)]),
+    row!("bits_to_bitselect" for (V128): [x z (v128.and) y z (v128.andnot) (v128.or)] => [x y z (v128.bitselect)]),
+    row!("turn_bitselect" for (V128): [x y z (v128.bitselect)] => [y x z (v128.not) (v128.bitselect)]),
+    row!("turn_bitselect_back" for (V128): [y x z (v128.not) (v128.bitselect)] => [x y z (v128.bitselect)]),
+    row!("absorb_vector" for (V128): [x x y (v128.or) (v128.and)] => [x]),
+    row!(for (V128): [x x y (v128.and) (v128.or)] => [x]),
+];
+
+/// Sums and products of lanes in another order, or grouped otherwise.
+pub const LANE_SUMS: [TableLine; 21] = [
+    row!("commute_lanes" for (V128): [x y (i8x16.add)] => [y x (i8x16.add)]),
+    row!(for (V128): [x y (i16x8.add)] => [y x (i16x8.add)]),
+    row!(for (V128): [x y (i32x4.add)] => [y x (i32x4.add)]),
+    row!(for (V128): [x y (i64x2.add)] => [y x (i64x2.add)]),
+    row!(for (V128): [x y (i16x8.mul)] => [y x (i16x8.mul)]),
+    row!(for (V128): [x y (i32x4.mul)] => [y x (i32x4.mul)]),
+    row!(for (V128): [x y (i64x2.mul)] => [y x (i64x2.mul)]),
+    row!("associate_lanes_left" for (V128): [x y z (i8x16.add) (i8x16.add)] => [x y (i8x16.add) z (i8x16.add)]),
+    row!(for (V128): [x y z (i16x8.add) (i16x8.add)] => [x y (i16x8.add) z (i16x8.add)]),
+    row!(for (V128): [x y z (i32x4.add) (i32x4.add)] => [x y (i32x4.add) z (i32x4.add)]),
+    row!(for (V128): [x y z (i64x2.add) (i64x2.add)] => [x y (i64x2.add) z (i64x2.add)]),
+    row!(for (V128): [x y z (i16x8.mul) (i16x8.mul)] => [x y (i16x8.mul) z (i16x8.mul)]),
+    row!(for (V128): [x y z (i32x4.mul) (i32x4.mul)] => [x y (i32x4.mul) z (i32x4.mul)]),
+    row!(for (V128): [x y z (i64x2.mul) (i64x2.mul)] => [x y (i64x2.mul) z (i64x2.mul)]),
+    row!("associate_lanes_right" for (V128): [x y (i8x16.add) z (i8x16.add)] => [x y z (i8x16.add) (i8x16.add)]),
+    row!(for (V128): [x y (i16x8.add) z (i16x8.add)] => [x y z (i16x8.add) (i16x8.add)]),
+    row!(for (V128): [x y (i32x4.add) z (i32x4.add)] => [x y z (i32x4.add) (i32x4.add)]),
+    row!(for (V128): [x y (i64x2.add) z (i64x2.add)] => [x y z (i64x2.add) (i64x2.add)]),
+    row!(for (V128): [x y (i16x8.mul) z (i16x8.mul)] => [x y z (i16x8.mul) (i16x8.mul)]),
+    row!(for (V128): [x y (i32x4.mul) z (i32x4.mul)] => [x y z (i32x4.mul) (i32x4.mul)]),
+    row!(for (V128): [x y (i64x2.mul) z (i64x2.mul)] => [x y z (i64x2.mul) (i64x2.mul)]),
+];
+
+/// Differences of lanes as sums with negatives, and negatives as differences.
+pub const LANE_NEGATIVES: [TableLine; 24] = [
+    row!("lane_difference_to_sum" for (V128): [x y (i8x16.sub)] => [x y (i8x16.neg) (i8x16.add)]),
+    row!(for (V128): [x y (i16x8.sub)] => [x y (i16x8.neg) (i16x8.add)]),
+    row!(for (V128): [x y (i32x4.sub)] => [x y (i32x4.neg) (i32x4.add)]),
+    row!(for (V128): [x y (i64x2.sub)] => [x y (i64x2.neg) (i64x2.add)]),
+    row!("lane_sum_to_difference" for (V128): [x y (i8x16.neg) (i8x16.add)] => [x y (i8x16.sub)]),
+    row!(for (V128): [x y (i16x8.neg) (i16x8.add)] => [x y (i16x8.sub)]),
+    row!(for (V128): [x y (i32x4.neg) (i32x4.add)] => [x y (i32x4.sub)]),
+    row!(for (V128): [x y (i64x2.neg) (i64x2.add)] => [x y (i64x2.sub)]),
+    row!("lane_negative_to_difference" for (V128): [x (i8x16.neg)] => [0 (i32x4.splat) x (i8x16.sub)]),
+    row!(for (V128): [x (i16x8.neg)] => [0 (i32x4.splat) x (i16x8.sub)]),
+    row!(for (V128): [x (i32x4.neg)] => [0 (i32x4.splat) x (i32x4.sub)]),
+    row!(for (V128): [x (i64x2.neg)] => [0 (i32x4.splat) x (i64x2.sub)]),
+    row!("lane_difference_to_negative" for (V128): [0 (i32x4.splat) x (i8x16.sub)] => [x (i8x16.neg)]),
+    row!(for (V128): [0 (i32x4.splat) x (i16x8.sub)] => [x (i16x8.neg)]),
+    row!(for (V128): [0 (i32x4.splat) x (i32x4.sub)] => [x (i32x4.neg)]),
+    row!(for (V128): [0 (i32x4.splat) x (i64x2.sub)] => [x (i64x2.neg)]),
+    row!("double_lane_negative" for (V128): [x] => [x (i8x16.neg) (i8x16.neg)]),
+    row!(for (V128): [x] => [x (i16x8.neg) (i16x8.neg)]),
+    row!(for (V128): [x] => [x (i32x4.neg) (i32x4.neg)]),
+    row!(for (V128): [x] => [x (i64x2.neg) (i64x2.neg)]),
+    row!("drop_double_lane_negative" for (V128): [x (i8x16.neg) (i8x16.neg)] => [x]),
+    row!(for (V128): [x (i16x8.neg) (i16x8.neg)] => [x]),
+    row!(for (V128): [x (i32x4.neg) (i32x4.neg)] => [x]),
+    row!(for (V128): [x (i64x2.neg) (i64x2.neg)] => [x]),
+];
+
+/// Lanes that nothing is added to, and magnitudes of lanes.
+pub const LANE_ZEROS: [TableLine; 20] = [
+    row!("put_lane_zero" for (V128): [x] => [x 0 (i32x4.splat) (i8x16.add)]),
+    row!(for (V128): [x] => [x 0 (i32x4.splat) (i16x8.add)]),
+    row!(for (V128): [x] => [x 0 (i32x4.splat) (i32x4.add)]),
+    row!(for (V128): [x] => [x 0 (i32x4.splat) (i64x2.add)]),
+    row!("drop_lane_zero" for (V128): [x 0 (i32x4.splat) (i8x16.add)] => [x]),
+    row!(for (V128): [x 0 (i32x4.splat) (i16x8.add)] => [x]),
+    row!(for (V128): [x 0 (i32x4.splat) (i32x4.add)] => [x]),
+    row!(for (V128): [x 0 (i32x4.splat) (i64x2.add)] => [x]),
+    row!("cancel_lanes" for (V128): [x x (i8x16.sub)] => [0 (i32x4.splat)]),
+    row!(for (V128): [x x (i16x8.sub)] => [0 (i32x4.splat)]),
+    row!(for (V128): [x x (i32x4.sub)] => [0 (i32x4.splat)]),
+    row!(for (V128): [x x (i64x2.sub)] => [0 (i32x4.splat)]),
+    row!("lane_magnitude_of_negative" for (V128): [x (i8x16.abs)] => [x (i8x16.neg) (i8x16.abs)]),
+    row!(for (V128): [x (i16x8.abs)] => [x (i16x8.neg) (i16x8.abs)]),
+    row!(for (V128): [x (i32x4.abs)] => [x (i32x4.neg) (i32x4.abs)]),
+    row!(for (V128): [x (i64x2.abs)] => [x (i64x2.neg) (i64x2.abs)]),
+    row!("drop_negative_in_magnitude" for (V128): [x (i8x16.neg) (i8x16.abs)] => [x (i8x16.abs)]),
+    row!(for (V128): [x (i16x8.neg) (i16x8.abs)] => [x (i16x8.abs)]),
+    row!(for (V128): [x (i32x4.neg) (i32x4.abs)] => [x (i32x4.abs)]),
+    row!(for (V128): [x (i64x2.neg) (i64x2.abs)] => [x (i64x2.abs)]),
+];
+
+/// Magnitudes of lanes once more, and lanes shifted by one place.
+pub const LANE_MAGNITUDES: [TableLine; 16] = [
+    row!("repeat_lane_magnitude" for (V128): [x (i8x16.abs)] => [x (i8x16.abs) (i8x16.abs)]),
+    row!(for (V128): [x (i16x8.abs)] => [x (i16x8.abs) (i16x8.abs)]),
+    row!(for (V128): [x (i32x4.abs)] => [x (i32x4.abs) (i32x4.abs)]),
+    row!(for (V128): [x (i64x2.abs)] => [x (i64x2.abs) (i64x2.abs)]),
+    row!("drop_repeated_magnitude" for (V128): [x (i8x16.abs) (i8x16.abs)] => [x (i8x16.abs)]),
+    row!(for (V128): [x (i16x8.abs) (i16x8.abs)] => [x (i16x8.abs)]),
+    row!(for (V128): [x (i32x4.abs) (i32x4.abs)] => [x (i32x4.abs)]),
+    row!(for (V128): [x (i64x2.abs) (i64x2.abs)] => [x (i64x2.abs)]),
+    row!("lane_shift_to_double" for (V128): [x 1 (i8x16.shl)] => [x x (i8x16.add)]),
+    row!(for (V128): [x 1 (i16x8.shl)] => [x x (i16x8.add)]),
+    row!(for (V128): [x 1 (i32x4.shl)] => [x x (i32x4.add)]),
+    row!(for (V128): [x 1 (i64x2.shl)] => [x x (i64x2.add)]),
+    row!("lane_double_to_shift" for (V128): [x x (i8x16.add)] => [x 1 (i8x16.shl)]),
+    row!(for (V128): [x x (i16x8.add)] => [x 1 (i16x8.shl)]),
+    row!(for (V128): [x x (i32x4.add)] => [x 1 (i32x4.shl)]),
+    row!(for (V128): [x x (i64x2.add)] => [x 1 (i64x2.shl)]),
+];
+
+/// Tests of lanes of 8 and 16 bits, of operands in the other order.
+pub const LANE_ORDERS: [TableLine; 20] = [
+    row!("turn_lane_test" for (V128): [x y (i8x16.eq)] => [y x (i8x16.eq)]),
+    row!(for (V128): [x y (i16x8.eq)] => [y x (i16x8.eq)]),
+    row!(for (V128): [x y (i8x16.ne)] => [y x (i8x16.ne)]),
+    row!(for (V128): [x y (i16x8.ne)] => [y x (i16x8.ne)]),
+    row!(for (V128): [x y (i8x16.lt_s)] => [y x (i8x16.gt_s)]),
+    row!(for (V128): [x y (i16x8.lt_s)] => [y x (i16x8.gt_s)]),
+    row!(for (V128): [x y (i8x16.le_s)] => [y x (i8x16.ge_s)]),
+    row!(for (V128): [x y (i16x8.le_s)] => [y x (i16x8.ge_s)]),
+    row!(for (V128): [x y (i8x16.gt_s)] => [y x (i8x16.lt_s)]),
+    row!(for (V128): [x y (i16x8.gt_s)] => [y x (i16x8.lt_s)]),
+    row!(for (V128): [x y (i8x16.ge_s)] => [y x (i8x16.le_s)]),
+    row!(for (V128): [x y (i16x8.ge_s)] => [y x (i16x8.le_s)]),
+    row!(for (V128): [x y (i8x16.lt_u)] => [y x (i8x16.gt_u)]),
+    row!(for (V128): [x y (i16x8.lt_u)] => [y x (i16x8.gt_u)]),
+    row!(for (V128): [x y (i8x16.le_u)] => [y x (i8x16.ge_u)]),
+    row!(for (V128): [x y (i16x8.le_u)] => [y x (i16x8.ge_u)]),
+    row!(for (V128): [x y (i8x16.gt_u)] => [y x (i8x16.lt_u)]),
+    row!(for (V128): [x y (i16x8.gt_u)] => [y x (i16x8.lt_u)]),
+    row!(for (V128): [x y (i8x16.ge_u)] => [y x (i8x16.le_u)]),
+    row!(for (V128): [x y (i16x8.ge_u)] => [y x (i16x8.le_u)]),
+];
+
+/// Tests of lanes of 32 and 64 bits, of operands in the other order.
+pub const WIDE_ORDERS: [TableLine; 16] = [
+    row!(for (V128): [x y (i32x4.eq)] => [y x (i32x4.eq)]),
+    row!(for (V128): [x y (i64x2.eq)] => [y x (i64x2.eq)]),
+    row!(for (V128): [x y (i32x4.ne)] => [y x (i32x4.ne)]),
+    row!(for (V128): [x y (i64x2.ne)] => [y x (i64x2.ne)]),
+    row!(for (V128): [x y (i32x4.lt_s)] => [y x (i32x4.gt_s)]),
+    row!(for (V128): [x y (i64x2.lt_s)] => [y x (i64x2.gt_s)]),
+    row!(for (V128): [x y (i32x4.le_s)] => [y x (i32x4.ge_s)]),
+    row!(for (V128): [x y (i64x2.le_s)] => [y x (i64x2.ge_s)]),
+    row!(for (V128): [x y (i32x4.gt_s)] => [y x (i32x4.lt_s)]),
+    row!(for (V128): [x y (i64x2.gt_s)] => [y x (i64x2.lt_s)]),
+    row!(for (V128): [x y (i32x4.ge_s)] => [y x (i32x4.le_s)]),
+    row!(for (V128): [x y (i64x2.ge_s)] => [y x (i64x2.le_s)]),
+    row!(for (V128): [x y (i32x4.lt_u)] => [y x (i32x4.gt_u)]),
+    row!(for (V128): [x y (i32x4.le_u)] => [y x (i32x4.ge_u)]),
+    row!(for (V128): [x y (i32x4.gt_u)] => [y x (i32x4.lt_u)]),
+    row!(for (V128): [x y (i32x4.ge_u)] => [y x (i32x4.le_u)]),
+];
+
+/// Tests of lanes of 8 and 16 bits as the complements of their opposites.
+pub const LANE_OPPOSITES: [TableLine; 20] = [
+    row!("complement_lane_test" for (V128): [x y (i8x16.eq)] => [x y (i8x16.ne) (v128.not)]),
+    row!(for (V128): [x y (i16x8.eq)] => [x y (i16x8.ne) (v128.not)]),
+    row!(for (V128): [x y (i8x16.ne)] => [x y (i8x16.eq) (v128.not)]),
+    row!(for (V128): [x y (i16x8.ne)] => [x y (i16x8.eq) (v128.not)]),
+    row!(for (V128): [x y (i8x16.lt_s)] => [x y (i8x16.ge_s) (v128.not)]),
+    row!(for (V128): [x y (i16x8.lt_s)] => [x y (i16x8.ge_s) (v128.not)]),
+    row!(for (V128): [x y (i8x16.le_s)] => [x y (i8x16.gt_s) (v128.not)]),
+    row!(for (V128): [x y (i16x8.le_s)] => [x y (i16x8.gt_s) (v128.not)]),
+    row!(for (V128): [x y (i8x16.gt_s)] => [x y (i8x16.le_s) (v128.not)]),
+    row!(for (V128): [x y (i16x8.gt_s)] => [x y (i16x8.le_s) (v128.not)]),
+    row!(for (V128): [x y (i8x16.ge_s)] => [x y (i8x16.lt_s) (v128.not)]),
+    row!(for (V128): [x y (i16x8.ge_s)] => [x y (i16x8.lt_s) (v128.not)]),
+    row!(for (V128): [x y (i8x16.lt_u)] => [x y (i8x16.ge_u) (v128.not)]),
+    row!(for (V128): [x y (i16x8.lt_u)] => [x y (i16x8.ge_u) (v128.not)]),
+    row!(for (V128): [x y (i8x16.le_u)] => [x y (i8x16.gt_u) (v128.not)]),
+    row!(for (V128): [x y (i16x8.le_u)] => [x y (i16x8.gt_u) (v128.not)]),
+    row!(for (V128): [x y (i8x16.gt_u)] => [x y (i8x16.le_u) (v128.not)]),
+    row!(for (V128): [x y (i16x8.gt_u)] => [x y (i16x8.le_u) (v128.not)]),
+    row!(for (V128): [x y (i8x16.ge_u)] => [x y (i8x16.lt_u) (v128.not)]),
+    row!(for (V128): [x y (i16x8.ge_u)] => [x y (i16x8.lt_u) (v128.not)]),
+];
+
+/// Tests of lanes of 32 and 64 bits as the complements of their opposites.
+pub const WIDE_OPPOSITES: [TableLine; 16] = [
+    row!(for (V128): [x y (i32x4.eq)] => [x y (i32x4.ne) (v128.not)]),
+    row!(for (V128): [x y (i64x2.eq)] => [x y (i64x2.ne) (v128.not)]),
+    row!(for (V128): [x y (i32x4.ne)] => [x y (i32x4.eq) (v128.not)]),
+    row!(for (V128): [x y (i64x2.ne)] => [x y (i64x2.eq) (v128.not)]),
+    row!(for (V128): [x y (i32x4.lt_s)] => [x y (i32x4.ge_s) (v128.not)]),
+    row!(for (V128): [x y (i64x2.lt_s)] => [x y (i64x2.ge_s) (v128.not)]),
+    row!(for (V128): [x y (i32x4.le_s)] => [x y (i32x4.gt_s) (v128.not)]),
+    row!(for (V128): [x y (i64x2.le_s)] => [x y (i64x2.gt_s) (v128.not)]),
+    row!(for (V128): [x y (i32x4.gt_s)] => [x y (i32x4.le_s) (v128.not)]),
+    row!(for (V128): [x y (i64x2.gt_s)] => [x y (i64x2.le_s) (v128.not)]),
+    row!(for (V128): [x y (i32x4.ge_s)] => [x y (i32x4.lt_s) (v128.not)]),
+    row!(for (V128): [x y (i64x2.ge_s)] => [x y (i64x2.lt_s) (v128.not)]),
+    row!(for (V128): [x y (i32x4.lt_u)] => [x y (i32x4.ge_u) (v128.not)]),
+    row!(for (V128): [x y (i32x4.le_u)] => [x y (i32x4.gt_u) (v128.not)]),
+    row!(for (V128): [x y (i32x4.gt_u)] => [x y (i32x4.le_u) (v128.not)]),
+    row!(for (V128): [x y (i32x4.ge_u)] => [x y (i32x4.lt_u) (v128.not)]),
+];
+
+/// Complements of tests of lanes of 8 and 16 bits as their opposites.
+pub const LANE_COMPLEMENTS: [TableLine; 20] = [
+    row!("drop_complement_of_lane_test" for (V128): [x y (i8x16.ne) (v128.not)] => [x y (i8x16.eq)]),
+    row!(for (V128): [x y (i16x8.ne) (v128.not)] => [x y (i16x8.eq)]),
+    row!(for (V128): [x y (i8x16.eq) (v128.not)] => [x y (i8x16.ne)]),
+    row!(for (V128): [x y (i16x8.eq) (v128.not)] => [x y (i16x8.ne)]),
+    row!(for (V128): [x y (i8x16.ge_s) (v128.not)] => [x y (i8x16.lt_s)]),
+    row!(for (V128): [x y (i16x8.ge_s) (v128.not)] => [x y (i16x8.lt_s)]),
+    row!(for (V128): [x y (i8x16.gt_s) (v128.not)] => [x y (i8x16.le_s)]),
+    row!(for (V128): [x y (i16x8.gt_s) (v128.not)] => [x y (i16x8.le_s)]),
+    row!(for (V128): [x y (i8x16.le_s) (v128.not)] => [x y (i8x16.gt_s)]),
+    row!(for (V128): [x y (i16x8.le_s) (v128.not)] => [x y (i16x8.gt_s)]),
+    row!(for (V128): [x y (i8x16.lt_s) (v128.not)] => [x y (i8x16.ge_s)]),
+    row!(for (V128): [x y (i16x8.lt_s) (v128.not)] => [x y (i16x8.ge_s)]),
+    row!(for (V128): [x y (i8x16.ge_u) (v128.not)] => [x y (i8x16.lt_u)]),
+    row!(for (V128): [x y (i16x8.ge_u) (v128.not)] => [x y (i16x8.lt_u)]),
+    row!(for (V128): [x y (i8x16.gt_u) (v128.not)] => [x y (i8x16.le_u)]),
+    row!(for (V128): [x y (i16x8.gt_u) (v128.not)] => [x y (i16x8.le_u)]),
+    row!(for (V128): [x y (i8x16.le_u) (v128.not)] => [x y (i8x16.gt_u)]),
+    row!(for (V128): [x y (i16x8.le_u) (v128.not)] => [x y (i16x8.gt_u)]),
+    row!(for (V128): [x y (i8x16.lt_u) (v128.not)] => [x y (i8x16.ge_u)]),
+    row!(for (V128): [x y (i16x8.lt_u) (v128.not)] => [x y (i16x8.ge_u)]),
+];
+
+/// Complements of tests of lanes of 32 and 64 bits as their opposites.
+pub const WIDE_COMPLEMENTS: [TableLine; 16] = [
+    row!(for (V128): [x y (i32x4.ne) (v128.not)] => [x y (i32x4.eq)]),
+    row!(for (V128): [x y (i64x2.ne) (v128.not)] => [x y (i64x2.eq)]),
+    row!(for (V128): [x y (i32x4.eq) (v128.not)] => [x y (i32x4.ne)]),
+    row!(for (V128): [x y (i64x2.eq) (v128.not)] => [x y (i64x2.ne)]),
+    row!(for (V128): [x y (i32x4.ge_s) (v128.not)] => [x y (i32x4.lt_s)]),
+    row!(for (V128): [x y (i64x2.ge_s) (v128.not)] => [x y (i64x2.lt_s)]),
+    row!(for (V128): [x y (i32x4.gt_s) (v128.not)] => [x y (i32x4.le_s)]),
+    row!(for (V128): [x y (i64x2.gt_s) (v128.not)] => [x y (i64x2.le_s)]),
+    row!(for (V128): [x y (i32x4.le_s) (v128.not)] => [x y (i32x4.gt_s)]),
+    row!(for (V128): [x y (i64x2.le_s) (v128.not)] => [x y (i64x2.gt_s)]),
+    row!(for (V128): [x y (i32x4.lt_s) (v128.not)] => [x y (i32x4.ge_s)]),
+    row!(for (V128): [x y (i64x2.lt_s) (v128.not)] => [x y (i64x2.ge_s)]),
+    row!(for (V128): [x y (i32x4.ge_u) (v128.not)] => [x y (i32x4.lt_u)]),
+    row!(for (V128): [x y (i32x4.gt_u) (v128.not)] => [x y (i32x4.le_u)]),
+    row!(for (V128): [x y (i32x4.le_u) (v128.not)] => [x y (i32x4.gt_u)]),
+    row!(for (V128): [x y (i32x4.lt_u) (v128.not)] => [x y (i32x4.ge_u)]),
+];
+
+/// The smaller and the greater of two lanes in the other order.
+pub const LANE_BOUNDS: [TableLine; 12] = [
+    row!("turn_lane_bound" for (V128): [x y (i8x16.min_s)] => [y x (i8x16.min_s)]),
+    row!(for (V128): [x y (i16x8.min_s)] => [y x (i16x8.min_s)]),
+    row!(for (V128): [x y (i32x4.min_s)] => [y x (i32x4.min_s)]),
+    row!(for (V128): [x y (i8x16.min_u)] => [y x (i8x16.min_u)]),
+    row!(for (V128): [x y (i16x8.min_u)] => [y x (i16x8.min_u)]),
+    row!(for (V128): [x y (i32x4.min_u)] => [y x (i32x4.min_u)]),
+    row!(for (V128): [x y (i8x16.max_s)] => [y x (i8x16.max_s)]),
+    row!(for (V128): [x y (i16x8.max_s)] => [y x (i16x8.max_s)]),
+    row!(for (V128): [x y (i32x4.max_s)] => [y x (i32x4.max_s)]),
+    row!(for (V128): [x y (i8x16.max_u)] => [y x (i8x16.max_u)]),
+    row!(for (V128): [x y (i16x8.max_u)] => [y x (i16x8.max_u)]),
+    row!(for (V128): [x y (i32x4.max_u)] => [y x (i32x4.max_u)]),
+];
+
+/// The smaller and the greater of a lane and itself.
+pub const LANE_REPEATS: [TableLine; 24] = [
+    row!("repeat_lane_bound" for (V128): [x] => [x x (i8x16.min_s)]),
+    row!(for (V128): [x] => [x x (i16x8.min_s)]),
+    row!(for (V128): [x] => [x x (i32x4.min_s)]),
+    row!(for (V128): [x] => [x x (i8x16.min_u)]),
+    row!(for (V128): [x] => [x x (i16x8.min_u)]),
+    row!(for (V128): [x] => [x x (i32x4.min_u)]),
+    row!(for (V128): [x] => [x x (i8x16.max_s)]),
+    row!(for (V128): [x] => [x x (i16x8.max_s)]),
+    row!(for (V128): [x] => [x x (i32x4.max_s)]),
+    row!(for (V128): [x] => [x x (i8x16.max_u)]),
+    row!(for (V128): [x] => [x x (i16x8.max_u)]),
+    row!(for (V128): [x] => [x x (i32x4.max_u)]),
+    row!("drop_lane_bound" for (V128): [x x (i8x16.min_s)] => [x]),
+    row!(for (V128): [x x (i16x8.min_s)] => [x]),
+    row!(for (V128): [x x (i32x4.min_s)] => [x]),
+    row!(for (V128): [x x (i8x16.min_u)] => [x]),
+    row!(for (V128): [x x (i16x8.min_u)] => [x]),
+    row!(for (V128): [x x (i32x4.min_u)] => [x]),
+    row!(for (V128): [x x (i8x16.max_s)] => [x]),
+    row!(for (V128): [x x (i16x8.max_s)] => [x]),
+    row!(for (V128): [x x (i32x4.max_s)] => [x]),
+    row!(for (V128): [x x (i8x16.max_u)] => [x]),
+    row!(for (V128): [x x (i16x8.max_u)] => [x]),
+    row!(for (V128): [x x (i32x4.max_u)] => [x]),
+];
+
+/// The smaller and the greater of two lanes as a selection by a test.
+pub const LANE_CHOICES: [TableLine; 24] = [
+    row!("lane_bound_to_choice" for (V128): [x y (i8x16.min_s)] => [x y x y (i8x16.lt_s) (v128.bitselect)]),
+    row!(for (V128): [x y (i16x8.min_s)] => [x y x y (i16x8.lt_s) (v128.bitselect)]),
+    row!(for (V128): [x y (i32x4.min_s)] => [x y x y (i32x4.lt_s) (v128.bitselect)]),
+    row!(for (V128): [x y (i8x16.min_u)] => [x y x y (i8x16.lt_u) (v128.bitselect)]),
+    row!(for (V128): [x y (i16x8.min_u)] => [x y x y (i16x8.lt_u) (v128.bitselect)]),
+    row!(for (V128): [x y (i32x4.min_u)] => [x y x y (i32x4.lt_u) (v128.bitselect)]),
+    row!(for (V128): [x y (i8x16.max_s)] => [x y x y (i8x16.gt_s) (v128.bitselect)]),
+    row!(for (V128): [x y (i16x8.max_s)] => [x y x y (i16x8.gt_s) (v128.bitselect)]),
+    row!(for (V128): [x y (i32x4.max_s)] => [x y x y (i32x4.gt_s) (v128.bitselect)]),
+    row!(for (V128): [x y (i8x16.max_u)] => [x y x y (i8x16.gt_u) (v128.bitselect)]),
+    row!(for (V128): [x y (i16x8.max_u)] => [x y x y (i16x8.gt_u) (v128.bitselect)]),
+    row!(for (V128): [x y (i32x4.max_u)] => [x y x y (i32x4.gt_u) (v128.bitselect)]),
+    row!("lane_choice_to_bound" for (V128): [x y x y (i8x16.lt_s) (v128.bitselect)] => [x y (i8x16.min_s)]),
+    row!(for (V128): [x y x y (i16x8.lt_s) (v128.bitselect)] => [x y (i16x8.min_s)]),
+    row!(for (V128): [x y x y (i32x4.lt_s) (v128.bitselect)] => [x y (i32x4.min_s)]),
+    row!(for (V128): [x y x y (i8x16.lt_u) (v128.bitselect)] => [x y (i8x16.min_u)]),
+    row!(for (V128): [x y x y (i16x8.lt_u) (v128.bitselect)] => [x y (i16x8.min_u)]),
+    row!(for (V128): [x y x y (i32x4.lt_u) (v128.bitselect)] => [x y (i32x4.min_u)]),
+    row!(for (V128): [x y x y (i8x16.gt_s) (v128.bitselect)] => [x y (i8x16.max_s)]),
+    row!(for (V128): [x y x y (i16x8.gt_s) (v128.bitselect)] => [x y (i16x8.max_s)]),
+    row!(for (V128): [x y x y (i32x4.gt_s) (v128.bitselect)] => [x y (i32x4.max_s)]),
+    row!(for (V128): [x y x y (i8x16.gt_u) (v128.bitselect)] => [x y (i8x16.max_u)]),
+    row!(for (V128): [x y x y (i16x8.gt_u) (v128.bitselect)] => [x y (i16x8.max_u)]),
+    row!(for (V128): [x y x y (i32x4.gt_u) (v128.bitselect)] => [x y (i32x4.max_u)]),
+];
+
+/// Lanes shifted by no place.
+pub const LANE_SHIFTS: [TableLine; 24] = [
+    row!("shift_lanes_by_zero" for (V128): [x] => [x 0 (i8x16.shl)]),
+    row!(for (V128): [x] => [x 0 (i16x8.shl)]),
+    row!(for (V128): [x] => [x 0 (i32x4.shl)]),
+    row!(for (V128): [x] => [x 0 (i64x2.shl)]),
+    row!(for (V128): [x] => [x 0 (i8x16.shr_s)]),
+    row!(for (V128): [x] => [x 0 (i16x8.shr_s)]),
+    row!(for (V128): [x] => [x 0 (i32x4.shr_s)]),
+    row!(for (V128): [x] => [x 0 (i64x2.shr_s)]),
+    row!(for (V128): [x] => [x 0 (i8x16.shr_u)]),
+    row!(for (V128): [x] => [x 0 (i16x8.shr_u)]),
+    row!(for (V128): [x] => [x 0 (i32x4.shr_u)]),
+    row!(for (V128): [x] => [x 0 (i64x2.shr_u)]),
+    row!("drop_shift_of_lanes_by_zero" for (V128): [x 0 (i8x16.shl)] => [x]),
+    row!(for (V128): [x 0 (i16x8.shl)] => [x]),
+    row!(for (V128): [x 0 (i32x4.shl)] => [x]),
+    row!(for (V128): [x 0 (i64x2.shl)] => [x]),
+    row!(for (V128): [x 0 (i8x16.shr_s)] => [x]),
+    row!(for (V128): [x 0 (i16x8.shr_s)] => [x]),
+    row!(for (V128): [x 0 (i32x4.shr_s)] => [x]),
+    row!(for (V128): [x 0 (i64x2.shr_s)] => [x]),
+    row!(for (V128): [x 0 (i8x16.shr_u)] => [x]),
+    row!(for (V128): [x 0 (i16x8.shr_u)] => [x]),
+    row!(for (V128): [x 0 (i32x4.shr_u)] => [x]),
+    row!(for (V128): [x 0 (i64x2.shr_u)] => [x]),
+];
+
+/// Lanes shifted by as many places as they have bits, which is by none.
+pub const LANE_TURNS: [TableLine; 24] = [
+    row!("shift_lanes_by_width" for (V128): [x] => [x 8 (i8x16.shl)]),
+    row!(for (V128): [x] => [x 16 (i16x8.shl)]),
+    row!(for (V128): [x] => [x 32 (i32x4.shl)]),
+    row!(for (V128): [x] => [x 64 (i64x2.shl)]),
+    row!(for (V128): [x] => [x 8 (i8x16.shr_s)]),
+    row!(for (V128): [x] => [x 16 (i16x8.shr_s)]),
+    row!(for (V128): [x] => [x 32 (i32x4.shr_s)]),
+    row!(for (V128): [x] => [x 64 (i64x2.shr_s)]),
+    row!(for (V128): [x] => [x 8 (i8x16.shr_u)]),
+    row!(for (V128): [x] => [x 16 (i16x8.shr_u)]),
+    row!(for (V128): [x] => [x 32 (i32x4.shr_u)]),
+    row!(for (V128): [x] => [x 64 (i64x2.shr_u)]),
+    row!("drop_shift_of_lanes_by_width" for (V128): [x 8 (i8x16.shl)] => [x]),
+    row!(for (V128): [x 16 (i16x8.shl)] => [x]),
+    row!(for (V128): [x 32 (i32x4.shl)] => [x]),
+    row!(for (V128): [x 64 (i64x2.shl)] => [x]),
+    row!(for (V128): [x 8 (i8x16.shr_s)] => [x]),
+    row!(for (V128): [x 16 (i16x8.shr_s)] => [x]),
+    row!(for (V128): [x 32 (i32x4.shr_s)] => [x]),
+    row!(for (V128): [x 64 (i64x2.shr_s)] => [x]),
+    row!(for (V128): [x 8 (i8x16.shr_u)] => [x]),
+    row!(for (V128): [x 16 (i16x8.shr_u)] => [x]),
+    row!(for (V128): [x 32 (i32x4.shr_u)] => [x]),
+    row!(for (V128): [x 64 (i64x2.shr_u)] => [x]),
+];
+
+/// Signs of floats in lanes.
+pub const LANE_FLOATS: [TableLine; 20] = [
+    row!("double_float_lane_negative" for (V128): [x] => [x (f32x4.neg) (f32x4.neg)]),
+    row!(for (V128): [x] => [x (f64x2.neg) (f64x2.neg)]),
+    row!("drop_double_float_lane_negative" for (V128): [x (f32x4.neg) (f32x4.neg)] => [x]),
+    row!(for (V128): [x (f64x2.neg) (f64x2.neg)] => [x]),
+    row!("float_lane_negative_to_bits" for (V128): [x (f32x4.neg)] => [x sign (i32x4.splat) (v128.xor)]),
+    row!(for (V128): [x (f64x2.neg)] => [x ones (i32x4.splat) 63 (i64x2.shl) (v128.xor)]),
+    row!("bits_to_float_lane_negative" for (V128): [x sign (i32x4.splat) (v128.xor)] => [x (f32x4.neg)]),
+    row!(for (V128): [x ones (i32x4.splat) 63 (i64x2.shl) (v128.xor)] => [x (f64x2.neg)]),
+    row!("float_lane_magnitude_to_bits" for (V128): [x (f32x4.abs)] => [x sign (i32x4.splat) (v128.andnot)]),
+    row!(for (V128): [x (f64x2.abs)] => [x ones (i32x4.splat) 63 (i64x2.shl) (v128.andnot)]),
+    row!("bits_to_float_lane_magnitude" for (V128): [x sign (i32x4.splat) (v128.andnot)] => [x (f32x4.abs)]),
+    row!(for (V128): [x ones (i32x4.splat) 63 (i64x2.shl) (v128.andnot)] => [x (f64x2.abs)]),
+    row!("float_lane_magnitude_of_negative" for (V128): [x (f32x4.abs)] => [x (f32x4.neg) (f32x4.abs)]),
+    row!(for (V128): [x (f64x2.abs)] => [x (f64x2.neg) (f64x2.abs)]),
+    row!("drop_negative_in_float_magnitude" for (V128): [x (f32x4.neg) (f32x4.abs)] => [x (f32x4.abs)]),
+    row!(for (V128): [x (f64x2.neg) (f64x2.abs)] => [x (f64x2.abs)]),
+    row!("repeat_float_lane_magnitude" for (V128): [x (f32x4.abs)] => [x (f32x4.abs) (f32x4.abs)]),
+    row!(for (V128): [x (f64x2.abs)] => [x (f64x2.abs) (f64x2.abs)]),
+    row!("drop_repeated_float_magnitude" for (V128): [x (f32x4.abs) (f32x4.abs)] => [x (f32x4.abs)]),
+    row!(for (V128): [x (f64x2.abs) (f64x2.abs)] => [x (f64x2.abs)]),
+];
+
+/// A number put into each lane and taken out of one.
+pub const LANE_SPLATS: [TableLine; 24] = [
+    row!("splat_and_extract" for (I32): [x] => [x (i32x4.splat) (i32x4.extract_lane 0)]),
+    row!(for (I32): [x] => [x (i32x4.splat) (i32x4.extract_lane 1)]),
+    row!(for (I32): [x] => [x (i32x4.splat) (i32x4.extract_lane 2)]),
+    row!(for (I32): [x] => [x (i32x4.splat) (i32x4.extract_lane 3)]),
+    row!(for (I64): [x] => [x (i64x2.splat) (i64x2.extract_lane 0)]),
+    row!(for (I64): [x] => [x (i64x2.splat) (i64x2.extract_lane 1)]),
+    row!(for (F32): [x] => [x (f32x4.splat) (f32x4.extract_lane 0)]),
+    row!(for (F32): [x] => [x (f32x4.splat) (f32x4.extract_lane 1)]),
+    row!(for (F32): [x] => [x (f32x4.splat) (f32x4.extract_lane 2)]),
+    row!(for (F32): [x] => [x (f32x4.splat) (f32x4.extract_lane 3)]),
+    row!(for (F64): [x] => [x (f64x2.splat) (f64x2.extract_lane 0)]),
+    row!(for (F64): [x] => [x (f64x2.splat) (f64x2.extract_lane 1)]),
+    row!("drop_splat_and_extract" for (I32): [x (i32x4.splat) (i32x4.extract_lane 0)] => [x]),
+    row!(for (I32): [x (i32x4.splat) (i32x4.extract_lane 1)] => [x]),
+    row!(for (I32): [x (i32x4.splat) (i32x4.extract_lane 2)] => [x]),
+    row!(for (I32): [x (i32x4.splat) (i32x4.extract_lane 3)] => [x]),
+    row!(for (I64): [x (i64x2.splat) (i64x2.extract_lane 0)] => [x]),
+    row!(for (I64): [x (i64x2.splat) (i64x2.extract_lane 1)] => [x]),
+    row!(for (F32): [x (f32x4.splat) (f32x4.extract_lane 0)] => [x]),
+    row!(for (F32): [x (f32x4.splat) (f32x4.extract_lane 1)] => [x]),
+    row!(for (F32): [x (f32x4.splat) (f32x4.extract_lane 2)] => [x]),
+    row!(for (F32): [x (f32x4.splat) (f32x4.extract_lane 3)] => [x]),
+    row!(for (F64): [x (f64x2.splat) (f64x2.extract_lane 0)] => [x]),
+    row!(for (F64): [x (f64x2.splat) (f64x2.extract_lane 1)] => [x]),
+];
+
+/// Floats in lanes as the numbers that have their bits, and numbers as floats.
+pub const LANE_BITS: [TableLine; 24] = [
+    row!("extract_by_bits" for (V128): [x (f32x4.extract_lane 0)] => [x (i32x4.extract_lane 0) (f32.reinterpret_i32)]),
+    row!(for (V128): [x (f32x4.extract_lane 1)] => [x (i32x4.extract_lane 1) (f32.reinterpret_i32)]),
+    row!(for (V128): [x (f32x4.extract_lane 2)] => [x (i32x4.extract_lane 2) (f32.reinterpret_i32)]),
+    row!(for (V128): [x (f32x4.extract_lane 3)] => [x (i32x4.extract_lane 3) (f32.reinterpret_i32)]),
+    row!(for (V128): [x (f64x2.extract_lane 0)] => [x (i64x2.extract_lane 0) (f64.reinterpret_i64)]),
+    row!(for (V128): [x (f64x2.extract_lane 1)] => [x (i64x2.extract_lane 1) (f64.reinterpret_i64)]),
+    row!(for (V128): [x (i32x4.extract_lane 0)] => [x (f32x4.extract_lane 0) (i32.reinterpret_f32)]),
+    row!(for (V128): [x (i32x4.extract_lane 1)] => [x (f32x4.extract_lane 1) (i32.reinterpret_f32)]),
+    row!(for (V128): [x (i32x4.extract_lane 2)] => [x (f32x4.extract_lane 2) (i32.reinterpret_f32)]),
+    row!(for (V128): [x (i32x4.extract_lane 3)] => [x (f32x4.extract_lane 3) (i32.reinterpret_f32)]),
+    row!(for (V128): [x (i64x2.extract_lane 0)] => [x (f64x2.extract_lane 0) (i64.reinterpret_f64)]),
+    row!(for (V128): [x (i64x2.extract_lane 1)] => [x (f64x2.extract_lane 1) (i64.reinterpret_f64)]),
+    row!("extract_bits" for (V128): [x (i32x4.extract_lane 0) (f32.reinterpret_i32)] => [x (f32x4.extract_lane 0)]),
+    row!(for (V128): [x (i32x4.extract_lane 1) (f32.reinterpret_i32)] => [x (f32x4.extract_lane 1)]),
+    row!(for (V128): [x (i32x4.extract_lane 2) (f32.reinterpret_i32)] => [x (f32x4.extract_lane 2)]),
+    row!(for (V128): [x (i32x4.extract_lane 3) (f32.reinterpret_i32)] => [x (f32x4.extract_lane 3)]),
+    row!(for (V128): [x (i64x2.extract_lane 0) (f64.reinterpret_i64)] => [x (f64x2.extract_lane 0)]),
+    row!(for (V128): [x (i64x2.extract_lane 1) (f64.reinterpret_i64)] => [x (f64x2.extract_lane 1)]),
+    row!(for (V128): [x (f32x4.extract_lane 0) (i32.reinterpret_f32)] => [x (i32x4.extract_lane 0)]),
+    row!(for (V128): [x (f32x4.extract_lane 1) (i32.reinterpret_f32)] => [x (i32x4.extract_lane 1)]),
+    row!(for (V128): [x (f32x4.extract_lane 2) (i32.reinterpret_f32)] => [x (i32x4.extract_lane 2)]),
+    row!(for (V128): [x (f32x4.extract_lane 3) (i32.reinterpret_f32)] => [x (i32x4.extract_lane 3)]),
+    row!(for (V128): [x (f64x2.extract_lane 0) (i64.reinterpret_f64)] => [x (i64x2.extract_lane 0)]),
+    row!(for (V128): [x (f64x2.extract_lane 1) (i64.reinterpret_f64)] => [x (i64x2.extract_lane 1)]),
+];
+
+/// Floats put into each lane as numbers, and numbers as floats; and a lane put where it was.
+pub const SPLAT_BITS: [TableLine; 20] = [
+    row!("splat_by_bits" for (F32): [x (f32x4.splat)] => [x (i32.reinterpret_f32) (i32x4.splat)]),
+    row!(for (F64): [x (f64x2.splat)] => [x (i64.reinterpret_f64) (i64x2.splat)]),
+    row!(for (I32): [x (i32x4.splat)] => [x (f32.reinterpret_i32) (f32x4.splat)]),
+    row!(for (I64): [x (i64x2.splat)] => [x (f64.reinterpret_i64) (f64x2.splat)]),
+    row!("splat_of_bits" for (F32): [x (i32.reinterpret_f32) (i32x4.splat)] => [x (f32x4.splat)]),
+    row!(for (F64): [x (i64.reinterpret_f64) (i64x2.splat)] => [x (f64x2.splat)]),
+    row!(for (I32): [x (f32.reinterpret_i32) (f32x4.splat)] => [x (i32x4.splat)]),
+    row!(for (I64): [x (f64.reinterpret_i64) (f64x2.splat)] => [x (i64x2.splat)]),
+    row!("replace_lane_by_itself" for (V128): [x] => [x x (i32x4.extract_lane 0) (i32x4.replace_lane 0)]),
+    row!(for (V128): [x] => [x x (i32x4.extract_lane 1) (i32x4.replace_lane 1)]),
+    row!(for (V128): [x] => [x x (i32x4.extract_lane 2) (i32x4.replace_lane 2)]),
+    row!(for (V128): [x] => [x x (i32x4.extract_lane 3) (i32x4.replace_lane 3)]),
+    row!(for (V128): [x] => [x x (i64x2.extract_lane 0) (i64x2.replace_lane 0)]),
+    row!(for (V128): [x] => [x x (i64x2.extract_lane 1) (i64x2.replace_lane 1)]),
+    row!("drop_replaced_lane" for (V128): [x x (i32x4.extract_lane 0) (i32x4.replace_lane 0)] => [x]),
+    row!(for (V128): [x x (i32x4.extract_lane 1) (i32x4.replace_lane 1)] => [x]),
+    row!(for (V128): [x x (i32x4.extract_lane 2) (i32x4.replace_lane 2)] => [x]),
+    row!(for (V128): [x x (i32x4.extract_lane 3) (i32x4.replace_lane 3)] => [x]),
+    row!(for (V128): [x x (i64x2.extract_lane 0) (i64x2.replace_lane 0)] => [x]),
+    row!(for (V128): [x x (i64x2.extract_lane 1) (i64x2.replace_lane 1)] => [x]),
+];
+
+/// A lane with its sign as the one without it, extended.
+pub const SIGNED_LANES: [TableLine; 24] = [
+    row!("extend_extracted_lane" for (V128): [x (i8x16.extract_lane_s 0)] => [x (i8x16.extract_lane_u 0) (i32.extend8_s)]),
+    row!(for (V128): [x (i8x16.extract_lane_s 1)] => [x (i8x16.extract_lane_u 1) (i32.extend8_s)]),
+    row!(for (V128): [x (i8x16.extract_lane_s 2)] => [x (i8x16.extract_lane_u 2) (i32.extend8_s)]),
+    row!(for (V128): [x (i8x16.extract_lane_s 3)] => [x (i8x16.extract_lane_u 3) (i32.extend8_s)]),
+    row!(for (V128): [x (i8x16.extract_lane_s 4)] => [x (i8x16.extract_lane_u 4) (i32.extend8_s)]),
+    row!(for (V128): [x (i8x16.extract_lane_s 5)] => [x (i8x16.extract_lane_u 5) (i32.extend8_s)]),
+    row!(for (V128): [x (i8x16.extract_lane_s 6)] => [x (i8x16.extract_lane_u 6) (i32.extend8_s)]),
+    row!(for (V128): [x (i8x16.extract_lane_s 7)] => [x (i8x16.extract_lane_u 7) (i32.extend8_s)]),
+    row!(for (V128): [x (i8x16.extract_lane_s 8)] => [x (i8x16.extract_lane_u 8) (i32.extend8_s)]),
+    row!(for (V128): [x (i8x16.extract_lane_s 9)] => [x (i8x16.extract_lane_u 9) (i32.extend8_s)]),
+    row!(for (V128): [x (i8x16.extract_lane_s 10)] => [x (i8x16.extract_lane_u 10) (i32.extend8_s)]),
+    row!(for (V128): [x (i8x16.extract_lane_s 11)] => [x (i8x16.extract_lane_u 11) (i32.extend8_s)]),
+    row!(for (V128): [x (i8x16.extract_lane_s 12)] => [x (i8x16.extract_lane_u 12) (i32.extend8_s)]),
+    row!(for (V128): [x (i8x16.extract_lane_s 13)] => [x (i8x16.extract_lane_u 13) (i32.extend8_s)]),
+    row!(for (V128): [x (i8x16.extract_lane_s 14)] => [x (i8x16.extract_lane_u 14) (i32.extend8_s)]),
+    row!(for (V128): [x (i8x16.extract_lane_s 15)] => [x (i8x16.extract_lane_u 15) (i32.extend8_s)]),
+    row!(for (V128): [x (i16x8.extract_lane_s 0)] => [x (i16x8.extract_lane_u 0) (i32.extend16_s)]),
+    row!(for (V128): [x (i16x8.extract_lane_s 1)] => [x (i16x8.extract_lane_u 1) (i32.extend16_s)]),
+    row!(for (V128): [x (i16x8.extract_lane_s 2)] => [x (i16x8.extract_lane_u 2) (i32.extend16_s)]),
+    row!(for (V128): [x (i16x8.extract_lane_s 3)] => [x (i16x8.extract_lane_u 3) (i32.extend16_s)]),
+    row!(for (V128): [x (i16x8.extract_lane_s 4)] => [x (i16x8.extract_lane_u 4) (i32.extend16_s)]),
+    row!(for (V128): [x (i16x8.extract_lane_s 5)] => [x (i16x8.extract_lane_u 5) (i32.extend16_s)]),
+    row!(for (V128): [x (i16x8.extract_lane_s 6)] => [x (i16x8.extract_lane_u 6) (i32.extend16_s)]),
+    row!(for (V128): [x (i16x8.extract_lane_s 7)] => [x (i16x8.extract_lane_u 7) (i32.extend16_s)]),
+];
+
+/// A lane that is extended as the one with its sign.
+pub const EXTENDED_LANES: [TableLine; 24] = [
+    row!("extract_signed_lane" for (V128): [x (i8x16.extract_lane_u 0) (i32.extend8_s)] => [x (i8x16.extract_lane_s 0)]),
+    row!(for (V128): [x (i8x16.extract_lane_u 1) (i32.extend8_s)] => [x (i8x16.extract_lane_s 1)]),
+    row!(for (V128): [x (i8x16.extract_lane_u 2) (i32.extend8_s)] => [x (i8x16.extract_lane_s 2)]),
+    row!(for (V128): [x (i8x16.extract_lane_u 3) (i32.extend8_s)] => [x (i8x16.extract_lane_s 3)]),
+    row!(for (V128): [x (i8x16.extract_lane_u 4) (i32.extend8_s)] => [x (i8x16.extract_lane_s 4)]),
+    row!(for (V128): [x (i8x16.extract_lane_u 5) (i32.extend8_s)] => [x (i8x16.extract_lane_s 5)]),
+    row!(for (V128): [x (i8x16.extract_lane_u 6) (i32.extend8_s)] => [x (i8x16.extract_lane_s 6)]),
+    row!(for (V128): [x (i8x16.extract_lane_u 7) (i32.extend8_s)] => [x (i8x16.extract_lane_s 7)]),
+    row!(for (V128): [x (i8x16.extract_lane_u 8) (i32.extend8_s)] => [x (i8x16.extract_lane_s 8)]),
+    row!(for (V128): [x (i8x16.extract_lane_u 9) (i32.extend8_s)] => [x (i8x16.extract_lane_s 9)]),
+    row!(for (V128): [x (i8x16.extract_lane_u 10) (i32.extend8_s)] => [x (i8x16.extract_lane_s 10)]),
+    row!(for (V128): [x (i8x16.extract_lane_u 11) (i32.extend8_s)] => [x (i8x16.extract_lane_s 11)]),
+    row!(for (V128): [x (i8x16.extract_lane_u 12) (i32.extend8_s)] => [x (i8x16.extract_lane_s 12)]),
+    row!(for (V128): [x (i8x16.extract_lane_u 13) (i32.extend8_s)] => [x (i8x16.extract_lane_s 13)]),
+    row!(for (V128): [x (i8x16.extract_lane_u 14) (i32.extend8_s)] => [x (i8x16.extract_lane_s 14)]),
+    row!(for (V128): [x (i8x16.extract_lane_u 15) (i32.extend8_s)] => [x (i8x16.extract_lane_s 15)]),
+    row!(for (V128): [x (i16x8.extract_lane_u 0) (i32.extend16_s)] => [x (i16x8.extract_lane_s 0)]),
+    row!(for (V128): [x (i16x8.extract_lane_u 1) (i32.extend16_s)] => [x (i16x8.extract_lane_s 1)]),
+    row!(for (V128): [x (i16x8.extract_lane_u 2) (i32.extend16_s)] => [x (i16x8.extract_lane_s 2)]),
+    row!(for (V128): [x (i16x8.extract_lane_u 3) (i32.extend16_s)] => [x (i16x8.extract_lane_s 3)]),
+    row!(for (V128): [x (i16x8.extract_lane_u 4) (i32.extend16_s)] => [x (i16x8.extract_lane_s 4)]),
+    row!(for (V128): [x (i16x8.extract_lane_u 5) (i32.extend16_s)] => [x (i16x8.extract_lane_s 5)]),
+    row!(for (V128): [x (i16x8.extract_lane_u 6) (i32.extend16_s)] => [x (i16x8.extract_lane_s 6)]),
+    row!(for (V128): [x (i16x8.extract_lane_u 7) (i32.extend16_s)] => [x (i16x8.extract_lane_s 7)]),
+];
+
+/// Vectors that another one decides, and that a drawn one changes nothing of.
+pub const VECTOR_DECIDED: [TableLine; 14] = [
+    row!("put_absorbed_vector" for (V128): [x] => [x x drawn (i32x4.splat) (v128.or) (v128.and)]),
+    row!(for (V128): [x] => [x x drawn (i32x4.splat) (v128.and) (v128.or)]),
+    row!("put_bitselect" for (V128): [x] => [x x drawn (i32x4.splat) (v128.bitselect)]),
+    row!("put_decided_vector" for (V128): [0 (i32x4.splat)] => [drawn (i32x4.splat) 0 (i32x4.splat) (v128.and)]),
+    row!(for (V128): [ones (i32x4.splat)] => [drawn (i32x4.splat) ones (i32x4.splat) (v128.or)]),
+    row!("drop_decided_vector" for (V128): [x 0 (i32x4.splat) (v128.and)] => [0 (i32x4.splat)]),
+    row!(for (V128): [x ones (i32x4.splat) (v128.or)] => [ones (i32x4.splat)]),
+    row!("cancel_vector_complement" for (V128): [x x (v128.andnot)] => [0 (i32x4.splat)]),
+    row!(for (V128): [x x (v128.not) (v128.and)] => [0 (i32x4.splat)]),
+    row!(for (V128): [x x (v128.not) (v128.or)] => [ones (i32x4.splat)]),
+    row!("distribute_vector_mask" for (V128): [x y (v128.or) z (v128.and)] => [x z (v128.and) y z (v128.and) (v128.or)]),
+    row!("gather_vector_mask" for (V128): [x z (v128.and) y z (v128.and) (v128.or)] => [x y (v128.or) z (v128.and)]),
+    row!("vector_xor_to_bits" for (V128): [x y (v128.xor)] => [x y (v128.andnot) y x (v128.andnot) (v128.or)]),
+    row!("bits_to_vector_xor" for (V128): [x y (v128.andnot) y x (v128.andnot) (v128.or)] => [x y (v128.xor)]),
 ];

@@ -6,7 +6,7 @@ use std::test::Fail;
 use wasm_types::PrimitiveTypeInfo;
 
 /// Numbers of rows, and their texts.
-const TEXTS: [(usize, &str); 33] = [
+const TEXTS: [(usize, &str); 43] = [
     (0, "add x y → add y x"),
     (7, "lt_s x y → gt_s y x"),
     (15, "add x (add y z) → add (add x y) z"),
@@ -40,6 +40,25 @@ const TEXTS: [(usize, &str); 33] = [
     (120, "add (add x c) d → add x (c + d)"),
     (126, "nop → nothing"),
     (136, "local.set x, local.get → local.tee x"),
+    (249, "f32: f32.neg (f32.neg x) → x"),
+    (
+        269,
+        "f32: f32.neg x → f32.reinterpret_i32 (xor (i32.reinterpret_f32 x) (2^(N - 1)))",
+    ),
+    (341, "i32: f64.lt y y → 0"),
+    (375, "f32: f32.eq x y → i32.and (f32.le x y) (f32.ge x y)"),
+    (387, "v128: x → v128.not (v128.not x)"),
+    (406, "v128: v128.andnot x y → v128.and x (v128.not y)"),
+    (430, "v128: i64x2.mul x y → i64x2.mul y x"),
+    (
+        653,
+        "v128: i16x8.min_u x y → v128.bitselect x y (i16x8.lt_u x y)",
+    ),
+    (756, "i32: i32x4.extract_lane 3 (i32x4.splat x) → x"),
+    (
+        860,
+        "v128: i32x4.splat 0 → v128.and (i32x4.splat r) (i32x4.splat 0)",
+    ),
 ];
 
 #[test]
@@ -53,7 +72,7 @@ fn prints_rows(rt: HostRuntime) -> Result<(), Fail> {
 }
 
 /// Numbers of rows, and what they do to the number of instructions.
-const GROWTHS: [(usize, Growth); 18] = [
+const GROWTHS: [(usize, Growth); 21] = [
     (0, Growth::Keeps),
     (25, Growth::Grows),
     (32, Growth::Grows),
@@ -72,6 +91,9 @@ const GROWTHS: [(usize, Growth); 18] = [
     (120, Growth::Shrinks),
     (126, Growth::Shrinks),
     (136, Growth::Shrinks),
+    (249, Growth::Shrinks),
+    (269, Growth::Grows),
+    (307, Growth::Keeps),
 ];
 
 #[test]
@@ -100,7 +122,7 @@ fn exact_row(
     }
 }
 
-/// Rows with operators on floats and vectors, which the table doesn't have: their texts, what they do to the number of instructions.
+/// Rows with operators on floats and vectors: their texts, what they do to the number of instructions.
 #[test]
 fn prints_exact_rows(rt: HostRuntime) -> Result<(), Fail> {
     let x = Step::Operand(0);
@@ -151,12 +173,12 @@ fn prints_exact_rows(rt: HostRuntime) -> Result<(), Fail> {
     Ok(())
 }
 
-/// No row of the table has such an operator.
+/// The rows on whole numbers have no such operator, and all behind them have one.
 #[test]
-fn no_row_needs_exact_rows(rt: HostRuntime) -> Result<(), Fail> {
+fn tells_which_rows_need_exact_rows(rt: HostRuntime) -> Result<(), Fail> {
     for number in 0..crate::row_count() {
         let row = TableRow::numbered(number).expect(&rt, "it is a row's number");
-        assert!(rt; !row.needs_exact(), "row {number}");
+        assert!(rt; row.needs_exact() == (number >= 249), "row {number}");
     }
     Ok(())
 }

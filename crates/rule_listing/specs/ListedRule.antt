@@ -4,4 +4,4 @@ use Rattle.rule_listing.specs.declared.rule.ListedRule.{ListedRule}
 use Rattle.rule_listing.specs.Listing.{Told}
 
 abbrev pub told_in : ListedRule → Told
-told_in rule = record { growth = rule.growth; lines = map (λ line. string_bytes line) rule.lines.now }
+told_in rule = record { growth = rule.growth; exact = rule.exact; lines = map (λ line. string_bytes line) rule.lines.now }

@@ -1,6 +1,6 @@
 -- The rules of the table, as they are listed (this project).
-use Rattle.std.specs.Prelude.{◌≡◌, ◌≢◌, ℕ, zero, suc, ◌+◌, List, [], ◌∷◌, ◌++◌, length, map, codes, decimal, Option, Some, None, slice_get, ◌==◌, if◌then◌else◌}
-use Rattle.serde_json.specs.Data.{Data, member, no_members, number, object, string, array, unsigned}
+use Rattle.std.specs.Prelude.{◌≡◌, ◌≢◌, ◌↔◌, ℕ, zero, suc, ◌+◌, Bool, true, false, List, [], ◌∷◌, ◌++◌, length, map, codes, decimal, Option, Some, None, IsTrue, slice_get, ◌==◌, if◌then◌else◌}
+use Rattle.serde_json.specs.Data.{Data, member, no_members, boolean, number, object, string, array, unsigned}
 use Rattle.serde_json.specs.View.{items_of}
 use Rattle.serde_json.specs.Written.{compact_text}
 use Rattle.rewrite_rules.specs.declared.growth.Growth.{Growth}
@@ -8,15 +8,16 @@ use Rattle.rewrite_rules.specs.declared.growth.Growth.TheVariants.{Shrinks, Keep
 use Rattle.rewrite_rules.specs.declared.table.Row.{Row}
 use Rattle.rewrite_rules.specs.Growing.{GrowsAs}
 use Rattle.rewrite_rules.specs.Names.{names, rule_of}
-use Rattle.rewrite_rules.specs.Table.{ROWS}
+use Rattle.rewrite_rules.specs.Table.{ROWS, needs_exact}
 use Rattle.rule_listing.specs.declared.form.Form.{Form}
 use Rattle.rule_listing.specs.declared.form.Form.TheVariants.{Text, Json, Markdown}
 
 -- ---- what is told
 
--- of a rule: what it does to the number of instructions, and the texts of its rows
+-- of a rule: what it does to the number of instructions, whether it needs an engine that is exact, and the texts of its rows
 pub record Told : Type 0 where
   pub growth : Growth
+  pub exact : Bool
   pub lines : List (List ℕ)
 
 -- 1 for that rule
@@ -29,10 +30,16 @@ abbrev pub rows_among : (rule n : ℕ) → ℕ
 rows_among rule zero = 0
 rows_among rule (suc n) = rows_among rule n + counted (rule_of n) rule
 
--- There are as many texts as rows, and where something is said of the number of instructions, it holds of each row.
+-- Each row of the rule needs an engine that is exact.
+abbrev pub NeedsExact : (rule : ℕ) → Type 0
+NeedsExact rule = (n : ℕ) (row : Row) → rule_of n ≡ Some rule → slice_get ROWS n ≡ Some row → IsTrue (needs_exact row)
+
+-- There are as many texts as rows, where something is said of the number of instructions, it holds of each row, and the rule is told to
+-- need an engine that is exact where each row does.
 pub record IsTold (rule : ℕ) (told : Told) : Type 0 where
   pub count : length told.lines ≡ rows_among rule (length ROWS)
   pub grows : (n : ℕ) (row : Row) → rule_of n ≡ Some rule → slice_get ROWS n ≡ Some row → told.growth ≢ Grows → GrowsAs row told.growth
+  pub exact : IsTrue told.exact ↔ NeedsExact rule
 
 -- It is told of each rule, by their numbers.
 pub record AreTold (told : List Told) : Type 0 where
@@ -44,6 +51,11 @@ abbrev pub growth_word : Growth → List ℕ
 growth_word Shrinks = codes "shrinks"
 growth_word Keeps = codes "keeps"
 growth_word Grows = codes "grows"
+
+-- the word for a rule that needs an engine that is exact, behind others
+abbrev pub exact_word : Bool → List ℕ
+exact_word true = codes " --exact"
+exact_word false = []
 
 -- ---- text: a line a rule, and under it, indented, its lines
 
@@ -59,17 +71,19 @@ text_lines (line ∷ lines) = text_line line ++ text_lines lines
 -- all that is written of a rule
 unfoldable pub rule_block : (n : ℕ) → (name : List ℕ) → Told → List ℕ
 rule_block n name told =
-    decimal n ++ (codes " " ++ (name ++ (codes " " ++ (growth_word told.growth ++ (codes "\n" ++ text_lines told.lines)))))
+    decimal n ++ (codes " " ++ (name ++ (codes " " ++ (growth_word told.growth ++ (exact_word told.exact
+    ++ (codes "\n" ++ text_lines told.lines))))))
 
 -- ---- JSON: an object a line
 
 -- a rule, its members in the order of their names
 abbrev pub rule_object : (n : ℕ) → (name : List ℕ) → Told → Data
 rule_object n name told =
-    object (member (codes "growth") (string (growth_word told.growth))
+    object (member (codes "exact") (boolean told.exact)
+    (member (codes "growth") (string (growth_word told.growth))
     (member (codes "lines") (array (items_of (map string told.lines)))
     (member (codes "name") (string name)
-    (member (codes "number") (number (unsigned n)) no_members))))
+    (member (codes "number") (number (unsigned n)) no_members)))))
 
 -- its line
 unfoldable pub object_line : (n : ℕ) → (name : List ℕ) → Told → List ℕ
@@ -79,11 +93,16 @@ object_line n name told = compact_text (rule_object n name told) ++ codes "\n"
 
 -- what stands before the rules
 abbrev pub head : List ℕ
-head = codes "| Number | Rule | Instructions | Lines |\n|---|---|---|---|\n"
+head = codes "| Number | Rule | Instructions | Needs | Lines |\n|---|---|---|---|---|\n"
+
+-- what a rule needs
+abbrev pub exact_cell : Bool → List ℕ
+exact_cell true = codes "`--exact` "
+exact_cell false = []
 
 -- what stands between the texts
 abbrev pub between : (n : ℕ) → List ℕ
-between n = if n == 0 then [] else codes " |\n| | | | "
+between n = if n == 0 then [] else codes " |\n| | | | | "
 
 -- the text with that number
 abbrev pub cell : (n : ℕ) → (line : List ℕ) → List ℕ
@@ -98,7 +117,7 @@ cells n (line ∷ lines) = cell n line ++ cells (n + 1) lines
 unfoldable pub rule_rows : (n : ℕ) → (name : List ℕ) → Told → List ℕ
 rule_rows n name told =
     codes "| " ++ (decimal n ++ (codes " | `" ++ (name ++ (codes "` | " ++ (growth_word told.growth
-    ++ (codes " | " ++ (cells 0 told.lines ++ codes " |\n")))))))
+    ++ (codes " | " ++ (exact_cell told.exact ++ (codes "| " ++ (cells 0 told.lines ++ codes " |\n")))))))))
 
 -- ---- in each form
 

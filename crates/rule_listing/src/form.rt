@@ -5,7 +5,7 @@
 pub enum Form {
     /// Text for people: a line for each rule, and under it, indented, its lines.
     Text,
-    /// JSON, one object a line, for each rule, with its `growth`, `lines`, `name` and `number`.
+    /// JSON, one object a line, for each rule, with its `exact`, `growth`, `lines`, `name` and `number`.
     Json,
     /// A table of Markdown, which is text for people too.
     Markdown,

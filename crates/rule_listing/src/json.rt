@@ -28,11 +28,12 @@ fn value_of(alloc: Global, rule: &ListedRule<'_>) -> Result<Value, AllocError>
     ensures { IfOk result (λ v. view v
         ≡ rule_object rule.now.number rule.now.name.now (told_in rule.now)) }
 {
+    let exact = rule.exact;
     let growth = growth_word(rule.growth);
     let lines = Value::Array(items_of(alloc, rule.lines)?);
     let name = rule.name;
     let number = rule.number;
-    json!(in alloc; {"growth": growth, "lines": lines, "name": name, "number": number})
+    json!(in alloc; {"exact": exact, "growth": growth, "lines": lines, "name": name, "number": number})
 }
 
 // The value as text.

@@ -1,7 +1,9 @@
-//! The rules for people and programs: each with its number, its name, what it does to the number of instructions, and its lines.
+//! The rules for people and programs: each with its number, its name, what it does to the number of instructions, whether it needs an engine that
+//! is exact, and its lines.
 #![tactic(auto)]
 
 mod error;
+mod exact;
 mod form;
 mod growth;
 mod json;

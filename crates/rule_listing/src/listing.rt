@@ -7,6 +7,7 @@ ghost use Rattle.rule_listing.specs.ListedRule.{told_in};
 ghost use Rattle.rule_listing.specs.declared.error.ListError.TheVariants.{Memory, Output};
 
 use crate::error::ListError;
+use crate::exact::rule_needs_exact;
 use crate::form::Form;
 use crate::growth::rule_growth;
 use crate::json::add_object;
@@ -25,7 +26,8 @@ fn head_text(form: Form) -> &'static str
     match form {
         Form::Text => "",
         Form::Json => "",
-        Form::Markdown => "| Number | Rule | Instructions | Lines |\n|---|---|---|---|\n",
+        Form::Markdown =>
+            "| Number | Rule | Instructions | Needs | Lines |\n|---|---|---|---|---|\n",
     }
 }
 
@@ -59,6 +61,7 @@ fn add_numbered(
         number,
         name,
         growth: rule_growth(rules, number),
+        exact: rule_needs_exact(rules, number),
         lines: &lines,
     };
     add_rule(text, form, &rule)
@@ -90,7 +93,8 @@ fn write_text<W: Write>(output: &mut W, text: &str) -> Result<(), ListError>
 }
 
 /// Writes all rules, in the order of their numbers: each with its number, its name, what its rewrites do to the number of instructions
-/// (`shrinks`, `keeps`, or `grows` where neither can be said of all of them), and its lines, as the table's rows print them.
+/// (`shrinks`, `keeps`, or `grows` where neither can be said of all of them), whether it needs an engine that is exact (`--exact`, or `exact`
+/// in JSON; so it is where each of its rows does), and its lines, as the table's rows print them.
 ///
 /// Nothing is written for want of memory (`Memory`).
 pub fn write_rules<W: Write>(alloc: Global, output: &mut W, form: Form) -> Result<(), ListError>

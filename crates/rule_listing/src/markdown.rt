@@ -3,6 +3,7 @@ ghost use Rattle.std.specs.Prelude.{◌≡◌, ◌++◌, map, string_bytes, OnOk
 ghost use Rattle.rule_listing.specs.Listing.{between, cell, cells, rule_rows};
 ghost use Rattle.rule_listing.specs.ListedRule.{told_in};
 
+use crate::exact::exact_cell;
 use crate::growth::growth_word;
 use crate::rule::ListedRule;
 use std::alloc::AllocError;
@@ -11,7 +12,7 @@ use std::alloc::AllocError;
 fn between(index: usize) -> &'static str
     ensures { result.now ≡ between index }
 {
-    if index == 0 { "" } else { " |\n| | | | " }
+    if index == 0 { "" } else { " |\n| | | | | " }
 }
 
 // Adds the text with that index.
@@ -44,7 +45,8 @@ pub(crate) fn add_rows(text: &mut String, rule: &ListedRule<'_>) -> Result<(), A
     let number = rule.number;
     let name = rule.name;
     let growth = growth_word(rule.growth);
-    write!(text, "| {number} | `{name}` | {growth} | ")?;
+    let exact = exact_cell(rule.exact);
+    write!(text, "| {number} | `{name}` | {growth} | {exact}| ")?;
     add_cells(text, rule.lines)?;
     text.push_str(" |\n")
 }

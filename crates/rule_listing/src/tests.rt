@@ -5,43 +5,57 @@ use std::str;
 use std::test::Fail;
 
 /// Lines of the list as JSON, by their numbers from 0.
-const OBJECTS: [(usize, &str); 4] = [
+const OBJECTS: [(usize, &str); 6] = [
     (
         3,
-        r#"{"growth":"keeps","lines":["add (add x y) z → add x (add y z)","mul (mul x y) z → mul x (mul y z)","and (and x y) z → and x (and y z)","or (or x y) z → or x (or y z)","xor (xor x y) z → xor x (xor y z)"],"name":"associate_right","number":3}"#,
+        r#"{"exact":false,"growth":"keeps","lines":["add (add x y) z → add x (add y z)","mul (mul x y) z → mul x (mul y z)","and (and x y) z → and x (and y z)","or (or x y) z → or x (or y z)","xor (xor x y) z → xor x (xor y z)"],"name":"associate_right","number":3}"#,
     ),
     (
         4,
-        r#"{"growth":"grows","lines":["x → add x 0"],"name":"add_zero","number":4}"#,
+        r#"{"exact":false,"growth":"grows","lines":["x → add x 0"],"name":"add_zero","number":4}"#,
     ),
     (
         32,
-        r#"{"growth":"shrinks","lines":["drop x → nothing"],"name":"forget","number":32}"#,
+        r#"{"exact":false,"growth":"shrinks","lines":["drop x → nothing"],"name":"forget","number":32}"#,
     ),
     (
         88,
-        r#"{"growth":"shrinks","lines":["local.set x, local.get → local.tee x"],"name":"set_to_tee","number":88}"#,
+        r#"{"exact":false,"growth":"shrinks","lines":["local.set x, local.get → local.tee x"],"name":"set_to_tee","number":88}"#,
+    ),
+    (
+        129,
+        r#"{"exact":true,"growth":"shrinks","lines":["f32: f32.neg (f32.neg x) → x","f64: f64.neg (f64.neg x) → x"],"name":"drop_double_float_negation","number":129}"#,
+    ),
+    (
+        166,
+        r#"{"exact":true,"growth":"shrinks","lines":["f32: f32.lt x x → 0","f32: f32.gt x x → 0","i32: f64.lt y y → 0","i32: f64.gt y y → 0"],"name":"cancel_float_comparison","number":166}"#,
     ),
 ];
 
 /// Lines of the list as Markdown, by their numbers from 0: two stand before the rules, and `commute` has 7, `turn_comparison` 8.
-const ROWS: [(usize, &str); 6] = [
-    (0, "| Number | Rule | Instructions | Lines |"),
-    (1, "|---|---|---|---|"),
-    (2, "| 0 | `commute` | keeps | `add x y → add y x` |"),
-    (3, "| | | | `mul x y → mul y x` |"),
+const ROWS: [(usize, &str); 9] = [
+    (0, "| Number | Rule | Instructions | Needs | Lines |"),
+    (1, "|---|---|---|---|---|"),
+    (2, "| 0 | `commute` | keeps | | `add x y → add y x` |"),
+    (3, "| | | | | `mul x y → mul y x` |"),
     (
         9,
-        "| 1 | `turn_comparison` | keeps | `lt_s x y → gt_s y x` |",
+        "| 1 | `turn_comparison` | keeps | | `lt_s x y → gt_s y x` |",
     ),
     (
         138,
-        "| 88 | `set_to_tee` | shrinks | `local.set x, local.get → local.tee x` |",
+        "| 88 | `set_to_tee` | shrinks | | `local.set x, local.get → local.tee x` |",
     ),
+    (250, "| | | | | `i32.popcnt (ge_u x y) → ge_u x y` |"),
+    (
+        251,
+        "| 129 | `drop_double_float_negation` | shrinks | `--exact` | `f32: f32.neg (f32.neg x) → x` |",
+    ),
+    (252, "| | | | | `f64: f64.neg (f64.neg x) → x` |"),
 ];
 
-/// Lines of the list as text, by their numbers from 0: each of the 129 rules has one, and under it there are 249 rows.
-const LINES: [(usize, &str); 13] = [
+/// Lines of the list as text, by their numbers from 0: each of the 257 rules has one, and under it there are 871 rows.
+const LINES: [(usize, &str); 22] = [
     (0, "0 commute keeps"),
     (1, "  add x y → add y x"),
     (7, "  ne x y → ne y x"),
@@ -61,6 +75,15 @@ const LINES: [(usize, &str); 13] = [
         "  lt_s (xor x (2^(N - 1))) y → lt_u x (xor (2^(N - 1)) y)",
     ),
     (377, "  i32.popcnt (ge_u x y) → ge_u x y"),
+    (378, "129 drop_double_float_negation shrinks --exact"),
+    (380, "  f64: f64.neg (f64.neg x) → x"),
+    (381, "130 double_float_negation grows --exact"),
+    (505, "166 cancel_float_comparison shrinks --exact"),
+    (558, "175 parts_to_order shrinks --exact"),
+    (562, "  f64: i32.or (f64.gt x y) (f64.eq x y) → f64.ge x y"),
+    (563, "176 double_vector_complement grows --exact"),
+    (564, "  v128: x → v128.not (v128.not x)"),
+    (1126, "256 bits_to_vector_xor shrinks --exact"),
 ];
 
 #[test]
@@ -68,7 +91,7 @@ fn lists_rules_as_text(rt: HostRuntime) -> Result<(), Fail> {
     let mut output = Vec::new(rt.alloc());
     write_rules(rt.alloc(), &mut output, Form::Text)?;
     let text = str::from_utf8(&output)?;
-    assert!(rt; text.lines().count() == 378);
+    assert!(rt; text.lines().count() == 1128);
     for (number, line) in LINES {
         assert!(rt; text.lines().nth(number) == Some(line), "line {number}");
     }
@@ -80,7 +103,7 @@ fn lists_rules_as_objects(rt: HostRuntime) -> Result<(), Fail> {
     let mut output = Vec::new(rt.alloc());
     write_rules(rt.alloc(), &mut output, Form::Json)?;
     let text = str::from_utf8(&output)?;
-    assert!(rt; text.lines().count() == 129);
+    assert!(rt; text.lines().count() == 257);
     for (number, line) in OBJECTS {
         assert!(rt; text.lines().nth(number) == Some(line), "line {number}");
     }
@@ -92,9 +115,22 @@ fn lists_rules_as_a_table(rt: HostRuntime) -> Result<(), Fail> {
     let mut output = Vec::new(rt.alloc());
     write_rules(rt.alloc(), &mut output, Form::Markdown)?;
     let text = str::from_utf8(&output)?;
-    assert!(rt; text.lines().count() == 251);
+    assert!(rt; text.lines().count() == 873);
     for (number, line) in ROWS {
         assert!(rt; text.lines().nth(number) == Some(line), "line {number}");
+    }
+    Ok(())
+}
+
+/// The rules on whole numbers need no engine that is exact, and all others do.
+#[test]
+fn tells_which_rules_need_an_exact_engine(rt: HostRuntime) -> Result<(), Fail> {
+    let mut output = Vec::new(rt.alloc());
+    write_rules(rt.alloc(), &mut output, Form::Json)?;
+    let text = str::from_utf8(&output)?;
+    for (number, line) in text.lines().enumerate() {
+        let is_exact = line.starts_with(r#"{"exact":true,"#);
+        assert!(rt; is_exact == (number >= 129), "line {number}");
     }
     Ok(())
 }

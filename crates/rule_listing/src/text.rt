@@ -3,6 +3,7 @@ ghost use Rattle.std.specs.Prelude.{◌≡◌, ◌++◌, map, string_bytes, OnOk
 ghost use Rattle.rule_listing.specs.Listing.{rule_block, text_line, text_lines};
 ghost use Rattle.rule_listing.specs.ListedRule.{told_in};
 
+use crate::exact::exact_word;
 use crate::growth::growth_word;
 use crate::rule::ListedRule;
 use std::alloc::AllocError;
@@ -36,6 +37,7 @@ pub(crate) fn add_block(text: &mut String, rule: &ListedRule<'_>) -> Result<(), 
     let number = rule.number;
     let name = rule.name;
     let growth = growth_word(rule.growth);
-    write!(text, "{number} {name} {growth}\n")?;
+    let exact = exact_word(rule.exact);
+    write!(text, "{number} {name} {growth}{exact}\n")?;
     add_lines(text, rule.lines)
 }

@@ -1,5 +1,6 @@
-//! Bodies as texts: the names of their operators, with semicolons between them, and immediates in decimal digits.
+//! Bodies as texts: the names of their operators, with semicolons between them, and immediates in decimal digits; a lane is one.
 
+use instruction_names::instruction_name;
 use std::alloc::{AllocError, Global};
 use std::process::Abort;
 use std::test::Fail;
@@ -7,7 +8,7 @@ use wasm_code::{Function, Imm, Instr, MemArg, Opcode, ValType, row_of};
 use wasm_types::{FuncInfo, MemoryType, ModuleInfo, PrimitiveTypeInfo, TypeInfo};
 
 /// The types of the function's parameters and locals.
-pub const LOCALS: [PrimitiveTypeInfo; 7] = [
+pub const LOCALS: [PrimitiveTypeInfo; 10] = [
     PrimitiveTypeInfo::I32,
     PrimitiveTypeInfo::I32,
     PrimitiveTypeInfo::I64,
@@ -15,45 +16,19 @@ pub const LOCALS: [PrimitiveTypeInfo; 7] = [
     PrimitiveTypeInfo::F32,
     PrimitiveTypeInfo::F64,
     PrimitiveTypeInfo::V128,
+    PrimitiveTypeInfo::F32,
+    PrimitiveTypeInfo::F64,
+    PrimitiveTypeInfo::V128,
 ];
 
-/// The opcode of the first name of a line; the others of the line have those behind it.
-const NAMES: &str = "
-01 nop
-10 call
-1a drop select select.i32
-20 local.get local.set local.tee global.get global.set
-28 i32.load i64.load
-36 i32.store
-3f memory.size
-41 i32.const i64.const f32.const
-45 i32.eqz i32.eq i32.ne i32.lt_s i32.lt_u i32.gt_s i32.gt_u i32.le_s i32.le_u i32.ge_s i32.ge_u
-50 i64.eqz i64.eq i64.ne i64.lt_s i64.lt_u i64.gt_s i64.gt_u i64.le_s i64.le_u i64.ge_s i64.ge_u
-5d f32.lt
-67 i32.clz i32.ctz i32.popcnt
-6a i32.add i32.sub i32.mul i32.div_s i32.div_u i32.rem_s i32.rem_u
-71 i32.and i32.or i32.xor i32.shl i32.shr_s i32.shr_u i32.rotl i32.rotr
-79 i64.clz i64.ctz i64.popcnt
-7c i64.add i64.sub i64.mul i64.div_s i64.div_u i64.rem_s i64.rem_u
-83 i64.and i64.or i64.xor i64.shl i64.shr_s i64.shr_u i64.rotl i64.rotr
-8c f32.neg
-91 f32.sqrt f32.add f32.sub
-a7 i32.wrap_i64 i32.trunc_f32_s
-ac i64.extend_i32_s i64.extend_i32_u
-bc i32.reinterpret_f32
-c0 i32.extend8_s i32.extend16_s i64.extend8_s i64.extend16_s i64.extend32_s
-";
-
-/// The opcode of the instruction of that name.
-fn opcode_of(name: &str) -> Option<u8> {
-    for line in NAMES.trim().lines() {
-        let (first, names) = line.split_once(' ')?;
-        let mut opcode = u8::from_str_radix(first, 16).ok()?;
-        for known in names.split(' ') {
-            if known == name {
-                return Some(opcode);
-            }
-            opcode = opcode.wrapping_add(1);
+/// The row of the instruction table that has the name.
+fn row_named(name: &str) -> Option<u16> {
+    if name == "select.i32" {
+        return row_of(Opcode::Byte(0x1c));
+    }
+    for row in 0..446 {
+        if instruction_name(row) == name {
+            return Some(row);
         }
     }
     None
@@ -62,18 +37,21 @@ fn opcode_of(name: &str) -> Option<u8> {
 /// The instruction that the text is: its name, and its immediate, if it has one.
 fn instr_of(text: &str) -> Option<Instr> {
     let (name, number) = text.split_once(' ').unwrap_or((text, ""));
-    let row = row_of(Opcode::Byte(opcode_of(name)?))?;
+    let row = row_named(name)?;
     let imm = match name {
         "i32.const" => Imm::I32(number.parse().ok()?),
         "i64.const" => Imm::I64(number.parse().ok()?),
         "f32.const" => Imm::F32(number.parse().ok()?),
+        "f64.const" => Imm::F64(number.parse().ok()?),
+        "v128.const" => Imm::V128(number.parse().ok()?),
         "select.i32" => Imm::Val(ValType::I32),
-        "i32.load" | "i64.load" | "i32.store" => Imm::Mem(MemArg {
+        "i32.load" | "i64.load" | "f32.load" | "f64.load" | "i32.store" => Imm::Mem(MemArg {
             offset: 0,
             align: 2,
             memory: 0,
         }),
         _ if number.is_empty() => Imm::Nothing,
+        _ if name.contains("_lane") => Imm::Lane(number.parse().ok()?),
         _ => Imm::Index(number.parse().ok()?),
     };
     Instr::new(row, imm)
@@ -103,7 +81,10 @@ pub fn module_of(alloc: Global) -> Result<ModuleInfo<'static>, AllocError> {
     let mut info = ModuleInfo::new(alloc, &[]);
     info.global_types.push(PrimitiveTypeInfo::I32)?;
     info.global_types.push(PrimitiveTypeInfo::I64)?;
-    info.memory_types.push(MemoryType { memory64: false })?;
+    info.memory_types.push(MemoryType {
+        memory64: false,
+        shared: false,
+    })?;
     let mut function = FuncInfo {
         params: Vec::new(alloc),
         returns: Vec::new(alloc),

@@ -4,10 +4,10 @@ ghost use Rattle.body_splices.specs.OwnBytes.{IsBodyIn};
 ghost use Rattle.body_rewrites.specs.Places.{HasItsTrees};
 
 use crate::notation::{LOCALS, body_of, fields_of, module_of};
-use crate::rows::ROWS;
+use crate::rows::{EXACT_ROWS, ROWS};
 use body_rewrites::{Body, Rewrite, rewrite_body, trees_of};
 use peephole_machine::IntegerType;
-use rewrite_rules::{Rule, rule_names, rules_of_rows};
+use rewrite_rules::{row_count, rule_names, rules_of_rows};
 use std::alloc::Global;
 use std::process::Abort;
 use std::test::Fail;
@@ -17,18 +17,71 @@ use wasm_types::PrimitiveTypeInfo;
 /// What a rule draws.
 const DRAWN: u64 = 4294967303;
 
-/// What a rule makes: for which width, the body, and the types of the globals that are asked for.
+/// The letters of rows, by groups: those of a group, and behind each bar what they stand for in one of the lines that a row with one of
+/// them is.
+const LETTERS: &str = "
+T F X Y G H | i32 f32 4 7 f32x4 i32x4 | i64 f64 5 8 f64x2 i64x2
+S W O | i8x16 8 i16x8 | i16x8 16 i32x4 | i32x4 32 i64x2 | i64x2 64 i8x16
+R P | i16x8 i32x4 | i32x4 i64x2 | i64x2 i16x8
+Q | i8x16 | i16x8 | i32x4
+U | s | u
+A | 0 | 1 | 2 | 3 | 4 | 5 | 6 | 7 | 8 | 9 | 10 | 11 | 12 | 13 | 14 | 15
+B | 0 | 1 | 2 | 3 | 4 | 5 | 6 | 7
+C | 0 | 1 | 2 | 3
+D | 0 | 1
+";
+
+/// What a rule makes: by which row of the table and for which width, the body, and the types of the globals that are asked for.
 #[derive(Drop)]
 struct Made {
+    row: usize,
     width: IntegerType,
     body: Function,
     asks: Vec<PrimitiveTypeInfo>,
 }
 
-/// All that a rule makes of an operator of a body; `bytes` are the body's.
+impl Made {
+    /// Whether it asks for a global of the type of that name, or for none where there is no name.
+    fn asks_for(&self, name: &str) -> bool {
+        match self.asks.as_slice() {
+            [] => name.is_empty(),
+            [t] => t.name() == name,
+            _ => false,
+        }
+    }
+}
+
+/// The names of the rules by their numbers, and for each row of the table the number of its rule: read once, since it takes long.
+#[derive(Drop)]
+struct Table {
+    names: Vec<&'static str>,
+    rules: Vec<u16>,
+}
+
+impl Table {
+    fn new(alloc: Global) -> Result<Table, Fail> {
+        Ok(Table {
+            names: rule_names(alloc)?,
+            rules: rules_of_rows(alloc)?,
+        })
+    }
+
+    /// The number of the rule of that name.
+    fn number(&self, rt: &impl Abort, name: &str) -> usize {
+        for (number, known) in self.names.iter().enumerate() {
+            if *known == name {
+                return number;
+            }
+        }
+        panic!(rt; "{name} is no rule")
+    }
+}
+
+/// All that the rule with that number makes of an operator of a body; `bytes` are the body's, `rules` are those of the table's rows.
 fn made_of(
     alloc: Global,
-    rule: Rule,
+    rules: &[u16],
+    rule: usize,
     body: &Body<'_>,
     bytes: &[u8],
     operator: usize,
@@ -37,8 +90,8 @@ fn made_of(
     requires body { IsBodyIn bytes.now body.now.operators.now }
 {
     let mut list = Vec::new(alloc);
-    for (row, number) in rules_of_rows(alloc)?.iter().enumerate() {
-        if *number as usize != rule.number() {
+    for (row, number) in rules.iter().enumerate() {
+        if *number as usize != rule {
             continue;
         }
         for width in [IntegerType::I32, IntegerType::I64] {
@@ -50,6 +103,7 @@ fn made_of(
             let mut new = Function::new(alloc);
             if let Some(asks) = rewrite_body(alloc, body, bytes, rewrite, DRAWN, &mut new)? {
                 list.push(Made {
+                    row,
                     width,
                     body: new,
                     asks,
@@ -60,9 +114,19 @@ fn made_of(
     Ok(list)
 }
 
-/// The same of the body with these bytes.
-fn made_in(alloc: Global, rule: Rule, bytes: &[u8], operator: usize) -> Result<Vec<Made>, Fail> {
-    let info = module_of(alloc)?;
+/// The same of a rule, a body and an operator by their texts, in a module that is exact or isn't.
+fn made_by(
+    rt: &impl Abort,
+    alloc: Global,
+    table: &Table,
+    exact: bool,
+    fields: [&str; 3],
+) -> Result<Vec<Made>, Fail> {
+    let [rule, body, operator] = fields;
+    let text = body_of(rt, alloc, body)?;
+    let bytes = text.bytes();
+    let mut info = module_of(alloc)?;
+    info.exact = exact;
     let operators = read_body(alloc, bytes, 0, bytes.len())?;
     let trees = trees_of(alloc, &LOCALS, &info, &operators)?;
     let body = Body {
@@ -71,82 +135,230 @@ fn made_in(alloc: Global, rule: Rule, bytes: &[u8], operator: usize) -> Result<V
         operators: &operators,
         trees: &trees,
     };
-    made_of(alloc, rule, &body, bytes, operator)
+    let rule = table.number(rt, rule);
+    made_of(alloc, &table.rules, rule, &body, bytes, operator.parse()?)
 }
 
-/// Whether the rule makes of the operator what the line says, and nothing else.
-fn is_told(rt: &impl Abort, alloc: Global, line: &str) -> Result<bool, Fail> {
+/// Whether the rule makes of the operator what the line says, in a module that is exact or isn't, and as many rewrites there as `count`.
+fn is_told(
+    rt: &impl Abort,
+    alloc: Global,
+    table: &Table,
+    exact: bool,
+    line: &str,
+    count: usize,
+) -> Result<bool, Fail> {
     let fields = fields_of(alloc, line)?;
     let [rule, before, operator, width, after, asked @ ..] = fields.as_slice() else {
         panic!(rt; "{line}");
     };
-    let before = body_of(rt, alloc, before)?;
-    let list = made_in(alloc, rule.parse()?, before.bytes(), operator.parse()?)?;
+    let list = made_by(rt, alloc, table, exact, [*rule, *before, *operator])?;
     if *after == "-" {
         return Ok(list.is_empty());
     }
-    let [only] = list.as_slice() else {
-        return Ok(false);
-    };
     let wanted = match *width {
         "i32" => IntegerType::I32,
         _ => IntegerType::I64,
     };
     let after = body_of(rt, alloc, after)?;
-    let asks = match only.asks.as_slice() {
-        [t] => t.name(),
-        _ => "",
-    };
-    Ok(
-        only.width == wanted
-            && only.body.bytes() == after.bytes()
-            && only.asks.len() == asked.len()
-            && asked.first().copied().unwrap_or("") == asks,
-    )
-}
-
-/// Fails where a rule doesn't make of an operator what one of the rows says.
-fn check_rows(rt: &impl Abort, alloc: Global, rows: &str) -> Result<(), Fail> {
-    for line in rows.trim().lines() {
-        for t in ["i32", "i64"] {
-            let told = line.replace(alloc, 'T', t)?;
-            let is_row = !line.starts_with('#') && (t == "i32" || line.contains('T'));
-            assert!(rt; !is_row || is_told(rt, alloc, &told)?, "{told}");
-        }
-    }
-    Ok(())
-}
-
-#[test]
-fn rules_make_what_is_told(rt: HostRuntime) -> Result<(), Fail> {
-    for rows in ROWS {
-        check_rows(&rt, rt.alloc(), rows)?;
-    }
-    Ok(())
-}
-
-/// Whether the rule makes something in one of the rows.
-fn makes_some(alloc: Global, rule: &str, rows: &str) -> Result<bool, Fail> {
-    for line in rows.trim().lines() {
-        let fields = fields_of(alloc, line)?;
-        if matches!(fields.as_slice(), [name, _, _, _, after, ..] if *name == rule && *after != "-")
-        {
-            return Ok(true);
+    let asked = asked.first().copied().unwrap_or("");
+    for made in &list {
+        let same_body = made.body.bytes() == after.bytes();
+        if made.width == wanted && same_body && made.asks_for(asked) {
+            return Ok(list.len() == count);
         }
     }
     Ok(false)
 }
 
-/// Each rule makes something in a row.
-#[test]
-fn all_rules_are_told(rt: HostRuntime) -> Result<(), Fail> {
-    let alloc = rt.alloc();
-    for name in &rule_names(alloc)? {
-        let mut found = false;
-        for rows in ROWS {
-            found = found || makes_some(alloc, name, rows)?;
-        }
-        assert!(rt; found, "{name}");
+/// The line with the texts in the places of the letters, which have spaces between them.
+fn filled(alloc: Global, line: &str, letters: &str, texts: &str) -> Result<String, Fail> {
+    let mut filled = String::new(alloc);
+    filled.push_str(line)?;
+    for (letter, text) in letters.split(' ').zip(texts.split(' ')) {
+        filled = filled.as_str().replace(alloc, letter, text)?;
     }
+    Ok(filled)
+}
+
+/// Adds the lines that the line is by the letters of a group: itself where it has none of them.
+fn add_filled(alloc: Global, line: &str, group: &str, lines: &mut Vec<String>) -> Result<(), Fail> {
+    let fields = fields_of(alloc, group)?;
+    let [letters, texts @ ..] = fields.as_slice() else {
+        return Ok(());
+    };
+    for text in texts {
+        let filled = filled(alloc, line, letters, text)?;
+        let has_letters = filled.as_str() != line;
+        lines.push(filled)?;
+        if !has_letters {
+            break;
+        }
+    }
+    Ok(())
+}
+
+/// The lines that the rows are, with texts in the places of all letters.
+fn lines_of(alloc: Global, rows: &str) -> Result<Vec<String>, Fail> {
+    let mut lines = Vec::new(alloc);
+    for row in rows.trim().lines() {
+        if row.starts_with('#') {
+            continue;
+        }
+        let mut line = String::new(alloc);
+        line.push_str(row)?;
+        lines.push(line)?;
+    }
+    for group in LETTERS.trim().lines() {
+        let mut next = Vec::new(alloc);
+        for line in &lines {
+            add_filled(alloc, line, group, &mut next)?;
+        }
+        lines = next;
+    }
+    Ok(lines)
+}
+
+/// For each line its rule, its body and its operator, which are where something is made.
+fn places_of(rt: &impl Abort, alloc: Global, lines: &[String]) -> Result<Vec<String>, Fail> {
+    let mut places = Vec::new(alloc);
+    for line in lines {
+        let fields = fields_of(alloc, line)?;
+        let [rule, body, operator, ..] = fields.as_slice() else {
+            panic!(rt; "{line}");
+        };
+        places.push(format!(in alloc; "{rule} | {body} | {operator}")?)?;
+    }
+    Ok(places)
+}
+
+/// How many of the places are that one.
+fn count_of(alloc: Global, places: &[String], place: &str) -> Result<usize, Fail> {
+    let mut same = Vec::new(alloc);
+    for other in places {
+        if other.as_str() == place {
+            same.push(())?;
+        }
+    }
+    Ok(same.len())
+}
+
+/// Fails where a rule doesn't make of an operator what the rows say, in a module that is exact or isn't: what each line says that has that
+/// rule, that body and that operator, and nothing else.
+fn check_rows(
+    rt: &impl Abort,
+    alloc: Global,
+    table: &Table,
+    exact: bool,
+    rows: &str,
+) -> Result<(), Fail> {
+    let lines = lines_of(alloc, rows)?;
+    let places = places_of(rt, alloc, &lines)?;
+    let mut others = String::new(alloc);
+    for (line, place) in lines.iter().zip(places.iter()) {
+        let count = count_of(alloc, &places, place)?;
+        if !is_told(rt, alloc, table, exact, line, count)? {
+            others.push_str("\n")?;
+            others.push_str(line)?;
+        }
+    }
+    assert!(rt; others.is_empty(), "{others}");
+    Ok(())
+}
+
+#[test]
+fn rules_make_what_is_told(rt: HostRuntime) -> Result<(), Fail> {
+    let table = Table::new(rt.alloc())?;
+    for rows in ROWS {
+        check_rows(&rt, rt.alloc(), &table, false, rows)?;
+    }
+    Ok(())
+}
+
+/// In a module that is exact they make the same.
+#[test]
+fn rules_make_the_same_in_exact_modules(rt: HostRuntime) -> Result<(), Fail> {
+    let table = Table::new(rt.alloc())?;
+    for rows in ROWS {
+        check_rows(&rt, rt.alloc(), &table, true, rows)?;
+    }
+    Ok(())
+}
+
+#[test]
+fn exact_rules_make_what_is_told(rt: HostRuntime) -> Result<(), Fail> {
+    let table = Table::new(rt.alloc())?;
+    for rows in EXACT_ROWS {
+        check_rows(&rt, rt.alloc(), &table, true, rows)?;
+    }
+    Ok(())
+}
+
+/// What the rule of the line makes of its operator, in a module that is exact or isn't.
+fn made_of_line(
+    rt: &impl Abort,
+    alloc: Global,
+    table: &Table,
+    exact: bool,
+    line: &str,
+) -> Result<Vec<Made>, Fail> {
+    let fields = fields_of(alloc, line)?;
+    let [rule, before, operator, ..] = fields.as_slice() else {
+        panic!(rt; "{line}");
+    };
+    made_by(rt, alloc, table, exact, [*rule, *before, *operator])
+}
+
+/// No rule that needs an exact module makes anything where it isn't one.
+#[test]
+fn exact_rules_make_nothing_elsewhere(rt: HostRuntime) -> Result<(), Fail> {
+    let table = Table::new(rt.alloc())?;
+    for rows in EXACT_ROWS {
+        for line in &lines_of(rt.alloc(), rows)? {
+            assert!(rt;
+                made_of_line(&rt, rt.alloc(), &table, false, line)?.is_empty(),
+                "{line}"
+            );
+        }
+    }
+    Ok(())
+}
+
+/// Adds the numbers of the table's rows by which something is made in these rows.
+fn add_numbers(
+    rt: &impl Abort,
+    alloc: Global,
+    table: &Table,
+    exact: bool,
+    rows: &str,
+    numbers: &mut Vec<usize>,
+) -> Result<(), Fail> {
+    for line in &lines_of(alloc, rows)? {
+        for made in &made_of_line(rt, alloc, table, exact, line)? {
+            numbers.push(made.row)?;
+        }
+    }
+    Ok(())
+}
+
+/// By each row of the table something is made in a row.
+#[test]
+fn all_rows_are_told(rt: HostRuntime) -> Result<(), Fail> {
+    let alloc = rt.alloc();
+    let table = Table::new(alloc)?;
+    let mut numbers = Vec::new(alloc);
+    for rows in ROWS {
+        add_numbers(&rt, alloc, &table, false, rows, &mut numbers)?;
+    }
+    for rows in EXACT_ROWS {
+        add_numbers(&rt, alloc, &table, true, rows, &mut numbers)?;
+    }
+    let mut others = Vec::new(alloc);
+    for number in 0..row_count() {
+        if !numbers.iter().any(|told| *told == number) {
+            others.push(number)?;
+        }
+    }
+    assert!(rt; others.is_empty(), "{others:?}");
     Ok(())
 }

@@ -93,6 +93,7 @@ fn rewrite(alloc: Global, rule: Rule) -> Result<RewrittenModule, Reason> {
         function: None,
         max_size: SUM.len(),
         shrinking: false,
+        exact: false,
     };
     let mut generator = StdRng::seed_from_u64(0);
     let mut unwatched = Unwatched;

@@ -21,6 +21,7 @@ fn any<'a>(rules: &'a [Rule], max_size: usize) -> Scope<'a> {
         function: None,
         max_size,
         shrinking: false,
+        exact: false,
     }
 }
 
@@ -80,6 +81,7 @@ fn turns_operands(rt: HostRuntime) -> Result<(), Fail> {
         function: Some(0),
         max_size: 32,
         shrinking: false,
+        exact: false,
     };
     let thrice = rewritten_by_seed(alloc, &SUM, 0, &named, 3)?;
     assert_eq!(rt; thrice.bytes.as_slice(), TURNED.as_slice());
@@ -148,6 +150,7 @@ fn draws_another_that_fits(rt: HostRuntime) -> Result<(), Fail> {
                 function: only,
                 max_size,
                 shrinking: false,
+                exact: false,
             };
             let mut generator = Words::new(list);
             let new = rewritten(alloc, &SUM, &mut generator, &scope, 1)?;

@@ -81,6 +81,14 @@ const COMPONENT: &[u8] = b"\0asm\x0d\0\x01\0";
 /// The text of a module.
 const TEXT: &[u8] = b"(module)";
 
+/// A function that gives the f32 that it takes, negated twice.
+const NEGATED: &[u8] = b"\0asm\x01\0\0\0\x01\x06\x01\x60\x01\x7d\x01\x7d\x03\x02\x01\0\
+    \x0a\x08\x01\x06\0\x20\0\x8c\x8c\x0b";
+
+/// The same without that.
+const FLOAT: &[u8] = b"\0asm\x01\0\0\0\x01\x06\x01\x60\x01\x7d\x01\x7d\x03\x02\x01\0\
+    \x0a\x06\x01\x04\0\x20\0\x0b";
+
 /// A function with an atomic operator on an i32 that no proposal has (FE 4F).
 const NO_ATOMIC: &[u8] =
     b"\0asm\x01\0\0\0\x01\x05\x01\x60\0\x01\x7f\x03\x02\x01\0\x05\x04\x01\x03\x01\x01\
@@ -145,6 +153,11 @@ a.wasm --list-rules | ArgumentConflict
 --rule commute --rule drop_add_zero --rule add_zero --shrink | Rewrite 0 18446744073709551615 None shrink 3 commute add_zero
 --shrink --rule fold --rule commute --not-rule fold | Rewrite 0 18446744073709551615 None shrink 1 commute commute
 --shrink --count 5 --rule drop_add_zero | Rewrite 0 5 None shrink 1 drop_add_zero drop_add_zero
+--exact | Rewrite 0 1 None exact all
+--exact --shrink | Rewrite 0 18446744073709551615 None shrink exact all
+--list --exact | List 0 1 None exact all
+--blocks --exact | ArgumentConflict
+--list-rules --exact | ArgumentConflict
 --rule melt | InvalidValue
 --rule fold --rule melt --rule commute | InvalidValue
 --rule fold --rule fold | Rewrite 0 1 None 2 fold fold
@@ -476,6 +489,29 @@ const RUNS: &str = r#"
 
 --list | TEXT | Err(TextFormat)
 
+--exact --rule drop_double_float_negation | NEGATED | Ok(Whole)
+> FLOAT
+
+--rule drop_double_float_negation | NEGATED | Err(Nothing(NoRule))
+
+--exact --list --rule drop_double_float_negation | NEGATED | Ok(Whole)
+> function 0      operator 2      rule drop_double_float_negation
+
+--list --rule drop_double_float_negation | NEGATED | Ok(Whole)
+
+--exact --rule drop_double_float_negation --stats --reach | NEGATED | Ok(Whole)
+> FLOAT
+! functions  1          unreadable 0
+! operators  4          rewritable 1
+! blocks     1          rewritable 1
+! integers   0          rewritable 0
+! function 0      operator 2      rule drop_double_float_negation
+! bytes      30         new 28
+
+--exact | NO_ATOMIC | Err(SharedMemory)
+
+--exact --list | NO_ATOMIC | Err(SharedMemory)
+
 --blocks | NO_ATOMIC | Ok(Whole)
 > function 0      UnknownOpcode at 32: operator 0xfe 79 (atomics)
 
@@ -520,6 +556,8 @@ fn module_of(name: &str) -> Option<&'static [u8]> {
         "DOUBLES_SHORT" => Some(DOUBLES_SHORT),
         "COMPONENT" => Some(COMPONENT),
         "TEXT" => Some(TEXT),
+        "NEGATED" => Some(NEGATED),
+        "FLOAT" => Some(FLOAT),
         "NO_ATOMIC" => Some(NO_ATOMIC),
         "CATCHING" => Some(CATCHING),
         "TAIL_CALL" => Some(TAIL_CALL),
@@ -562,13 +600,14 @@ fn if_set(flag: bool, name: &'static str) -> &'static str {
 /// The names of the flags that hold.
 fn flags_text(alloc: Global, options: &Options) -> Result<String, AllocError> {
     let shrink = if_set(options.shrink, "shrink ");
+    let exact = if_set(options.exact, "exact ");
     let stats = if_set(options.stats, "stats ");
     let reach = if_set(options.reach, "reach ");
     let json = if_set(options.json, "json ");
     let show = if_set(options.show, "show ");
     let strip = if_set(options.strip_debug, "strip-debug ");
     let quiet = if_set(options.quiet, "quiet ");
-    format!(in alloc; "{shrink}{stats}{reach}{json}{show}{strip}{quiet}")
+    format!(in alloc; "{shrink}{exact}{stats}{reach}{json}{show}{strip}{quiet}")
 }
 
 /// A dose as the command line has it.

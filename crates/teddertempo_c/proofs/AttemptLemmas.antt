@@ -1,5 +1,5 @@
 -- A module rewritten as is asked for, and what options ask for.
-use Rattle.std.proofs.Common.{◌≡◌, ℕ, ◌+◌, List, false, Option, None, Result, Ok, Err, ap, ◌∙◌, arith}
+use Rattle.std.proofs.Common.{◌≡◌, ℕ, Bool, ◌+◌, List, false, Option, None, Result, Ok, Err, ap, ◌∙◌, arith}
 use Rattle.std.specs.Prelude.{IfOk, IfErr}
 use Rattle.std.proofs.Math.Nat.{min-le_left}
 use Rattle.rewrite_rules.specs.declared.rule.Rule.{Rule}
@@ -15,7 +15,7 @@ use Rattle.module_rewrites.specs.declared.attempt.Reason.TheVariants.{NoRule, No
 use Rattle.module_rewrites.specs.declared.dose.Dose.{Dose}
 use Rattle.module_rewrites.specs.declared.dose.Dose.TheVariants.{Times}
 use Rattle.module_rewrites.specs.declared.times.RewrittenModule.{RewrittenModule}
-use Rattle.teddertempo_c.specs.Options.{rules_of, function_of, dose_of, most_of}
+use Rattle.teddertempo_c.specs.Options.{rules_of, function_of, dose_of, most_of, exact_of}
 use Rattle.teddertempo_c.specs.Reports.{asked_of}
 use Rattle.teddertempo_c.specs.Rules.{every_rule}
 use Rattle.teddertempo_c.specs.Writes.{Asked, Fits, IsRefusedFor, IsRewrittenBy, once}
@@ -24,13 +24,13 @@ use Rattle.teddertempo_c.proofs.FitsLemmas.{fits_mutated}
 
 module _ (asked : Asked) (count : ℕ) (bytes : List ℕ) (result : Result RewrittenModule Reason)
     (mutates : IfOk result (λ m. Mutates asked.scope count bytes m.made.items m.bytes.items m.stopped)) where
-  pub rewritten_so : IsDoseOf asked.dose asked.scope.function bytes count → IfOk result (λ m. DoesAsBefore bytes m.bytes.items) →
+  pub rewritten_so : IsDoseOf asked.dose asked.scope.function bytes count → IfOk result (λ m. DoesAsBefore asked.scope.exact bytes m.bytes.items) →
       IfOk result (λ m. ChoosesTimes asked.scope bytes (seeded asked.seed) m.made.items m.bytes.items m.stopped) →
       IfOk result (λ m. IsRewrittenBy asked bytes m.made.items m.bytes.items)
   rewritten_so counted does chosen = each result mutates does chosen
     where
       each : (r : Result RewrittenModule Reason) → IfOk r (λ m. Mutates asked.scope count bytes m.made.items m.bytes.items m.stopped) →
-          IfOk r (λ m. DoesAsBefore bytes m.bytes.items) →
+          IfOk r (λ m. DoesAsBefore asked.scope.exact bytes m.bytes.items) →
           IfOk r (λ m. ChoosesTimes asked.scope bytes (seeded asked.seed) m.made.items m.bytes.items m.stopped) →
           IfOk r (λ m. IsRewrittenBy asked bytes m.made.items m.bytes.items)
       each (Ok m) a b c = record { count = count; count_is = counted; stopped = m.stopped; mutates = a; chosen = c; does_as_before = b }
@@ -65,27 +65,28 @@ uncounted asked bytes reason is reading = record { is = is; gives_up = λ size. 
 -- ---- once
 
 abbrev pub once_with : (seed : ℕ) → List Rule → (room : ℕ) → Asked
-once_with seed rules room = record { seed = seed; scope = record { rules = rules; function = None; most = room; shrinking = false }; dose = Times 1 }
+once_with seed rules room = record { seed = seed; scope = record { rules = rules; function = None; most = room; shrinking = false; exact = false }; dose = Times 1 }
 
 pub once_same : (seed : ℕ) (rules : List Rule) (room : ℕ) → rules ≡ every_rule → once_with seed rules room ≡ once seed room
 once_same seed rules room e = ap (λ r. once_with seed r room) e
 
 -- ---- by options
 
-abbrev pub asked_with : Options → List Rule → Option ℕ → (most : ℕ) → Dose → Asked
-asked_with options rules function most dose = record {
+abbrev pub asked_with : Options → List Rule → Option ℕ → (most : ℕ) → Dose → Bool → Asked
+asked_with options rules function most dose exact = record {
   seed = options.seed;
-  scope = record { rules = rules; function = function; most = most; shrinking = false };
+  scope = record { rules = rules; function = function; most = most; shrinking = false; exact = exact };
   dose = dose;
 }
 
-pub asked_same : (options : Options) (size room : ℕ) (rules : List Rule) (function : Option ℕ) (most : ℕ) (dose : Dose) → rules ≡ rules_of options →
-    function ≡ function_of options → most ≡ most_of options size room → dose ≡ dose_of options →
-    asked_with options rules function most dose ≡ asked_of options size room
-asked_same options size room rules function most dose a b c d =
-    ap (λ r. asked_with options r function most dose) a ∙ ap (λ f. asked_with options (rules_of options) f most dose) b
-    ∙ ap (λ m. asked_with options (rules_of options) (function_of options) m dose) c
-    ∙ ap (λ n. asked_with options (rules_of options) (function_of options) (most_of options size room) n) d
+pub asked_same : (options : Options) (size room : ℕ) (rules : List Rule) (function : Option ℕ) (most : ℕ) (dose : Dose) (exact : Bool) →
+    rules ≡ rules_of options → function ≡ function_of options → most ≡ most_of options size room → dose ≡ dose_of options →
+    exact ≡ exact_of options → asked_with options rules function most dose exact ≡ asked_of options size room
+asked_same options size room rules function most dose exact a b c d e =
+    ap (λ r. asked_with options r function most dose exact) a ∙ ap (λ f. asked_with options (rules_of options) f most dose exact) b
+    ∙ ap (λ m. asked_with options (rules_of options) (function_of options) m dose exact) c
+    ∙ ap (λ n. asked_with options (rules_of options) (function_of options) (most_of options size room) n exact) d
+    ∙ ap (λ x. asked_with options (rules_of options) (function_of options) (most_of options size room) (dose_of options) x) e
 
 pub fits_room : (options : Options) (size room : ℕ) (r : Result RewrittenModule Reason) →
     IfOk r (λ m. Fits (most_of options size room) m.made.items m.bytes.items) → IfOk r (λ m. Fits room m.made.items m.bytes.items)

@@ -28,7 +28,7 @@ none_at_all [] never = refl
 none_at_all (x ∷ xs) never = absurd (never (λ e. cc))
 
 module _ (options : Options) (report_size size room : ℕ) (large : OPTIONS_SIZE ≤ options.struct_size) (told : REPORT_SIZE ≤ report_size)
-    (inside : size ≤ room) where
+    (inside : size ≤ room) (known : options.flags ≤ 1) where
   pub bad_where : (b : Bool) → IsTrue b ↔ (rules_of options ≢ []) → IsTrue (not b) ↔ AreBad options report_size size room
   bad_where true some = ((λ never. absurd cc), (λ bad. absurd (not_bad bad)))
     where
@@ -36,8 +36,9 @@ module _ (options : Options) (report_size size room : ℕ) (large : OPTIONS_SIZE
       not_bad (inl (inl small)) = omega (arith, small, large)
       not_bad (inl (inr small)) = omega (arith, small, told)
       not_bad (inr (inl outside)) = omega (arith, outside, inside)
-      not_bad (inr (inr none)) = some.0 refl none
-  bad_where false some = ((λ yes. inr (inr (none_at_all (rules_of options) (λ more. absurd (never (some.1 more)))))), (λ bad. refl))
+      not_bad (inr (inr (inl other))) = omega (arith, other, known)
+      not_bad (inr (inr (inr none))) = some.0 refl none
+  bad_where false some = ((λ yes. inr (inr (inr (none_at_all (rules_of options) (λ more. absurd (never (some.1 more))))))), (λ bad. refl))
     where
       never : false ≡ true → ⊥
       never e = cc

@@ -39,9 +39,14 @@ rules_of options = filter (allows options) every_rule
 abbrev pub AreSmall : Options → (report_size : ℕ) → Type 0
 AreSmall options report_size = (options.struct_size < OPTIONS_SIZE) ⊎ (report_size < REPORT_SIZE)
 
--- so they are, or the size is above that of the buffer, or the options name no rule that there is
+-- so they are, or the size is above that of the buffer, or a flag is set that is none, or the options name no rule that there is
 abbrev pub AreBad : Options → (report_size size room : ℕ) → Type 0
-AreBad options report_size size room = AreSmall options report_size ⊎ ((room < size) ⊎ (rules_of options ≡ []))
+AreBad options report_size size room =
+    AreSmall options report_size ⊎ ((room < size) ⊎ ((1 < options.flags) ⊎ (rules_of options ≡ [])))
+
+-- what runs the module is exact: the lowest flag is set
+abbrev pub exact_of : Options → Bool
+exact_of options = eqb options.flags 1
 
 -- the only function that may be rewritten, if one is named
 abbrev pub function_of : Options → Option ℕ

@@ -2,7 +2,7 @@
 use Rattle.std.specs.Prelude.{◌≡◌, ◌≢◌, ◌↔◌, ℕ, ◌≤◌, List, [], ◌∷◌, ◌++◌, Some, false, length, take}
 use Rattle.rewrite_rules.specs.Names.{rule_of}
 use Rattle.module_rewrites.specs.declared.times.MadeRewrite.{MadeRewrite}
-use Rattle.teddertempo_c.specs.Options.{AreBad, rules_of, function_of, dose_of, most_of}
+use Rattle.teddertempo_c.specs.Options.{AreBad, rules_of, function_of, dose_of, most_of, exact_of}
 use Rattle.teddertempo_c.specs.Outcome.{outcome_number, IsOutcome}
 use Rattle.teddertempo_c.specs.Writes.{Asked, Fits, IsRewrittenBy, WritesFront}
 use Rattle.teddertempo_c.specs.declared.options.Options.{Options}
@@ -14,7 +14,7 @@ use Rattle.teddertempo_c.specs.declared.report.Report.{Report}
 abbrev pub asked_of : Options → (size room : ℕ) → Asked
 asked_of options size room = record {
   seed = options.seed;
-  scope = record { rules = rules_of options; function = function_of options; most = most_of options size room; shrinking = false };
+  scope = record { rules = rules_of options; function = function_of options; most = most_of options size room; shrinking = false; exact = exact_of options };
   dose = dose_of options;
 }
 

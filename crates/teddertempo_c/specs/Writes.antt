@@ -30,7 +30,7 @@ pub record IsRewrittenBy (asked : Asked) (bytes : List ℕ) (made : List MadeRew
   pub stopped : Option MutationError
   pub mutates : Mutates asked.scope count bytes made new stopped
   pub chosen : ChoosesTimes asked.scope bytes (seeded asked.seed) made new stopped
-  pub does_as_before : DoesAsBefore bytes new
+  pub does_as_before : DoesAsBefore asked.scope.exact bytes new
 
 -- Nothing of the module is rewritten, for this reason; for a size only where the seed chooses no rewrite that fits.
 pub record IsRefusedFor (asked : Asked) (bytes : List ℕ) (reason : Reason) : Type 0 where
@@ -48,7 +48,7 @@ pub record WritesFront (old : List ℕ) (result : ℕ) (new : List ℕ) : Type 0
 
 -- one rewrite, by any rule in any function, in so many bytes
 abbrev pub once : (seed room : ℕ) → Asked
-once seed room = record { seed = seed; scope = record { rules = every_rule; function = None; most = room; shrinking = false }; dose = Times 1 }
+once seed room = record { seed = seed; scope = record { rules = every_rule; function = None; most = room; shrinking = false; exact = false }; dose = Times 1 }
 
 -- The first `size` bytes were a module, and the first ones now, the result says how many, are that module rewritten once.
 pub record IsRewrittenOnce (seed size : ℕ) (old : List ℕ) (result : ℕ) (new : List ℕ) : Type 0 where

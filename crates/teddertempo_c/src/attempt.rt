@@ -6,7 +6,7 @@ ghost use Rattle.teddertempo_c.specs.Reports.{IsAttempt, IsRefusal, asked_of};
 ghost use Rattle.teddertempo_c.specs.Rules.{every_rule};
 ghost use Rattle.teddertempo_c.specs.Writes.{Fits, IsRefusedFor, IsRewrittenBy, once};
 
-use crate::options::{Options, are_bad, dose_of, function_of, most_of, rules_of};
+use crate::options::{Options, are_bad, dose_of, exact_of, function_of, most_of, rules_of};
 use crate::outcome::{Outcome, Refusal, refusal_by};
 use module_rewrites::{
     Dose, Reason, RewrittenModule, Scope, Unwatched, count_of_dose, rewrite_module,
@@ -60,6 +60,7 @@ pub fn rewritten_once(
         function: None,
         max_size: room,
         shrinking: false,
+        exact: false,
     };
     rewritten(alloc, bytes, seed, &scope, Dose::Times(1))
 }
@@ -93,6 +94,7 @@ fn rewritten_by(
         function: function_of(options),
         max_size: most_of(options, bytes.len(), room),
         shrinking: false,
+        exact: exact_of(options),
     };
     rewritten(alloc, bytes, options.seed, &scope, dose_of(options))
 }

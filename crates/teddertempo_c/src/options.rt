@@ -2,7 +2,7 @@
 ghost use Rattle.std.specs.Prelude.{◌≡◌, ◌≢◌, ◌↔◌, ◌<◌, [], IfOk, IsTrue};
 ghost use Rattle.std.specs.List.{filter};
 ghost use Rattle.module_rewrites.specs.Dose.{IsOneOrMore};
-ghost use Rattle.teddertempo_c.specs.Options.{AreBad, allows, allows_number, dose_of, function_of, has_bit, most_of, names_none, rules_of, word_of};
+ghost use Rattle.teddertempo_c.specs.Options.{AreBad, allows, allows_number, dose_of, exact_of, function_of, has_bit, most_of, names_none, rules_of, word_of};
 
 use crate::report::REPORT_SIZE;
 use crate::rules::every_rule;
@@ -30,12 +30,15 @@ pub struct Options {
     /// Where it isn't 0, as many rewrites are made as this percentage of the operators of the functions that may be rewritten and can be
     /// read, at least one, in place of `count`.
     pub percent: u64,
+    /// 1 where what runs the module does on floats, vectors and memories what the standard says, and no other thread writes its memories,
+    /// so that rules on these may rewrite; else 0. Other bits are of later versions.
+    pub flags: u64,
 }
 
 /// How many bytes they have.
-pub const OPTIONS_SIZE: u64 = 176;
+pub const OPTIONS_SIZE: u64 = 184;
 
-const _: () = prove!(size_of::<Options>() == 176);
+const _: () = prove!(size_of::<Options>() == 184);
 
 // Whether no bit is set.
 fn names_none(words: &[u64]) -> bool
@@ -103,14 +106,24 @@ fn allow_some(options: &Options) -> bool
 }
 
 /// Whether nothing can be done: the caller's options, or its report, which has `report_size` bytes, are smaller than this version's, the
-/// size is above that of the buffer, or the options name no rule that there is.
+/// size is above that of the buffer, a flag is none that there is, or the options name no such rule.
 pub fn are_bad(options: &Options, report_size: u64, size: usize, room: usize) -> bool
     ensures { IsTrue result ↔ AreBad options.now report_size size room }
 {
     if options.struct_size < OPTIONS_SIZE || report_size < REPORT_SIZE || size > room {
         return true;
     }
+    if options.flags > 1 {
+        return true;
+    }
     !allow_some(options)
+}
+
+/// Whether what runs the module is exact.
+pub fn exact_of(options: &Options) -> bool
+    ensures { result ≡ exact_of options.now }
+{
+    options.flags == 1
 }
 
 /// The only function that may be rewritten.

@@ -12,7 +12,7 @@ use Rattle.wasm_code.specs.Number.{SpellsUnsigned, FailsUnsigned}
 use Rattle.wasm_code.specs.Reader.{◌>>=◌}
 use Rattle.wasm_declarations.specs.declared.import.Import.TheVariants as imports
 use Rattle.wasm_declarations.specs.Types.{is_packed, SpellsStorageType, FailsStorageType, SpellsField, FailsField, SpellsSignature, FailsSignature, SpellsCompositeType, FailsCompositeType, is_sub, SpellsSubType, FailsSubType, SpellsTypeGroup, FailsTypeGroup}
-use Rattle.wasm_declarations.specs.Tables.{flag_code, bounds, SpellsLimits, FailsLimits, SpellsMemoryType, FailsMemoryType, SpellsTableType, FailsTableType}
+use Rattle.wasm_declarations.specs.Tables.{flag_code, bounds, is_shared, SpellsLimits, FailsLimits, SpellsMemoryType, FailsMemoryType, SpellsTableType, FailsTableType}
 use Rattle.wasm_declarations.specs.Globals.{SpellsGlobalType, FailsGlobalType}
 use Rattle.wasm_declarations.specs.Imports.{SpellsName, FailsName, SpellsExternal, FailsExternal, SpellsImport, FailsImport}
 use Rattle.wasm_declarations.specs.Locals.{SpellsGroup, FailsGroup}
@@ -99,15 +99,15 @@ flag_exact = exact_code flag_code flag_of named coded
 
 limits_exact : Exact SpellsLimits FailsLimits limits_at
 unfolding limits_at
-limits_exact = exact_then flag_exact (λ flag. exact_of (λ _. flag.0) (exact_times (unsigned_exact 64) (bounds flag)))
+limits_exact = exact_then flag_exact (λ flag. exact_of (λ _. (flag.0, is_shared flag.1)) (exact_times (unsigned_exact 64) (bounds flag)))
 
 pub memory_type_exact : Exact SpellsMemoryType FailsMemoryType memory_type_at
 unfolding memory_type_at
-memory_type_exact = exact_of (λ wide. record { memory64 = wide }) limits_exact
+memory_type_exact = exact_of (λ limits. record { memory64 = limits.0; shared = limits.1 }) limits_exact
 
 pub table_type_exact : Exact SpellsTableType FailsTableType table_type_at
 unfolding table_type_at
-table_type_exact = exact_then reference_type_exact (λ _. exact_of (λ wide. record { element_type = elements.Other; table64 = wide }) limits_exact)
+table_type_exact = exact_then reference_type_exact (λ _. exact_of (λ limits. record { element_type = elements.Other; table64 = limits.0 }) limits_exact)
 
 -- ---- globals and imports
 

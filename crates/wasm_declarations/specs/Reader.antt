@@ -23,7 +23,7 @@ use Rattle.wasm_declarations.specs.Known.{IsUnknown}
 use Rattle.wasm_declarations.specs.List.{fault_of}
 use Rattle.wasm_declarations.specs.Locals.{types_of, locals_in, AreFew}
 use Rattle.wasm_declarations.specs.Types.{is_packed, is_sub}
-use Rattle.wasm_declarations.specs.Tables.{bounds}
+use Rattle.wasm_declarations.specs.Tables.{bounds, is_shared}
 use Rattle.wasm_declarations.specs.ValueReader.{mark_at, reference_type_at, primitive_at, mutable_at, initialiser_at}
 
 -- what a call answered, seen by view, is what reading gives, unless memory ran out
@@ -185,18 +185,19 @@ flag_of b =
 unfoldable pub flag_at : List ℕ → Result ((Bool × Option Bool) × List ℕ) Cause
 flag_at bytes = byte_at bytes >>= λ b. named_at (flag_of b.0) b.1
 
--- limits: whether 64 bits index
-unfoldable pub limits_at : List ℕ → Result (Bool × List ℕ) Cause
-limits_at bytes = flag_at bytes >>= λ flag. times_at (bounds flag.0) (unsigned_at 64) flag.1 >>= λ x. Ok (flag.0.0, x.1)
+-- limits: whether 64 bits index, and whether what has them is shared
+unfoldable pub limits_at : List ℕ → Result ((Bool × Bool) × List ℕ) Cause
+limits_at bytes =
+    flag_at bytes >>= λ flag. times_at (bounds flag.0) (unsigned_at 64) flag.1 >>= λ x. Ok ((flag.0.0, is_shared flag.0.1), x.1)
 
 -- a memory type
 unfoldable pub memory_type_at : List ℕ → Result (MemoryType × List ℕ) Cause
-memory_type_at bytes = limits_at bytes >>= λ wide. Ok (record { memory64 = wide.0 }, wide.1)
+memory_type_at bytes = limits_at bytes >>= λ limits. Ok (record { memory64 = limits.0.0; shared = limits.0.1 }, limits.1)
 
 -- a table type
 unfoldable pub table_type_at : List ℕ → Result (TableType × List ℕ) Cause
-table_type_at bytes = reference_type_at bytes >>= λ element. limits_at element.1 >>= λ wide.
-    Ok (record { element_type = elements.Other; table64 = wide.0 }, wide.1)
+table_type_at bytes = reference_type_at bytes >>= λ element. limits_at element.1 >>= λ limits.
+    Ok (record { element_type = elements.Other; table64 = limits.0.0 }, limits.1)
 
 -- a table, with an initialiser where the first byte is 40
 unfoldable pub table_at : List ℕ → Result (TableType × List ℕ) Cause

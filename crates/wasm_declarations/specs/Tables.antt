@@ -25,9 +25,14 @@ flag_code flag = (if flag.0 then 4 else 0) + maximum_code flag.1
 abbrev pub bounds : Bool × Option Bool → ℕ
 bounds flag = if is_some flag.1 then 2 else 1
 
--- A flag, the minimum, and the maximum where the flag says so; kept is whether 64 bits index.
-abbrev pub SpellsLimits : List ℕ → Bool → Type 0
-SpellsLimits = Then (IsCode flag_code) (λ flag. Of (λ _. flag.0) (Times (bounds flag) (SpellsUnsigned 64)))
+-- what has limits of that maximum is shared
+abbrev pub is_shared : Option Bool → Bool
+is_shared None = false
+is_shared (Some shared) = shared
+
+-- A flag, the minimum, and the maximum where the flag says so; kept are whether 64 bits index, and whether what has these limits is shared.
+abbrev pub SpellsLimits : List ℕ → Bool × Bool → Type 0
+SpellsLimits = Then (IsCode flag_code) (λ flag. Of (λ _. (flag.0, is_shared flag.1)) (Times (bounds flag) (SpellsUnsigned 64)))
 
 -- No flag begins the bytes, or fewer numbers follow it than it says.
 abbrev pub FailsLimits : List ℕ → Cause → Type 0
@@ -35,7 +40,7 @@ FailsLimits = FailsThen (FailsCode flag_code) (IsCode flag_code) (λ flag. Fails
 
 -- The limits.
 abbrev pub SpellsMemoryType : List ℕ → MemoryType → Type 0
-SpellsMemoryType = Of (λ wide. record { memory64 = wide }) SpellsLimits
+SpellsMemoryType = Of (λ limits. record { memory64 = limits.0; shared = limits.1 }) SpellsLimits
 
 -- The limits fail.
 abbrev pub FailsMemoryType : List ℕ → Cause → Type 0
@@ -45,7 +50,7 @@ FailsMemoryType = FailsLimits
 
 -- A reference type, and the limits.
 abbrev pub SpellsTableType : List ℕ → TableType → Type 0
-SpellsTableType = Then SpellsReferenceType (λ _. Of (λ wide. record { element_type = Other; table64 = wide }) SpellsLimits)
+SpellsTableType = Then SpellsReferenceType (λ _. Of (λ limits. record { element_type = Other; table64 = limits.0 }) SpellsLimits)
 
 -- No reference type begins the bytes, or no limits follow it.
 abbrev pub FailsTableType : List ℕ → Cause → Type 0

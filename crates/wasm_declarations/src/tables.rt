@@ -39,18 +39,18 @@ fn flag_from(bytes: &[u8]) -> Result<((bool, Option<bool>), &[u8]), Cause>
     }
 }
 
-/// Whether 64 bits index, as limits say, and what follows them.
+/// Whether 64 bits index and whether what has the limits is shared, as they say, and what follows them.
 #[tactic(auto, unfolding(crate::specs::Reader::limits_at, wasm_code::specs::Reader::times_at))]
-fn limits_from(bytes: &[u8]) -> Result<(bool, &[u8]), Cause>
+fn limits_from(bytes: &[u8]) -> Result<((bool, bool), &[u8]), Cause>
     ensures { Gives (λ x. (x.0, x.1.now)) result (limits_at bytes.now) }
 {
     let ((wide, maximum), rest) = flag_from(bytes)?;
     let (_minimum, rest) = u64_of(rest)?;
-    if maximum.is_none() {
-        return Ok((wide, rest));
-    }
+    let Some(shared) = maximum else {
+        return Ok(((wide, false), rest));
+    };
     let (_maximum, rest) = u64_of(rest)?;
-    Ok((wide, rest))
+    Ok(((wide, shared), rest))
 }
 
 /// A table type, and what follows it.
@@ -59,7 +59,7 @@ pub fn table_type_from(bytes: &[u8]) -> Result<(TableType, &[u8]), Cause>
     ensures { Gives (λ x. (x.0, x.1.now)) result (table_type_at bytes.now) }
 {
     let rest = past_reference_type(bytes)?;
-    let (table64, rest) = limits_from(rest)?;
+    let ((table64, _shared), rest) = limits_from(rest)?;
     Ok((
         TableType {
             element_type: ElementType::Other,
@@ -93,8 +93,8 @@ fn table_from(bytes: &[u8]) -> Result<(TableType, &[u8]), Cause>
 pub fn memory_type_from(bytes: &[u8]) -> Result<(MemoryType, &[u8]), Cause>
     ensures { Gives (λ x. (x.0, x.1.now)) result (memory_type_at bytes.now) }
 {
-    let (memory64, rest) = limits_from(bytes)?;
-    Ok((MemoryType { memory64 }, rest))
+    let ((memory64, shared), rest) = limits_from(bytes)?;
+    Ok((MemoryType { memory64, shared }, rest))
 }
 
 /// The tables that a table section lists (WebAssembly Core Specification 3.0, Binary Format, Modules, Table Section).
@@ -124,7 +124,7 @@ impl Item for Tables {
 
 /// The memories that a memory section lists (WebAssembly Core Specification 3.0, Binary Format, Modules, Memory Section).
 ///
-/// Each is a memory type, shared ones of the threads proposal among them. The limits aren't kept. Memories of other limits are of an
+/// Each is a memory type, shared ones of the threads proposal among them, which it tells. The bounds aren't kept. Memories of other limits are of an
 /// unknown form.
 pub struct Memories;
 

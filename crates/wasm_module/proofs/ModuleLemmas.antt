@@ -1,5 +1,5 @@
 -- A module from what its sections list.
-use Rattle.std.proofs.Common.{◌≡◌, ℕ, false, List, length, Option, refl, sym, ap, subst, ◌∙◌, true}
+use Rattle.std.proofs.Common.{◌≡◌, ℕ, Bool, false, List, length, Option, refl, sym, ap, subst, ◌∙◌, true}
 use Rattle.wasm_types.specs.Module.{Module}
 use Rattle.wasm_types.specs.declared.types.PrimitiveTypeInfo.{PrimitiveTypeInfo}
 use Rattle.wasm_types.specs.declared.types.TypeInfo.{TypeInfo}
@@ -28,7 +28,7 @@ abbrev pub layout_of : List Section → ℕ → ℕ → List Entry → Unknown �
 layout_of sections imported own entries unknown =
     record { sections = sections; imported_functions = imported; own_globals = own; entries = entries; unknown = unknown }
 
-pub module_is : (bytes : List ℕ) (sections : List Section) (l : Listed) (types : List TypeInfo) (functions : List ℕ) (tables : List TableType)
+pub module_is : (exact : Bool) (bytes : List ℕ) (sections : List Section) (l : Listed) (types : List TypeInfo) (functions : List ℕ) (tables : List TableType)
     (memories : List MemoryType) (globals : List PrimitiveTypeInfo) (imported own : ℕ) (entries : List Entry) (unknown : Unknown)
     → SpellsModule bytes sections → AreListed bytes sections l → length l.entries ≡ length l.functions → types ≡ types_in l.types.items
     → functions ≡ space (functions_of l.imports.items) l.imports.unknown l.functions
@@ -36,8 +36,8 @@ pub module_is : (bytes : List ℕ) (sections : List Section) (l : Listed) (types
     → memories ≡ space (memories_of l.imports.items) l.imports.unknown l.memories.items
     → globals ≡ space (globals_of l.imports.items) l.imports.unknown l.globals.items → imported ≡ length (functions_of l.imports.items)
     → own ≡ l.globals.count → entries ≡ l.entries → unknown ≡ unknown_in l
-    → IsModule bytes (info_of bytes types functions tables memories globals) (layout_of sections imported own entries unknown)
-module_is bytes sections l types functions tables memories globals imported own entries unknown spells listed count y f t m g i o e u = record {
+    → IsModule bytes (record (info_of bytes types functions tables memories globals) { exact = exact }) (layout_of sections imported own entries unknown)
+module_is exact bytes sections l types functions tables memories globals imported own entries unknown spells listed count y f t m g i o e u = record {
   spells = spells;
   input = refl;
   types = l.types;
@@ -58,7 +58,6 @@ module_is bytes sections l types functions tables memories globals imported own 
   all_tables = t;
   all_memories = m;
   all_globals = g;
-  not_exact = refl;
   one_reference = refl;
   imported = i;
   own = o;

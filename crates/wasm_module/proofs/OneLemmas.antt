@@ -46,17 +46,20 @@ one_listing none Spells one bytes ss zs id x y e p q =
       | inr a ↦ a.1 ∙ sym (lists_nothing none Spells bytes ss id y same a.0)
     ]
 
-one_info : (i j : Module) → i.input ≡ j.input → i.globals ≡ j.globals → i.types ≡ j.types → i.functions ≡ j.functions → i.tables ≡ j.tables →
-    i.memories ≡ j.memories → i.exact ≡ false → j.exact ≡ false → i.one_reference ≡ true → j.one_reference ≡ true → i ≡ j
-one_info i j a b c d e f g h p q =
-    ap₂ (λ (x y : Bool). record i { exact = x; one_reference = y }) g p
+one_unmarked : (i j : Module) → i.input ≡ j.input → i.globals ≡ j.globals → i.types ≡ j.types → i.functions ≡ j.functions → i.tables ≡ j.tables →
+    i.memories ≡ j.memories → i.one_reference ≡ true → j.one_reference ≡ true → record i { exact = false } ≡ record j { exact = false }
+one_unmarked i j a b c d e f p q =
+    ap (λ (y : Bool). record i { exact = false; one_reference = y }) p
     ∙ ap (λ (x : List ℕ). info_of x i.types i.functions i.tables i.memories i.globals) a
     ∙ ap (λ (x : List PrimitiveTypeInfo). info_of j.input i.types i.functions i.tables i.memories x) b
     ∙ ap (λ (x : List TypeInfo). info_of j.input x i.functions i.tables i.memories j.globals) c
     ∙ ap (λ (x : List ℕ). info_of j.input j.types x i.tables i.memories j.globals) d
     ∙ ap (λ (x : List TableType). info_of j.input j.types j.functions x i.memories j.globals) e
     ∙ ap (λ (x : List MemoryType). info_of j.input j.types j.functions j.tables x j.globals) f
-    ∙ ap₂ (λ (x y : Bool). record j { exact = x; one_reference = y }) (sym h) (sym q)
+    ∙ ap (λ (y : Bool). record j { exact = false; one_reference = y }) (sym q)
+
+one_info : (i j : Module) → record i { exact = false } ≡ record j { exact = false } → i.exact ≡ j.exact → i ≡ j
+one_info i j e mark = ap (λ (m : Module). record m { exact = i.exact }) e ∙ ap (λ (x : Bool). record j { exact = x }) mark
 
 one_unknown : (u v : Unknown) → u.types ≡ v.types → u.imports ≡ v.imports → u.tables ≡ v.tables → u.memories ≡ v.memories → u.globals ≡ v.globals →
     u ≡ v
@@ -89,8 +92,8 @@ items_of : {A : Type 0} (k j : Known A) → k ≡ j → k.items ≡ j.items
 items_of {A} k j same = ap (λ (x : Known A). x.items) same
 
 pub one_module : (bytes : List ℕ) (i j : Module) (k l : Layout) → AreOne → k.sections ≡ l.sections → IsModule bytes i k → IsModule bytes j l →
-    (i ≡ j) × (k ≡ l)
-one_module bytes i j k l one same m n =
+    i.exact ≡ j.exact → (i ≡ j) × (k ≡ l)
+one_module bytes i j k l one same m n mark =
     let types = one_listing nothing (SpellsKnown SpellsTypeGroup FailsTypeGroup) one.types bytes k.sections l.sections
     ids.Type m.types n.types same m.types_are n.types_are in
     let imports = one_listing nothing (SpellsKnown SpellsImport FailsImport) one.imports bytes k.sections l.sections
@@ -105,7 +108,7 @@ one_module bytes i j k l one same m n =
     ids.Global m.globals n.globals same m.globals_are n.globals_are in
     let entries = one_listing [] SpellsEntries one.entries bytes k.sections l.sections
     ids.Code k.entries l.entries same m.entries_are n.entries_are in (
-      one_info i j (m.input ∙ sym n.input)
+      one_info i j (one_unmarked i j (m.input ∙ sym n.input)
           (joined globals_of m.imports n.imports m.globals.items n.globals.items i.globals j.globals m.all_globals n.all_globals imports
           (items_of m.globals n.globals globals))
           (m.all_types ∙ ap types_in (items_of m.types n.types types) ∙ sym n.all_types)
@@ -114,7 +117,7 @@ one_module bytes i j k l one same m n =
           (items_of m.tables n.tables tables))
           (joined memories_of m.imports n.imports m.memories.items n.memories.items i.memories j.memories m.all_memories n.all_memories imports
           (items_of m.memories n.memories memories))
-          m.not_exact n.not_exact m.one_reference n.one_reference,
+          m.one_reference n.one_reference) mark,
       one_layout k l same (m.imported ∙ ap (λ (x : Known Import). length (functions_of x.items)) imports ∙ sym n.imported)
           (m.own ∙ ap (λ (x : Known PrimitiveTypeInfo). x.count) globals ∙ sym n.own) entries
           (one_unknown k.unknown l.unknown (without m.types n.types k.unknown.types l.unknown.types m.unknown_types n.unknown_types types)

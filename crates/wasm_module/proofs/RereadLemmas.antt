@@ -166,7 +166,6 @@ reread bytes info layout n contents more new short m r imports globals some =
         all_memories = m.all_memories;
         all_globals = wider_space info.globals (globals_of m.imports.items) m.globals.items (map (merged true) more) m.imports.unknown
             (sym m.unknown_imports ∙ imports) m.all_globals;
-        not_exact = m.not_exact;
         one_reference = m.one_reference;
         imported = m.imported;
         own = ap (λ (j : ℕ). j + length more) m.own;

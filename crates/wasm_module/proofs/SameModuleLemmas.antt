@@ -228,7 +228,6 @@ same_module bytes info layout new within m w stay =
             m.all_memories;
         all_globals = space_alike info.globals (globals_of m.imports.items) m.globals.items m.imports.unknown imports.error imports.alike
             m.all_globals;
-        not_exact = m.not_exact;
         one_reference = m.one_reference;
         imported = m.imported;
         own = m.own;

@@ -1,6 +1,6 @@
 -- What a module says of itself, as far as its functions' bodies need it
 -- (WebAssembly Core Specification 3.0, Binary Format, Modules; Structure, Modules, Indices).
-use Rattle.std.specs.Prelude.{◌≡◌, ◌⊎◌, ℕ, false, List, [], ◌∷◌, ◌++◌, length, Option, Some, None, slice_range, true}
+use Rattle.std.specs.Prelude.{◌≡◌, ◌⊎◌, ℕ, List, [], ◌∷◌, ◌++◌, length, Option, Some, None, slice_range, true}
 use Rattle.wasm_code.specs.declared.fault.Cause.{Cause}
 use Rattle.wasm_code.specs.Number.{SpellsUnsigned}
 use Rattle.wasm_types.specs.Module.{Module}
@@ -95,7 +95,7 @@ space imported None own = imported ++ own
 space imported (Some e) own = imported
 
 -- The bytes are a module of which this is known: in each index space what is imported comes first, and then what the module's own sections list, as far as
--- the forms of these items are known; there are as many code entries as functions of its own. Bytes don't say that what runs them is exact.
+-- the forms of these items are known; there are as many code entries as functions of its own. Whether what runs it is exact no bytes tell: that may be either.
 pub record IsModule (bytes : List ℕ) (info : Module) (layout : Layout) : Type 0 where
   pub spells : SpellsModule bytes layout.sections
   pub input : info.input ≡ bytes
@@ -117,7 +117,6 @@ pub record IsModule (bytes : List ℕ) (info : Module) (layout : Layout) : Type 
   pub all_tables : info.tables ≡ space (tables_of imports.items) imports.unknown tables.items
   pub all_memories : info.memories ≡ space (memories_of imports.items) imports.unknown memories.items
   pub all_globals : info.globals ≡ space (globals_of imports.items) imports.unknown globals.items
-  pub not_exact : info.exact ≡ false
   pub one_reference : info.one_reference ≡ true
   pub imported : layout.imported_functions ≡ length (functions_of imports.items)
   pub own : layout.own_globals ≡ globals.count

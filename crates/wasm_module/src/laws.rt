@@ -80,10 +80,11 @@ pub fn one_rewritten_module()
     one_place();
 }
 
-/// Bytes are one module at most: what is known of it, and where things stand in it, follow from them.
+/// Bytes are one module at most: what is known of it, and where things stand in it, follow from them, but not whether what runs it is
+/// exact.
 pub fn one_reading()
     ensures { (bytes : List ℕ) (info other : Module) (layout place : Layout)
-        → IsModule bytes info layout → IsModule bytes other place
+        → IsModule bytes info layout → IsModule bytes other place → info.exact ≡ other.exact
         → (info ≡ other) × (layout ≡ place) }
 {
     one_module();

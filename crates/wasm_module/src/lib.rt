@@ -19,7 +19,7 @@ mod unknown;
 mod writing;
 
 pub use layout::{Layout, Module};
-pub use module::read_module;
+pub use module::{read_marked, read_module};
 pub use moved::read_again;
 pub use refusal::WriteError;
 pub use unknown::Unknown;

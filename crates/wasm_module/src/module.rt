@@ -1,5 +1,5 @@
 //! What a module declares, and where its functions' bodies stand.
-ghost use Rattle.std.specs.Prelude.{◌≡◌, length, IfOk, IfErr, IsOk, OnOk, MatchResult};
+ghost use Rattle.std.specs.Prelude.{◌≡◌, false, length, IfOk, IfErr, IsOk, OnOk, MatchResult};
 ghost use Rattle.wasm_sections.specs.Section.{SpellsModule};
 ghost use Rattle.wasm_module.specs.Module.{Layout as Place, IsModule};
 ghost use Rattle.wasm_types.specs.Module.{Module as Info};
@@ -55,11 +55,13 @@ fn module_of<'a>(
     bytes: &'a [u8],
     sections: Vec<Section>,
     listed: Listed,
+    exact: bool,
 ) -> Result<Module<'a>, AllocError>
     requires spells { SpellsModule bytes.now sections.items }
     requires listed { AreListed bytes.now sections.items listed }
     requires count { length listed.entries ≡ length listed.functions }
-    ensures { IfOk result (λ m. IsModule bytes.now m.info m.layout) }
+    ensures is { IfOk result (λ m. IsModule bytes.now m.info m.layout) }
+    ensures marked { IfOk result (λ m. m.info.exact ≡ exact) }
 {
     let (function_map, imported_functions) = function_space(alloc, &listed)?;
     let table_types = table_space(alloc, &listed)?;
@@ -76,7 +78,7 @@ fn module_of<'a>(
             function_map,
             table_types,
             memory_types,
-            exact: false,
+            exact,
             one_reference: true,
         },
         layout: Layout {
@@ -103,24 +105,44 @@ fn module_of<'a>(
 /// A group of types, an import, a table, a memory or a global of a form that isn't known here is no error: what its section lists from
 /// there on isn't known, and the layout's `unknown` says so.
 ///
+/// Bytes don't say whether what runs the module is exact: `exact` is false, and `read_marked` sets it.
+///
 /// An error names a fault that is there: as `read_sections` refuses the bytes; as `wasm_declarations` refuses one of those lists; or
 /// `CodeCount` where the numbers differ, at the start of the code section, or at the end of the bytes where there is none. `Memory`
 /// where no memory was left.
 pub fn read_module<'a>(alloc: Global, bytes: &'a [u8]) -> Result<Module<'a>, ModuleError>
     // What is read is declared so.
     ensures read { IfOk result (λ m. IsModule bytes.now m.info m.layout) }
+    // It isn't said that what runs it is exact.
+    ensures unmarked { IfOk result (λ m. m.info.exact ≡ false) }
     // What is declared so is read, unless memory runs out.
     ensures only { (info : Info) (layout : Place) → IsModule bytes.now info layout
-        → MatchResult result (λ m. (m.info ≡ info) × (m.layout ≡ layout))
+        → info.exact ≡ false → MatchResult result (λ m. (m.info ≡ info) × (m.layout ≡ layout))
         (λ e. e.kind ≡ Memory) }
     // What doesn't come from memory is a fault of the bytes.
+    ensures fault { IfErr result (λ e. IsModuleFault bytes.now e.kind e.offset) }
+{
+    read_marked(alloc, bytes, false)
+}
+
+/// Reads a module as `read_module` does, what runs which is exact or not, as the mark says.
+pub fn read_marked<'a>(
+    alloc: Global,
+    bytes: &'a [u8],
+    exact: bool,
+) -> Result<Module<'a>, ModuleError>
+    ensures read { IfOk result (λ m. IsModule bytes.now m.info m.layout) }
+    ensures marked { IfOk result (λ m. m.info.exact ≡ exact) }
+    ensures only { (info : Info) (layout : Place) → IsModule bytes.now info layout
+        → info.exact ≡ exact → MatchResult result (λ m. (m.info ≡ info) × (m.layout ≡ layout))
+        (λ e. e.kind ≡ Memory) }
     ensures fault { IfErr result (λ e. IsModuleFault bytes.now e.kind e.offset) }
 {
     one_reading();
     let sections = read_sections(alloc, bytes)?;
     let listed = read_lists(alloc, bytes, &sections)?;
     check_count(bytes, &sections, &listed)?;
-    match module_of(alloc, bytes, sections, listed) {
+    match module_of(alloc, bytes, sections, listed, exact) {
         Ok(module) => Ok(module),
         Err(_) => Err(ModuleError {
             kind: ModuleFault::Memory,

@@ -16,7 +16,7 @@ use crate::contents::contents_with;
 use crate::front::past_count;
 use crate::laws::{entries_are_inside, rewritten_bytes_are_a_module};
 use crate::layout::{Layout, Module};
-use crate::module::read_module;
+use crate::module::read_marked;
 use crate::writing::code_place;
 use std::alloc::Global;
 use wasm_code::laws::shortest_is_a_spelling;
@@ -167,7 +167,8 @@ impl<'a> Module<'a> {
 
 /// Reads the module that `with_body` wrote with another body as the n-th entry of a module's code: what was read of that one, whatever
 /// its bytes, is moved along, in time linear in the number of entries, and without memory but for the sections. Where globals were
-/// appended, all is read, as `read_module` does. `Memory` where no memory was left.
+/// appended, all is read, as `read_marked` does. What runs it is exact where that is said of the old one. `Memory` where no memory was
+/// left.
 pub fn read_again<'a>(
     alloc: Global,
     bytes: &'a [u8],
@@ -176,12 +177,13 @@ pub fn read_again<'a>(
 ) -> Result<Module<'a>, ModuleError>
     requires { WasRewritten old.info old.layout n bytes.now }
     ensures read { IfOk result (λ m. IsModule bytes.now m.info m.layout) }
+    ensures marked { IfOk result (λ m. m.info.exact ≡ old.entry.info.exact) }
     ensures memory { IfErr result (λ e. e.kind ≡ Memory) }
 {
     rewritten_bytes_are_a_module();
     let sections = read_sections(alloc, bytes)?;
     if own_globals(bytes, &sections) != old.layout.own_globals {
-        return read_module(alloc, bytes);
+        return read_marked(alloc, bytes, old.info.exact);
     }
     Ok(Module {
         info: with_bytes(old.info, bytes),

@@ -71,10 +71,11 @@ pub struct TableType {
     pub table64: bool,
 }
 
-/// What is known of a memory: whether 64 bits index it.
+/// What is known of a memory: whether 64 bits index it, and whether threads share it.
 #[derive(Clone, Copy, Debug, PartialEq, Eq)]
 pub struct MemoryType {
     pub memory64: bool,
+    pub shared: bool,
 }
 
 /// A function's type: what it takes, and what it returns. A contract sees the two lists.

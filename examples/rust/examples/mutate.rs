@@ -1,7 +1,7 @@
 //! Rewrites a module and says what was done, or why nothing was, as `examples/c/mutate.c` does:
 //!
 //! ```text
-//! mutate [--seed N] [--count N] [--percent N] [--function N] [--growth N] [--rule NAME].. MODULE NEW
+//! mutate [--exact] [--seed N] [--count N] [--percent N] [--function N] [--growth N] [--rule NAME].. MODULE NEW
 //! ```
 //!
 //! The status is 2 where the library writes no module, and 1 where the options can't be read, or a file can't be read or written.
@@ -31,6 +31,10 @@ fn read_arguments(mut words: &[String]) -> Option<(Options, &str, &str)> {
     let mut options = Options::new();
     loop {
         match words {
+            [name, rest @ ..] if name == "--exact" => {
+                options = options.exact();
+                words = rest;
+            }
             [old, new] => return Some((options, old, new)),
             [name, value, rest @ ..] => {
                 options = with_option(options, name, value)?;
@@ -68,7 +72,7 @@ fn main() -> ExitCode {
     let words: Vec<String> = env::args().skip(1).collect();
     let Some((options, old, new)) = read_arguments(&words) else {
         eprintln!(
-            "usage: mutate [--seed N] [--count N] [--percent N] [--function N] [--growth N] [--rule NAME].. MODULE NEW"
+            "usage: mutate [--exact] [--seed N] [--count N] [--percent N] [--function N] [--growth N] [--rule NAME].. MODULE NEW"
         );
         return ExitCode::from(1);
     };

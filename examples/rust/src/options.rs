@@ -19,6 +19,7 @@ pub struct Options {
     max_growth: Option<u64>,
     // 0 where the count holds.
     percent: u64,
+    exact: bool,
 }
 
 impl Default for Options {
@@ -30,6 +31,7 @@ impl Default for Options {
             count: 1,
             max_growth: None,
             percent: 0,
+            exact: false,
         }
     }
 }
@@ -112,6 +114,14 @@ impl Options {
         self
     }
 
+    /// Rules on floats, vectors and memories too: the new module does as before in every engine that does on these what the standard says.
+    /// No other thread writes the module's memories.
+    #[must_use]
+    pub fn exact(mut self) -> Options {
+        self.exact = true;
+        self
+    }
+
     /// As the library reads them; none where no rule is left, which the library takes for all of them.
     pub(crate) fn raw(&self) -> Option<raw::Options> {
         if self.rules == Some(Rules::default()) {
@@ -125,6 +135,7 @@ impl Options {
             count: self.count,
             max_growth: self.max_growth.unwrap_or(raw::ANY),
             percent: self.percent,
+            flags: u64::from(self.exact),
         })
     }
 }

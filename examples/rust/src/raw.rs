@@ -14,6 +14,7 @@ pub struct Options {
     pub count: u64,
     pub max_growth: u64,
     pub percent: u64,
+    pub flags: u64,
 }
 
 #[repr(C)]
@@ -26,7 +27,7 @@ pub struct Report {
     pub offset: u64,
 }
 
-const _: () = assert!(size_of::<Options>() == 176 && size_of::<Report>() == 40);
+const _: () = assert!(size_of::<Options>() == 184 && size_of::<Report>() == 40);
 
 impl Report {
     /// One to be written.
@@ -88,6 +89,7 @@ mod tests {
                 count: 1,
                 max_growth: ANY,
                 percent: 0,
+                flags: 0,
             },
             more: [u64::MAX; 4],
         };

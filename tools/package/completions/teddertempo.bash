@@ -17,8 +17,8 @@ _teddertempo()
         -o | --output) mapfile -t COMPREPLY < <(compgen -f -- "$word") ;;
         *)
             if [[ $word == -* ]]; then
-                _teddertempo_words "--blocks --count --function --help --json --list --list-rules --max-size --not-rule --output --quiet
-                    --reach --rule --seed --show --shrink --stats --strip-debug --version"
+                _teddertempo_words "--blocks --count --exact --function --help --json --list --list-rules --max-size --not-rule --output
+                    --quiet --reach --rule --seed --show --shrink --stats --strip-debug --version"
             else
                 _teddertempo_modules "$word"
             fi

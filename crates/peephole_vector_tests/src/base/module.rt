@@ -30,7 +30,10 @@ fn modules(rt: HostRuntime) -> Result<(), Fail> {
         element_type: ElementType::Extern,
         table64: true,
     })?;
-    info.memory_types.push(MemoryType { memory64: true })?;
+    info.memory_types.push(MemoryType {
+        memory64: true,
+        shared: false,
+    })?;
 
     let copy = info.clone()?;
     assert!(rt; copy.get_global_count() == 1);

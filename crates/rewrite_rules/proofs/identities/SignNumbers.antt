@@ -21,13 +21,13 @@ use Rattle.rewrite_rules.proofs.identities.WidthLemmas.{low_lt}
 pub turned_twice : (n m : ℕ) → bit_xor (bit_xor n m) m ≡ n
 turned_twice n m = xor_assoc n m m ∙ (ap (bit_xor n) (xor_self m) ∙ xor_zero_r n)
 
-turned_on : (j n : ℕ) → n < 2 ^ j → bit_xor n (2 ^ j) ≡ n + 2 ^ j
+pub turned_on : (j n : ℕ) → n < 2 ^ j → bit_xor n (2 ^ j) ≡ n + 2 ^ j
 turned_on j n l =
     let once : 2 ^ j ≡ 1 * 2 ^ j = omega arith in
     let same : 1 * 2 ^ j + n ≡ n + 2 ^ j = omega arith in
     xor_comm n (2 ^ j) ∙ (ap (λ m. bit_xor m n) once ∙ (xor_shifted 1 j n l ∙ same))
 
-turned_off : (j n : ℕ) → 2 ^ j ≤ n → n < 2 ^ j + 2 ^ j → bit_xor n (2 ^ j) ≡ n - 2 ^ j
+pub turned_off : (j n : ℕ) → 2 ^ j ≤ n → n < 2 ^ j + 2 ^ j → bit_xor n (2 ^ j) ≡ n - 2 ^ j
 turned_off j n l h =
     let rest : n - 2 ^ j < 2 ^ j = omega arith in
     let whole : n ≡ n - 2 ^ j + 2 ^ j = omega arith in

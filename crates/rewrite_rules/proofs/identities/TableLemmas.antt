@@ -1,8 +1,11 @@
 -- Every row of the table has lines that are well formed, and right.
 use Rattle.std.proofs.Common.{◌≡◌, ℕ, zero, suc, Some, subst, ◌%◌, ◌^◌, true, Bool, List, [], ◌∷◌, refl, sym, ap}
-use Rattle.std.specs.Prelude.{◌&&◌, not, map, slice_get, ⊤}
+use Rattle.std.specs.Prelude.{◌&&◌, not, map, slice_get, take, drop}
 use Rattle.std.specs.Int.{w32, w64, cast_unsigned}
 use Rattle.std.proofs.lemmas.Bool.{and_parts}
+use Rattle.wasm_code.specs.Table.{table, row_at}
+use Rattle.peephole_machine.specs.ExactRow.{exact_row}
+use Rattle.peephole_machine.specs.IntegerRow.{integer_row}
 use Rattle.peephole_machine.specs.declared.integer.IntegerType.{IntegerType}
 use Rattle.peephole_machine.specs.declared.integer.IntegerType.TheVariants as integer
 use Rattle.peephole_machine.specs.declared.operation.Binary.{Binary}
@@ -15,10 +18,15 @@ use Rattle.rewrite_rules.specs.declared.pattern.Number.TheVariants.{Literal, One
 use Rattle.rewrite_rules.specs.declared.table.Widths.{Widths}
 use Rattle.rewrite_rules.specs.declared.table.Widths.TheVariants.{Both, Only, Any, Operands, Own}
 use Rattle.rewrite_rules.specs.declared.table.Row.{Row}
+use Rattle.rewrite_rules.specs.Exact.{exact_operator}
 use Rattle.rewrite_rules.specs.Line.{Line, is_formed, IsRight}
-use Rattle.rewrite_rules.specs.Table.{parts, ROWS, width_by, line_of, widths_in, lines_of, OfEachLine}
+use Rattle.rewrite_rules.specs.Table.{parts, rows_of, joined, ROWS, width_by, line_of, widths_in, lines_of, OfEachLine}
 use Rattle.rewrite_rules.specs.Laws.{LinesKeepCode, TableIsRight}
 use Rattle.rewrite_rules.proofs.identities.Words as line
+use Rattle.rewrite_rules.proofs.identities.RowLemmas.{AtWidths, AtRows, AtParts, ◌▸◌, joins, at_all}
+use Rattle.rewrite_rules.proofs.identities.VectorRows as vector
+use Rattle.rewrite_rules.proofs.identities.LaneTestRows as lane_tests
+use Rattle.rewrite_rules.proofs.identities.LaneMoveRows as moves
 use Rattle.rewrite_rules.proofs.identities.ExtensionNumbers as number
 use Rattle.rewrite_rules.proofs.identities.ComparisonNumbers as opposite
 use Rattle.rewrite_rules.proofs.identities.SignNumbers as sign
@@ -29,6 +37,12 @@ use Rattle.rewrite_rules.proofs.identities.AbsorptionIdentities as absorption
 use Rattle.rewrite_rules.proofs.identities.ConstantIdentities as constant
 use Rattle.rewrite_rules.proofs.identities.ComparisonIdentities as compare
 use Rattle.rewrite_rules.proofs.identities.CountIdentities as count
+use Rattle.rewrite_rules.proofs.identities.FloatWords as floats
+use Rattle.rewrite_rules.proofs.identities.FloatIdentities as float
+use Rattle.rewrite_rules.proofs.identities.FloatTestWords as tests
+use Rattle.rewrite_rules.proofs.identities.FloatTestWords.{equal, unequal, less, greater, at_most, at_least}
+use Rattle.rewrite_rules.proofs.identities.FloatOrders as order
+use Rattle.rewrite_rules.proofs.identities.FloatTestIdentities as test
 
 -- ---- well formed
 
@@ -45,25 +59,13 @@ passes_at f (y ∷ ys) e zero x k =
 passes_at f (y ∷ ys) e (suc i) x k = passes_at f ys (and_parts (f y) (passes f ys) e).1 i x k
 
 all_formed : passes (λ row. passes is_formed (lines_of row)) ROWS ≡ true
-unfolding parts
+unfolding parts exact_operator exact_row integer_row row_at table
 all_formed = refl
 
 formed_line : OfEachLine (λ l. is_formed l ≡ true)
 formed_line i row e k l f = passes_at is_formed (lines_of row) (passes_at (λ r. passes is_formed (lines_of r)) ROWS all_formed i row e) k l f
 
 -- ---- right
-
--- it holds of the line of a row, for each of the row's widths
-abbrev AtWidths : (Line → Type 0) → Widths → (IntegerType → Line) → Type 0
-AtWidths P Both l = (t : IntegerType) → P (l t)
-AtWidths P (Only t) l = P (l t)
-AtWidths P Any l = P (l integer.I32)
-AtWidths P (Operands a b c) l = P (l (width_by a))
-AtWidths P (Own o) l = ⊤
-
-abbrev AtRows : (Line → Type 0) → List Row → Type 0
-AtRows P [] = ⊤
-AtRows P (r ∷ rs) = AtWidths P r.widths (line_of r) × AtRows P rs
 
 -- a line that is right is right from right to left
 turned : (l : IntegerType → Line) → ((t : IntegerType) → IsRight (l t)) → (t : IntegerType) → IsRight (line.back l t)
@@ -88,15 +90,10 @@ moves_round : (f g : Comparison) → ((t : IntegerType) → sign.AreTurned t (co
     IsRight (line.sign_moved g f t)
 moves_round f g k = compare.moves_sign g f (λ t. sign.turned_round (comparison_of f) (comparison_of g) t (k t))
 
--- what is shown of one, and of the others
-infixr 50 ◌▸◌
-◌▸◌ : {A B : Type 0} → A → B → A × B
-a ▸ b = (a, b)
-
--- row by row, in the order of the table
-rows_right : AtRows IsRight ROWS
-unfolding parts
-rows_right =
+-- row by row, in the order of the table, up to the last constant without vectors
+number_rows_right : AtRows IsRight (rows_of (joined (take 29 parts)))
+unfolding parts exact_operator exact_row integer_row row_at table
+number_rows_right =
     -- operands in another order
     group.add_swaps
     ▸ group.mul_swaps
@@ -367,7 +364,188 @@ rows_right =
     ▸ count.comparison_counted LeU
     ▸ count.comparison_counted GtU
     ▸ count.comparison_counted GeU
+    -- signs of floats twice, and bits read as a float and back
+    ▸ float.neg_twice integer.I32
+    ▸ float.neg_twice integer.I64
+    ▸ turned floats.neg_twice float.neg_twice integer.I32
+    ▸ turned floats.neg_twice float.neg_twice integer.I64
+    ▸ float.abs_of_neg integer.I32
+    ▸ float.abs_of_neg integer.I64
+    ▸ turned floats.abs_of_neg float.abs_of_neg integer.I32
+    ▸ turned floats.abs_of_neg float.abs_of_neg integer.I64
+    ▸ float.abs_twice integer.I32
+    ▸ float.abs_twice integer.I64
+    ▸ turned floats.abs_twice float.abs_twice integer.I32
+    ▸ turned floats.abs_twice float.abs_twice integer.I64
+    ▸ float.float_back integer.I32
+    ▸ float.bits_back integer.I32
+    ▸ float.float_back integer.I64
+    ▸ float.bits_back integer.I64
+    ▸ turned floats.float_back float.float_back integer.I32
+    ▸ turned floats.bits_back float.bits_back integer.I32
+    ▸ turned floats.float_back float.float_back integer.I64
+    ▸ turned floats.bits_back float.bits_back integer.I64
+    -- the sign of a float by its bits
+    ▸ float.neg_by_bits integer.I32
+    ▸ float.neg_by_bits integer.I64
+    ▸ turned floats.neg_by_bits float.neg_by_bits integer.I32
+    ▸ turned floats.neg_by_bits float.neg_by_bits integer.I64
+    ▸ float.abs_by_bits integer.I32
+    ▸ float.abs_by_bits integer.I64
+    ▸ turned floats.abs_by_bits float.abs_by_bits integer.I32
+    ▸ turned floats.abs_by_bits float.abs_by_bits integer.I64
+    ▸ float.neg_abs_by_bits integer.I32
+    ▸ float.neg_abs_by_bits integer.I64
+    ▸ turned floats.neg_abs_by_bits float.neg_abs_by_bits integer.I32
+    ▸ turned floats.neg_abs_by_bits float.neg_abs_by_bits integer.I64
+    ▸ float.bits_of_neg integer.I32
+    ▸ float.bits_of_neg integer.I64
+    ▸ turned floats.bits_of_neg float.bits_of_neg integer.I32
+    ▸ turned floats.bits_of_neg float.bits_of_neg integer.I64
+    ▸ float.bits_of_abs integer.I32
+    ▸ float.bits_of_abs integer.I64
+    ▸ turned floats.bits_of_abs float.bits_of_abs integer.I32
+    ▸ turned floats.bits_of_abs float.bits_of_abs integer.I64
+    -- the sign of one float with the bits of another
+    ▸ float.copysign_of_neg integer.I32
+    ▸ float.copysign_of_neg integer.I64
+    ▸ turned floats.copysign_of_neg float.copysign_of_neg integer.I32
+    ▸ turned floats.copysign_of_neg float.copysign_of_neg integer.I64
+    ▸ float.copysign_of_abs integer.I32
+    ▸ float.copysign_of_abs integer.I64
+    ▸ turned floats.copysign_of_abs float.copysign_of_abs integer.I32
+    ▸ turned floats.copysign_of_abs float.copysign_of_abs integer.I64
+    ▸ float.own_sign integer.I32
+    ▸ float.own_sign integer.I64
+    ▸ turned floats.own_sign float.own_sign integer.I32
+    ▸ turned floats.own_sign float.own_sign integer.I64
+    ▸ float.abs_of_copysign integer.I32
+    ▸ float.abs_of_copysign integer.I64
+    ▸ float.sign_again integer.I32
+    ▸ float.sign_again integer.I64
+    ▸ float.sign_of_sign integer.I32
+    ▸ float.sign_of_sign integer.I64
+    -- the sign of a float turned before it is copied, or behind that
+    ▸ float.sign_of_neg integer.I32
+    ▸ float.sign_of_neg integer.I64
+    ▸ turned floats.sign_of_neg float.sign_of_neg integer.I32
+    ▸ turned floats.sign_of_neg float.sign_of_neg integer.I64
+    ▸ float.sign_of_own_neg integer.I32
+    ▸ float.sign_of_own_neg integer.I64
+    ▸ turned floats.sign_of_own_neg float.sign_of_own_neg integer.I32
+    ▸ turned floats.sign_of_own_neg float.sign_of_own_neg integer.I64
+    ▸ float.sign_of_own_abs integer.I32
+    ▸ float.sign_of_own_abs integer.I64
+    ▸ turned floats.sign_of_own_abs float.sign_of_own_abs integer.I32
+    ▸ turned floats.sign_of_own_abs float.sign_of_own_abs integer.I64
+    -- comparisons of floats, turned around, or by the test of the opposite
+    ▸ test.turns equal equal order.eq_turned integer.I32
+    ▸ test.turns unequal unequal (λ t n m. ap not (order.eq_turned t n m)) integer.I32
+    ▸ test.turns equal equal order.eq_turned integer.I64
+    ▸ test.turns unequal unequal (λ t n m. ap not (order.eq_turned t n m)) integer.I64
+    ▸ test.turns less greater (λ t n m. refl) integer.I32
+    ▸ test.turns greater less (λ t n m. refl) integer.I32
+    ▸ test.turns at_most at_least (λ t n m. refl) integer.I32
+    ▸ test.turns at_least at_most (λ t n m. refl) integer.I32
+    ▸ test.turns less greater (λ t n m. refl) integer.I64
+    ▸ test.turns greater less (λ t n m. refl) integer.I64
+    ▸ test.turns at_most at_least (λ t n m. refl) integer.I64
+    ▸ test.turns at_least at_most (λ t n m. refl) integer.I64
+    ▸ test.negates unequal equal (λ t n m. refl) integer.I32
+    ▸ test.negates equal unequal order.eq_is integer.I32
+    ▸ test.negates unequal equal (λ t n m. refl) integer.I64
+    ▸ test.negates equal unequal order.eq_is integer.I64
+    ▸ turned (tests.negate unequal equal) (test.negates unequal equal (λ t n m. refl)) integer.I32
+    ▸ turned (tests.negate equal unequal) (test.negates equal unequal order.eq_is) integer.I32
+    ▸ turned (tests.negate unequal equal) (test.negates unequal equal (λ t n m. refl)) integer.I64
+    ▸ turned (tests.negate equal unequal) (test.negates equal unequal order.eq_is) integer.I64
+    -- a float compared with itself
+    ▸ test.never less order.not_less
+    ▸ test.never greater order.not_less
+    ▸ test.never_wide less order.not_less
+    ▸ test.never_wide greater order.not_less
+    ▸ test.on_self equal at_most order.equal_itself integer.I32
+    ▸ test.on_self equal at_most order.equal_itself integer.I64
+    ▸ test.on_self equal at_least order.equal_itself integer.I32
+    ▸ test.on_self equal at_least order.equal_itself integer.I64
+    ▸ turned (tests.on_self equal at_most) (test.on_self equal at_most order.equal_itself) integer.I32
+    ▸ turned (tests.on_self equal at_least) (test.on_self equal at_least order.equal_itself) integer.I32
+    ▸ turned (tests.on_self equal at_most) (test.on_self equal at_most order.equal_itself) integer.I64
+    ▸ turned (tests.on_self equal at_least) (test.on_self equal at_least order.equal_itself) integer.I64
+    -- comparisons of floats whose signs are turned
+    ▸ test.turns_signs equal integer.I32
+    ▸ test.turns_signs unequal integer.I32
+    ▸ test.turns_signs less integer.I32
+    ▸ test.turns_signs greater integer.I32
+    ▸ test.turns_signs at_most integer.I32
+    ▸ test.turns_signs at_least integer.I32
+    ▸ test.turns_signs equal integer.I64
+    ▸ test.turns_signs unequal integer.I64
+    ▸ test.turns_signs less integer.I64
+    ▸ test.turns_signs greater integer.I64
+    ▸ test.turns_signs at_most integer.I64
+    ▸ test.turns_signs at_least integer.I64
+    ▸ turned (tests.turn_signs equal) (test.turns_signs equal) integer.I32
+    ▸ turned (tests.turn_signs unequal) (test.turns_signs unequal) integer.I32
+    ▸ turned (tests.turn_signs less) (test.turns_signs less) integer.I32
+    ▸ turned (tests.turn_signs greater) (test.turns_signs greater) integer.I32
+    ▸ turned (tests.turn_signs at_most) (test.turns_signs at_most) integer.I32
+    ▸ turned (tests.turn_signs at_least) (test.turns_signs at_least) integer.I32
+    ▸ turned (tests.turn_signs equal) (test.turns_signs equal) integer.I64
+    ▸ turned (tests.turn_signs unequal) (test.turns_signs unequal) integer.I64
+    ▸ turned (tests.turn_signs less) (test.turns_signs less) integer.I64
+    ▸ turned (tests.turn_signs greater) (test.turns_signs greater) integer.I64
+    ▸ turned (tests.turn_signs at_most) (test.turns_signs at_most) integer.I64
+    ▸ turned (tests.turn_signs at_least) (test.turns_signs at_least) integer.I64
+    -- whether floats are equal, by both orders, and their order by both of its parts
+    ▸ test.both_orders integer.I32
+    ▸ test.both_orders integer.I64
+    ▸ turned tests.both_orders test.both_orders integer.I32
+    ▸ turned tests.both_orders test.both_orders integer.I64
+    ▸ test.both_parts at_most less order.le_parts integer.I32
+    ▸ test.both_parts at_least greater order.ge_parts integer.I32
+    ▸ test.both_parts at_most less order.le_parts integer.I64
+    ▸ test.both_parts at_least greater order.ge_parts integer.I64
+    ▸ turned (tests.both_parts at_most less) (test.both_parts at_most less order.le_parts) integer.I32
+    ▸ turned (tests.both_parts at_least greater) (test.both_parts at_least greater order.ge_parts) integer.I32
+    ▸ turned (tests.both_parts at_most less) (test.both_parts at_most less order.le_parts) integer.I64
+    ▸ turned (tests.both_parts at_least greater) (test.both_parts at_least greater order.ge_parts) integer.I64
     ▸ tt
+
+-- constant by constant, those behind it
+vector_rows_right : AtParts IsRight (drop 29 parts)
+unfolding parts
+vector_rows_right =
+    vector.bits_right
+    ▸ vector.forms_right
+    ▸ vector.sums_right
+    ▸ vector.negatives_right
+    ▸ vector.zeros_right
+    ▸ vector.magnitudes_right
+    ▸ lane_tests.orders_right
+    ▸ lane_tests.wide_orders_right
+    ▸ lane_tests.opposites_right
+    ▸ lane_tests.wide_opposites_right
+    ▸ lane_tests.complements_right
+    ▸ lane_tests.wide_complements_right
+    ▸ lane_tests.bounds_right
+    ▸ lane_tests.repeats_right
+    ▸ lane_tests.choices_right
+    ▸ vector.shifts_right
+    ▸ vector.lane_turns_right
+    ▸ vector.floats_right
+    ▸ moves.splats_right
+    ▸ moves.lane_bits_right
+    ▸ moves.splat_bits_right
+    ▸ moves.signed_lanes_right
+    ▸ moves.extended_lanes_right
+    ▸ vector.decided_right
+    ▸ tt
+
+-- all of them
+rows_right : AtRows IsRight ROWS
+unfolding parts exact_operator exact_row integer_row row_at table
+rows_right = joins IsRight (joined (take 29 parts)) (joined (drop 29 parts)) number_rows_right (at_all IsRight (drop 29 parts) vector_rows_right)
 
 -- ---- by indices
 

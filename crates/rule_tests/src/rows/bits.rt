@@ -13,6 +13,12 @@ turn_signs | i64.const 1; i64.const 2; i64.le_u | 2 | i64 | i64.const 1; i64.con
 turn_signs | local.get 0; call 0; i32.const 5; local.tee 0; i32.lt_s | 4 | i32 | local.get 0; call 0; i32.const -2147483648; i32.xor; i32.const 5; local.tee 0; i32.const -2147483648; i32.xor; i32.lt_u
 turn_signs | T.const 1; T.const 2; T.eq | 2 | T | -
 turn_signs_back | i32.const 1; i32.const -2147483648; i32.xor; i32.const 2; i32.const -2147483648; i32.xor; i32.lt_u | 6 | i32 | i32.const 1; i32.const 2; i32.lt_s
+turn_signs_back | i64.const 1; i64.const -9223372036854775808; i64.xor; i64.const 2; i64.const -9223372036854775808; i64.xor; i64.le_u | 6 | i64 | i64.const 1; i64.const 2; i64.le_s
+turn_signs_back | i32.const 1; i32.const -2147483648; i32.xor; i32.const 2; i32.const -2147483648; i32.xor; i32.gt_u | 6 | i32 | i32.const 1; i32.const 2; i32.gt_s
+turn_signs_back | i64.const 1; i64.const -9223372036854775808; i64.xor; i64.const 2; i64.const -9223372036854775808; i64.xor; i64.ge_u | 6 | i64 | i64.const 1; i64.const 2; i64.ge_s
+turn_signs_back | i32.const 1; i32.const -2147483648; i32.xor; i32.const 2; i32.const -2147483648; i32.xor; i32.lt_s | 6 | i32 | i32.const 1; i32.const 2; i32.lt_u
+turn_signs_back | i64.const 1; i64.const -9223372036854775808; i64.xor; i64.const 2; i64.const -9223372036854775808; i64.xor; i64.le_s | 6 | i64 | i64.const 1; i64.const 2; i64.le_u
+turn_signs_back | i32.const 1; i32.const -2147483648; i32.xor; i32.const 2; i32.const -2147483648; i32.xor; i32.gt_s | 6 | i32 | i32.const 1; i32.const 2; i32.gt_u
 turn_signs_back | i64.const 1; i64.const -9223372036854775808; i64.xor; i64.const 2; i64.const -9223372036854775808; i64.xor; i64.ge_s | 6 | i64 | i64.const 1; i64.const 2; i64.ge_u
 turn_signs_back | i64.const 1; i64.const -2147483648; i64.xor; i64.const 2; i64.const -2147483648; i64.xor; i64.lt_u | 6 | i64 | -
 turn_signs_back | i32.const 1; i32.const -2147483648; i32.xor; i32.const 2; i32.const 1; i32.xor; i32.lt_u | 6 | i32 | -

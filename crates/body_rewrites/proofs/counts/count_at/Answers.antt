@@ -15,11 +15,11 @@ use Rattle.body_rewrites.proofs.counts.count_at.Goals as goal
 
 pub count_lines-requires-clause-lines : goal.count_lines-requires-clause-lines
 count_lines-requires-clause-lines c =
-    subst AreAsked (sym c.candidates-lines.ensures) (filter_asked (is_candidate c.here_at-here.result.class) all_asked is_asked)
+    subst AreAsked (sym c.candidates-lines.ensures) (filter_asked (is_candidate c.args.counter.now.exact c.here_at-here.result.class) all_asked is_asked)
 
 pub count_lines-requires-clause-room : goal.count_lines-requires-clause-room
 count_lines-requires-clause-room c =
-    let few = candidates_few c.here_at-here.result.class in
+    let few = candidates_few c.args.counter.now.exact c.here_at-here.result.class in
     let same = ap length c.candidates-lines.ensures in
     less_room (length c.candidates-lines.result.now) 131072 c.args.counts.now (omega (arith, few, same)) c.requires.room
 
@@ -27,7 +27,7 @@ pub count_alone-requires : goal.count_alone-requires
 count_alone-requires c =
     let lines = c.candidates-lines.result.now in
     let at = c.here_at-here.result.at in
-    let few = candidates_few c.here_at-here.result.class in
+    let few = candidates_few c.args.counter.now.exact c.here_at-here.result.class in
     let same = ap length c.candidates-lines.ensures in
     let size = length-map lines (rewrite_of at) in
     room_behind (context_of c.args.body.now) c.args.body.now.operators.now (rewrites_of at lines) 65536 65536 c.args.counts.now
@@ -42,7 +42,8 @@ returns c =
     let lines = c.candidates-lines.result.now in
     let tree = option_flatten (slice_get c.args.body.now.trees.now at) in
     counts_all c.types_are_told.ensures c.holes_are_told.ensures c.table_is_right.ensures c.sides_are_parts.ensures c.parts_are_the_code.ensures
-    c.lefts_are_instances.ensures c.trees_leave.ensures context operators at c.here_at-here.result.class
+    c.lefts_are_instances.ensures c.trees_leave.ensures c.exact_rows_are_told.ensures context operators at c.args.counter.now.exact
+    c.requires.laid.exact c.here_at-here.result.class
     (subst (λ n. IsClassAt operators n c.here_at-here.result.class) c.here_at-here.ensures.at c.here_at-here.ensures.is.class_is) tree
     (tree_told c.args.body.now.trees.now at tree refl context operators c.requires.trees) lines c.candidates-lines.ensures c.args.counts.now
     c.count_lines.new.counts c.count_alone.new.counts

@@ -15,10 +15,10 @@ loop-number-preserved c =
     let number = c.loop-number.number in
     elim c.match-numbered.branch [
       | in-Some+in_ok-add_row w ↦
-          subst (λ (lists : List (Vec Asked Global)). AreLaidOut used (asked_from 0 (take (number + 1) ROWS)) lists c.match-numbered.alone.items)
+          subst (λ (lists : List (Vec Asked Global)). AreLaidOut c.args.exact used (asked_from 0 (take (number + 1) ROWS)) lists c.match-numbered.alone.items)
           (sym w.lists-is)
-          (subst (λ (v : Vec Asked Global). AreLaidOut used (asked_from 0 (take (number + 1) ROWS)) w.add_row.new.lists v.items) (sym w.alone-is)
-          (row_laid_out used number _ w.add_row.new.lists w.add_row.new.alone.items (sym w.in-Some.ensures)
+          (subst (λ (v : Vec Asked Global). AreLaidOut c.args.exact used (asked_from 0 (take (number + 1) ROWS)) w.add_row.new.lists v.items) (sym w.alone-is)
+          (row_laid_out c.args.exact used number _ w.add_row.new.lists w.add_row.new.alone.items (sym w.in-Some.ensures)
           (w.in_ok-add_row.ensures.added (asked_from 0 (take number ROWS)) c.loop-number.invariant)))
       | in_default w ↦ absurd (row_there number (omega arith) (sym w.in_default.ensures))
     ]

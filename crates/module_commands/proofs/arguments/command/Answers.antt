@@ -15,13 +15,14 @@ returns c =
     let six = one_more _ _ _ _ _ five c.in_ok-arg-6.ensures c.rule_argument.ensures.local c.rule_argument.ensures.rule in
     let seven = one_more _ _ _ _ _ six c.in_ok-arg-7.ensures c.other_argument.ensures.local c.other_argument.ensures.rule in
     let eight = one_more _ _ _ _ _ seven c.in_ok-arg-8.ensures c.shrink_argument.ensures.local c.shrink_argument.ensures.rule in
-    let nine = one_more _ _ _ _ _ eight c.in_ok-arg-9.ensures c.size_argument.ensures.local c.size_argument.ensures.rule in
-    let ten = one_more _ _ _ _ _ nine c.in_ok-arg-10.ensures c.list_argument.ensures.local c.list_argument.ensures.rule in
-    let eleven = one_more _ _ _ _ _ ten c.in_ok-arg-11.ensures c.blocks_argument.ensures.local c.blocks_argument.ensures.rule in
-    let twelve = one_more _ _ _ _ _ eleven c.in_ok-arg-12.ensures c.rules_argument.ensures.local c.rules_argument.ensures.rule in
-    let thirteen = one_more _ _ _ _ _ twelve c.in_ok-arg-13.ensures c.stats_argument.ensures.local c.stats_argument.ensures.rule in
-    let fourteen = one_more _ _ _ _ _ thirteen c.in_ok-arg-14.ensures c.reach_argument.ensures.local c.reach_argument.ensures.rule in
-    let fifteen = one_more _ _ _ _ _ fourteen c.in_ok-arg-15.ensures c.json_argument.ensures.local c.json_argument.ensures.rule in
-    let sixteen = one_more _ _ _ _ _ fifteen c.in_ok-arg-16.ensures c.show_argument.ensures.local c.show_argument.ensures.rule in
-    let seventeen = one_more _ _ _ _ _ sixteen c.in_ok-arg-17.ensures c.strip_argument.ensures.local c.strip_argument.ensures.rule in
-    IfOk-weaker c.arg-18.result _ _ (λ r h. one_more _ r _ _ _ seventeen h c.quiet_argument.ensures.local c.quiet_argument.ensures.rule) c.arg-18.ensures
+    let nine = one_more _ _ _ _ _ eight c.in_ok-arg-9.ensures c.exact_argument.ensures.local c.exact_argument.ensures.rule in
+    let ten = one_more _ _ _ _ _ nine c.in_ok-arg-10.ensures c.size_argument.ensures.local c.size_argument.ensures.rule in
+    let eleven = one_more _ _ _ _ _ ten c.in_ok-arg-11.ensures c.list_argument.ensures.local c.list_argument.ensures.rule in
+    let twelve = one_more _ _ _ _ _ eleven c.in_ok-arg-12.ensures c.blocks_argument.ensures.local c.blocks_argument.ensures.rule in
+    let thirteen = one_more _ _ _ _ _ twelve c.in_ok-arg-13.ensures c.rules_argument.ensures.local c.rules_argument.ensures.rule in
+    let fourteen = one_more _ _ _ _ _ thirteen c.in_ok-arg-14.ensures c.stats_argument.ensures.local c.stats_argument.ensures.rule in
+    let fifteen = one_more _ _ _ _ _ fourteen c.in_ok-arg-15.ensures c.reach_argument.ensures.local c.reach_argument.ensures.rule in
+    let sixteen = one_more _ _ _ _ _ fifteen c.in_ok-arg-16.ensures c.json_argument.ensures.local c.json_argument.ensures.rule in
+    let seventeen = one_more _ _ _ _ _ sixteen c.in_ok-arg-17.ensures c.show_argument.ensures.local c.show_argument.ensures.rule in
+    let eighteen = one_more _ _ _ _ _ seventeen c.in_ok-arg-18.ensures c.strip_argument.ensures.local c.strip_argument.ensures.rule in
+    IfOk-weaker c.arg-19.result _ _ (λ r h. one_more _ r _ _ _ eighteen h c.quiet_argument.ensures.local c.quiet_argument.ensures.rule) c.arg-19.ensures

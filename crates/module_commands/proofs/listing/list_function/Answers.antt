@@ -13,6 +13,7 @@ returns-in-Err-clause-lines g c = (
   [],
   appends_nothing (g.W.Write.contents c.args.output.now),
   lists_nothing (form_of c.args.options.now) (scope_of c.args.options.now) c.args.bytes.now c.args.wasm.now.info c.args.wasm.now.layout c.args.n
+      c.requires.marked
       (λ l x o f.
       let memory = c.is_memory.ensures.1 (c.in-Err.ensures.only l x o f) in
       let other = c.if-is_memory.false in
@@ -28,7 +29,7 @@ returns-clause-lines g c =
       lists_function (form_of c.args.options.now) (scope_of c.args.options.now) c.scope.result c.args.bytes.now c.args.wasm.now.info
           c.args.wasm.now.layout c.args.n c.in-Ok.function.locals.items c.in-Ok.function.expression c.in-Ok.function.operators.items
           c.in_ok-rewrites.rewrites.items c.index_of-index.result lines c.scope.ensures
-          c.in-Ok.ensures.read c.in-Ok.ensures.only c.in_ok-rewrites.ensures c.index_of-index.ensures
+          c.requires.marked c.in-Ok.ensures.read c.in-Ok.ensures.only c.in_ok-rewrites.ensures c.index_of-index.ensures
           (ap (λ (form : Form). rewrite_lines form c.index_of-index.result c.deref.result.now) c.form.ensures
           ∙ ap (rewrite_lines (form_of c.args.options.now) c.index_of-index.result) c.deref.ensures.value),
     )) c.write_rewrites.ensures.lines

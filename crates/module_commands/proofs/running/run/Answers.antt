@@ -1,10 +1,10 @@
 -- Why the module that was read isn't written rewritten, and nothing listed of it.
-use Rattle.std.proofs.Common.{subst, sym}
+use Rattle.std.proofs.Common.{refl, subst, sym}
 use Rattle.std.proofs.lemmas.Result.{err_from_is_err_and}
-use Rattle.module_commands.specs.Failures.{FailsAtTask, FailsToDo, IsNoOther}
+use Rattle.module_commands.specs.Failures.{FailsAtTask, FailsToDo, IsNoOther, SharesMemory, TakesModule}
 use Rattle.module_commands.specs.declared.options.Task.{Task}
 use Rattle.module_commands.proofs.FaultsLemmas.{task_fails}
-use Rattle.module_commands.proofs.WritesLemmas.{err_map, of_all}
+use Rattle.module_commands.proofs.WritesLemmas.{err_map, of_all, on_ok_of}
 use Rattle.module_commands.proofs.running.run.Goals as goal
 
 pub returns-in_ok-bytes-in-Rewrite-clause-fails : goal.returns-in_ok-bytes-in-Rewrite-clause-fails
@@ -43,3 +43,26 @@ returns-in_err-list_blocks-in-Blocks-clause-fails g c =
     (g.R.Read.remaining c.take_module-in-Blocks.new.input.device) c.in_ok-bytes-in-Blocks.bytes.items bytes taken.bytes taken.end
     c.deref-in-Blocks.ensures.value (task_fails options.task options bytes e none
     (subst (λ (task : Task). FailsAtTask task options bytes e) (sym c.in-Blocks.is) c.in_err-list_blocks-in-Blocks.ensures.fails)))
+
+-- threads share no memory of the module, since it was taken
+pub returns-in_ok-bytes-in-Rewrite-clause-alone : goal.returns-in_ok-bytes-in-Rewrite-clause-alone
+returns-in_ok-bytes-in-Rewrite-clause-alone g c = λ takes exact.
+    let taken = c.in_ok-bytes-in-Rewrite.ensures in
+    on_ok_of c.rewrite.result
+    (of_all (λ bytes. ¬ (SharesMemory bytes)) (g.R.Read.remaining c.args.input.now.device) (g.R.Read.remaining c.take_module.new.input.device)
+    c.in_ok-bytes-in-Rewrite.bytes.items c.in_ok-bytes-in-Rewrite.bytes.items taken.bytes taken.end refl (taken.alone exact))
+
+pub returns-in_ok-flush-in-List-clause-alone : goal.returns-in_ok-flush-in-List-clause-alone
+returns-in_ok-flush-in-List-clause-alone g c = λ takes exact.
+    let taken = c.in_ok-bytes-in-List.ensures in
+    of_all (λ bytes. ¬ (SharesMemory bytes)) (g.R.Read.remaining c.args.input.now.device) (g.R.Read.remaining c.take_module-in-List.new.input.device)
+    c.in_ok-bytes-in-List.bytes.items c.in_ok-bytes-in-List.bytes.items taken.bytes taken.end refl (taken.alone exact)
+
+pub returns-in_ok-flush-in-Blocks-clause-alone : goal.returns-in_ok-flush-in-Blocks-clause-alone
+returns-in_ok-flush-in-Blocks-clause-alone g c = λ takes exact.
+    let taken = c.in_ok-bytes-in-Blocks.ensures in
+    of_all (λ bytes. ¬ (SharesMemory bytes)) (g.R.Read.remaining c.args.input.now.device) (g.R.Read.remaining c.take_module-in-Blocks.new.input.device)
+    c.in_ok-bytes-in-Blocks.bytes.items c.in_ok-bytes-in-Blocks.bytes.items taken.bytes taken.end refl (taken.alone exact)
+
+pub returns-in-Rules-clause-alone : goal.returns-in-Rules-clause-alone
+returns-in-Rules-clause-alone g c = λ takes exact. absurd (subst TakesModule c.in-Rules.is takes)

@@ -7,13 +7,13 @@ use Rattle.module_rewrites.proofs.AttemptLemmas.{first_chosen, no_function}
 use Rattle.module_rewrites.proofs.attempt.without_rewrite.Goals as goal
 
 pub returns-then-entries-clause-reason : goal.returns-then-entries-clause-reason
-returns-then-entries-clause-reason c scope cannot are =
+returns-then-entries-clause-reason c scope marked cannot are =
     let past : c.args.entries.end ≤ c.args.entries.start = omega (arith, c.if-entries.true) in
     let empty = no_function scope.function c.args.layout.now c.args.entries.start c.args.entries.end are.chosen are.named past in
     (empty.0, record { info = c.args.info.now; layout = c.args.layout.now; is = c.requires.module; none = empty.1 })
 
 pub returns-in-Ok-Some-clause-reason : goal.returns-in-Ok-Some-clause-reason
-returns-in-Ok-Some-clause-reason c scope cannot are =
+returns-in-Ok-Some-clause-reason c scope marked cannot are =
     let bytes = c.args.bytes.now in
     let info = c.args.info.now in
     let layout = c.args.layout.now in

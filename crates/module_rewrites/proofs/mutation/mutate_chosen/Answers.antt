@@ -9,20 +9,20 @@ pub returns-in-None-clause-mutated : goal.returns-in-None-clause-mutated
 returns-in-None-clause-mutated g c =
     let is : c.args.scope.now.function ≡ None = sym (ap (λ (s : Scope). s.function) c.scope.view_is) ∙ c.in-None.is in
     some_map c.mutate_any.result
-    (λ m h. mutated_any c.args.scope.now c.args.bytes.now c.args.info.now c.args.layout.now c.requires.module is m.function m.rewrite m.bytes.items h.0 h.1)
+    (λ m h. mutated_any c.args.scope.now c.args.bytes.now c.args.info.now c.args.layout.now c.requires.module c.requires.marked is m.function m.rewrite m.bytes.items h.0 h.1)
     (some_both _ _ c.mutate_any.result c.mutate_any.ensures.mutated c.mutate_any.ensures.fits)
 
 pub returns-in-None-clause-refused : goal.returns-in-None-clause-refused
 returns-in-None-clause-refused g c =
     let is : c.args.scope.now.function ≡ None = sym (ap (λ (s : Scope). s.function) c.scope.view_is) ∙ c.in-None.is in
     err_map c.mutate_any.result
-    (λ e h. refuses_any c.args.scope.now c.args.bytes.now c.args.info.now c.args.layout.now c.requires.module is e h) c.mutate_any.ensures.refused
+    (λ e h. refuses_any c.args.scope.now c.args.bytes.now c.args.info.now c.args.layout.now c.requires.module c.requires.marked is e h) c.mutate_any.ensures.refused
 
 pub returns-in-Some-clause-mutated : goal.returns-in-Some-clause-mutated
 returns-in-Some-clause-mutated g c =
     let is : c.args.scope.now.function ≡ Some c.in-Some.function = sym (ap (λ (s : Scope). s.function) c.scope.view_is) ∙ c.in-Some.is in
     some_map c.mutate_function.result
-    (λ m h. mutated_one c.args.scope.now c.args.bytes.now c.args.info.now c.args.layout.now c.requires.module c.in-Some.function is m.function
+    (λ m h. mutated_one c.args.scope.now c.args.bytes.now c.args.info.now c.args.layout.now c.requires.module c.requires.marked c.in-Some.function is m.function
     m.rewrite m.bytes.items h.0 h.1)
     (some_both _ _ c.mutate_function.result c.mutate_function.ensures.mutated c.mutate_function.ensures.fits)
 
@@ -30,7 +30,7 @@ pub returns-in-Some-clause-refused : goal.returns-in-Some-clause-refused
 returns-in-Some-clause-refused g c =
     let is : c.args.scope.now.function ≡ Some c.in-Some.function = sym (ap (λ (s : Scope). s.function) c.scope.view_is) ∙ c.in-Some.is in
     err_map c.mutate_function.result
-    (λ e h. refuses_one c.args.scope.now c.args.bytes.now c.args.info.now c.args.layout.now c.requires.module c.in-Some.function is e h)
+    (λ e h. refuses_one c.args.scope.now c.args.bytes.now c.args.info.now c.args.layout.now c.requires.module c.requires.marked c.in-Some.function is e h)
     c.mutate_function.ensures.refused
 
 pub returns-in-None-clause-chosen : goal.returns-in-None-clause-chosen
@@ -42,7 +42,7 @@ returns-in-None-clause-chosen g c =
 
 pub returns-in-None-clause-none : goal.returns-in-None-clause-none
 returns-in-None-clause-none g c =
-    none_map c.mutate_any.result (cannot_any c.args.scope.now c.args.bytes.now c.args.info.now c.args.layout.now c.requires.module)
+    none_map c.mutate_any.result (cannot_any c.args.scope.now c.args.bytes.now c.args.info.now c.args.layout.now c.requires.module c.requires.marked)
     c.mutate_any.ensures.none
 
 pub returns-in-None-clause-gives_up : goal.returns-in-None-clause-gives_up
@@ -67,7 +67,7 @@ pub returns-in-Some-clause-none : goal.returns-in-Some-clause-none
 returns-in-Some-clause-none g c =
     let is : c.args.scope.now.function ≡ Some c.in-Some.function = sym (ap (λ (s : Scope). s.function) c.scope.view_is) ∙ c.in-Some.is in
     none_map c.mutate_function.result
-    (cannot_one c.args.scope.now c.args.bytes.now c.args.info.now c.args.layout.now c.requires.module c.in-Some.function is)
+    (cannot_one c.args.scope.now c.args.bytes.now c.args.info.now c.args.layout.now c.requires.module c.requires.marked c.in-Some.function is)
     c.mutate_function.ensures.none
 
 pub returns-in-Some-clause-gives_up : goal.returns-in-Some-clause-gives_up

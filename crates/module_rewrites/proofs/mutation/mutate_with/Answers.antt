@@ -1,4 +1,4 @@
-use Rattle.std.proofs.Common.{ℕ, sym, ap, subst, arith}
+use Rattle.std.proofs.Common.{◌∙◌, ℕ, sym, ap, subst, arith}
 use Rattle.wasm_sections.specs.declared.fault.ModuleFault.{ModuleFault}
 use Rattle.wasm_module.specs.Fault.{IsModuleFault}
 use Rattle.wasm_module.specs.Fault.IsModuleFault.{of_memory}
@@ -22,4 +22,8 @@ pub returns-in-Ok-Some-clause-read : goal.returns-in-Ok-Some-clause-read
 returns-in-Ok-Some-clause-read g c =
     was_rewritten c.args.scope.now c.args.bytes.now c.in-Ok.module.info c.in-Ok.module.layout c.in-Ok-Some.mutated.function c.in-Ok-Some.mutated.rewrite
     c.in-Ok-Some.mutated.bytes.items c.without_bytes.result.info c.without_bytes.result.layout c.one_reading.ensures c.in-Ok.ensures.read
+    (c.in-Ok.ensures.marked ∙ c.requires.3)
     c.without_bytes.ensures.info c.without_bytes.ensures.layout (rw c.in-Ok-Some.field-0-is at c.in-Ok-Some.ensures.mutated)
+
+pub mutate_chosen-made-requires-clause-marked : goal.mutate_chosen-made-requires-clause-marked
+mutate_chosen-made-requires-clause-marked g c = c.in-Ok.ensures.marked ∙ c.requires.3

@@ -14,5 +14,5 @@ invariant-rewrites g l =
     × (l.«module».stopped ≡ None)
     × SeesEach g.W.Watch.saw l.scope (record { bytes = l.bytes; stream = g.R.Rng.stream l.fn.generator; watcher = l.fn.watch })
     l.«module».made.items (record { bytes = l.«module».bytes.items; stream = g.R.Rng.stream l.generator; watcher = l.watch })
-    × DoesAsBefore l.bytes l.«module».bytes.items
-    × WasRewrittenAt l.read.info l.read.layout l.function l.«module».bytes.items
+    × DoesAsBefore l.scope.exact l.bytes l.«module».bytes.items
+    × WasRewrittenAt l.scope l.read.info l.read.layout l.function l.«module».bytes.items

@@ -88,5 +88,133 @@ pub returns-in-20 : goal.returns-in-20
 unfolding parts
 returns-in-20 c = c.in_settled.ensures ∙ ap (λ part. slice_get (part_at part) c.args.number) (sym c.in-20.is)
 
+pub returns-in-21 : goal.returns-in-21
+unfolding parts
+returns-in-21 c = c.in_floats.ensures ∙ ap (λ part. slice_get (part_at part) c.args.number) (sym c.in-21.is)
+
+pub returns-in-22 : goal.returns-in-22
+unfolding parts
+returns-in-22 c = c.in_float_bits.ensures ∙ ap (λ part. slice_get (part_at part) c.args.number) (sym c.in-22.is)
+
+pub returns-in-23 : goal.returns-in-23
+unfolding parts
+returns-in-23 c = c.in_float_signs.ensures ∙ ap (λ part. slice_get (part_at part) c.args.number) (sym c.in-23.is)
+
+pub returns-in-24 : goal.returns-in-24
+unfolding parts
+returns-in-24 c = c.in_float_copies.ensures ∙ ap (λ part. slice_get (part_at part) c.args.number) (sym c.in-24.is)
+
+pub returns-in-25 : goal.returns-in-25
+unfolding parts
+returns-in-25 c = c.in_float_tests.ensures ∙ ap (λ part. slice_get (part_at part) c.args.number) (sym c.in-25.is)
+
+pub returns-in-26 : goal.returns-in-26
+unfolding parts
+returns-in-26 c = c.in_float_selves.ensures ∙ ap (λ part. slice_get (part_at part) c.args.number) (sym c.in-26.is)
+
+pub returns-in-27 : goal.returns-in-27
+unfolding parts
+returns-in-27 c = c.in_float_turns.ensures ∙ ap (λ part. slice_get (part_at part) c.args.number) (sym c.in-27.is)
+
+pub returns-in-28 : goal.returns-in-28
+unfolding parts
+returns-in-28 c = c.in_float_orders.ensures ∙ ap (λ part. slice_get (part_at part) c.args.number) (sym c.in-28.is)
+
+pub returns-in-29 : goal.returns-in-29
+unfolding parts
+returns-in-29 c = c.in_vector_bits.ensures ∙ ap (λ part. slice_get (part_at part) c.args.number) (sym c.in-29.is)
+
+pub returns-in-30 : goal.returns-in-30
+unfolding parts
+returns-in-30 c = c.in_vector_forms.ensures ∙ ap (λ part. slice_get (part_at part) c.args.number) (sym c.in-30.is)
+
+pub returns-in-31 : goal.returns-in-31
+unfolding parts
+returns-in-31 c = c.in_lane_sums.ensures ∙ ap (λ part. slice_get (part_at part) c.args.number) (sym c.in-31.is)
+
+pub returns-in-32 : goal.returns-in-32
+unfolding parts
+returns-in-32 c = c.in_lane_negatives.ensures ∙ ap (λ part. slice_get (part_at part) c.args.number) (sym c.in-32.is)
+
+pub returns-in-33 : goal.returns-in-33
+unfolding parts
+returns-in-33 c = c.in_lane_zeros.ensures ∙ ap (λ part. slice_get (part_at part) c.args.number) (sym c.in-33.is)
+
+pub returns-in-34 : goal.returns-in-34
+unfolding parts
+returns-in-34 c = c.in_lane_magnitudes.ensures ∙ ap (λ part. slice_get (part_at part) c.args.number) (sym c.in-34.is)
+
+pub returns-in-35 : goal.returns-in-35
+unfolding parts
+returns-in-35 c = c.in_lane_orders.ensures ∙ ap (λ part. slice_get (part_at part) c.args.number) (sym c.in-35.is)
+
+pub returns-in-36 : goal.returns-in-36
+unfolding parts
+returns-in-36 c = c.in_wide_orders.ensures ∙ ap (λ part. slice_get (part_at part) c.args.number) (sym c.in-36.is)
+
+pub returns-in-37 : goal.returns-in-37
+unfolding parts
+returns-in-37 c = c.in_lane_opposites.ensures ∙ ap (λ part. slice_get (part_at part) c.args.number) (sym c.in-37.is)
+
+pub returns-in-38 : goal.returns-in-38
+unfolding parts
+returns-in-38 c = c.in_wide_opposites.ensures ∙ ap (λ part. slice_get (part_at part) c.args.number) (sym c.in-38.is)
+
+pub returns-in-39 : goal.returns-in-39
+unfolding parts
+returns-in-39 c = c.in_lane_complements.ensures ∙ ap (λ part. slice_get (part_at part) c.args.number) (sym c.in-39.is)
+
+pub returns-in-40 : goal.returns-in-40
+unfolding parts
+returns-in-40 c = c.in_wide_complements.ensures ∙ ap (λ part. slice_get (part_at part) c.args.number) (sym c.in-40.is)
+
+pub returns-in-41 : goal.returns-in-41
+unfolding parts
+returns-in-41 c = c.in_lane_bounds.ensures ∙ ap (λ part. slice_get (part_at part) c.args.number) (sym c.in-41.is)
+
+pub returns-in-42 : goal.returns-in-42
+unfolding parts
+returns-in-42 c = c.in_lane_repeats.ensures ∙ ap (λ part. slice_get (part_at part) c.args.number) (sym c.in-42.is)
+
+pub returns-in-43 : goal.returns-in-43
+unfolding parts
+returns-in-43 c = c.in_lane_choices.ensures ∙ ap (λ part. slice_get (part_at part) c.args.number) (sym c.in-43.is)
+
+pub returns-in-44 : goal.returns-in-44
+unfolding parts
+returns-in-44 c = c.in_lane_shifts.ensures ∙ ap (λ part. slice_get (part_at part) c.args.number) (sym c.in-44.is)
+
+pub returns-in-45 : goal.returns-in-45
+unfolding parts
+returns-in-45 c = c.in_lane_turns.ensures ∙ ap (λ part. slice_get (part_at part) c.args.number) (sym c.in-45.is)
+
+pub returns-in-46 : goal.returns-in-46
+unfolding parts
+returns-in-46 c = c.in_lane_floats.ensures ∙ ap (λ part. slice_get (part_at part) c.args.number) (sym c.in-46.is)
+
+pub returns-in-47 : goal.returns-in-47
+unfolding parts
+returns-in-47 c = c.in_lane_splats.ensures ∙ ap (λ part. slice_get (part_at part) c.args.number) (sym c.in-47.is)
+
+pub returns-in-48 : goal.returns-in-48
+unfolding parts
+returns-in-48 c = c.in_lane_bits.ensures ∙ ap (λ part. slice_get (part_at part) c.args.number) (sym c.in-48.is)
+
+pub returns-in-49 : goal.returns-in-49
+unfolding parts
+returns-in-49 c = c.in_splat_bits.ensures ∙ ap (λ part. slice_get (part_at part) c.args.number) (sym c.in-49.is)
+
+pub returns-in-50 : goal.returns-in-50
+unfolding parts
+returns-in-50 c = c.in_signed_lanes.ensures ∙ ap (λ part. slice_get (part_at part) c.args.number) (sym c.in-50.is)
+
+pub returns-in-51 : goal.returns-in-51
+unfolding parts
+returns-in-51 c = c.in_extended_lanes.ensures ∙ ap (λ part. slice_get (part_at part) c.args.number) (sym c.in-51.is)
+
+pub returns-in-52 : goal.returns-in-52
+unfolding parts
+returns-in-52 c = c.in_vector_decided.ensures ∙ ap (λ part. slice_get (part_at part) c.args.number) (sym c.in-52.is)
+
 pub returns-in_default : goal.returns-in_default
 returns-in_default c = elsewhere c.args.part c.args.number (omega arith)

@@ -2,7 +2,7 @@ use Rattle.wasm_module.proofs.OneLemmas.{one_module}
 use Rattle.wasm_module.proofs.laws.one_reading.Goals as goal
 
 pub returns : goal.returns
-returns c bytes info other layout place m n =
+returns c bytes info other layout place m n mark =
     one_module bytes info other layout place (record {
       types = c.one_list.ensures.types;
       imports = c.one_list.ensures.imports;
@@ -11,4 +11,4 @@ returns c bytes info other layout place m n =
       memories = c.one_list.ensures.memories;
       globals = c.one_list.ensures.globals;
       entries = c.one_list.ensures.entries;
-    }) (c.one_module.ensures bytes layout.sections place.sections m.spells n.spells) m n
+    }) (c.one_module.ensures bytes layout.sections place.sections m.spells n.spells) m n mark

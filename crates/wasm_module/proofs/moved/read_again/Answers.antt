@@ -1,5 +1,6 @@
-use Rattle.std.proofs.Common.{◌≡◌, sym, ap, subst, ◌∙◌, rules}
+use Rattle.std.proofs.Common.{◌≡◌, refl, sym, ap, subst, ◌∙◌, rules}
 use Rattle.std.proofs.lemmas.Option.{slice_get_within}
+use Rattle.wasm_types.specs.Module.{Module as Info}
 use Rattle.wasm_module.specs.declared.layout.Module.{Module as Whole}
 use Rattle.wasm_module.specs.Module.{Layout}
 use Rattle.wasm_module.specs.Reread.{IsMoving}
@@ -27,7 +28,7 @@ returns-then-own_globals-old-clause-memory c =
     let w = c.requires in
     let r = c.rewritten_bytes_are_a_module.ensures w.bytes (record c.args.old.info { input = w.bytes }) c.args.old.layout c.args.n w.contents w.more
     c.args.bytes.now w.is w.rewritten w.imports w.globals w.some in
-    err_of_match _ _ c.read_module.result (c.read_module.ensures.only _ r.again r.is)
+    err_of_match _ _ c.read_marked.result (c.read_marked.ensures.only _ r.again r.is (sym (ap (λ (z : Whole). z.info.exact) c.old.view_is)))
 
 pub move_layout-requires : goal.move_layout-requires
 move_layout-requires c =
@@ -72,3 +73,7 @@ returns-clause-read c =
     let same : r.again.own_globals ≡ c.args.old.layout.own_globals = sym own ∙ c.if-own_globals-old.false ∙ ap (λ (l : Layout). l.own_globals) view in
     read_along w.bytes c.args.bytes.now c.args.old.info c.args.old.layout c.args.n w.contents w.more r c.with_bytes.result c.move_layout.result same
     (c.with_bytes.ensures ∙ ap (λ (z : Whole). record z.info { input = c.args.bytes.now }) c.old.view_is) moved
+
+pub returns-clause-marked : goal.returns-clause-marked
+returns-clause-marked c =
+    ap (λ (i : Info). i.exact) (c.with_bytes.ensures ∙ ap (λ (z : Whole). record z.info { input = c.args.bytes.now }) c.old.view_is)
