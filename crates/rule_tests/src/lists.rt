@@ -1,6 +1,6 @@
 //! Every rewrite that there is of a body by rules, which operators they reach, and which rewrite words choose.
 
-use crate::notation::{LOCALS, body_of, fields_of, module_of};
+use crate::notation::{body_of, fields_of, locals, module_of};
 use body_rewrites::{Body, Growth, Rewrite, choose, reached_operators, rewrites_of_body, trees_of};
 use given_words::Words;
 use rewrite_rules::Rule;
@@ -91,10 +91,11 @@ fn is_list(
     let rules = rules_of(alloc, rules)?;
     let info = module_of(alloc)?;
     let operators = read_body(alloc, bytes.bytes(), 0, bytes.len())?;
-    let trees = trees_of(alloc, &LOCALS, &info, &operators)?;
+    let locals = locals();
+    let trees = trees_of(alloc, locals, &info, &operators)?;
     let body = Body {
         info: &info,
-        locals: &LOCALS,
+        locals,
         operators: &operators,
         trees: &trees,
     };
@@ -199,10 +200,11 @@ fn is_choice(
     let bytes = body_of(rt, alloc, text)?;
     let info = module_of(alloc)?;
     let operators = read_body(alloc, bytes.bytes(), 0, bytes.len())?;
-    let trees = trees_of(alloc, &LOCALS, &info, &operators)?;
+    let locals = locals();
+    let trees = trees_of(alloc, locals, &info, &operators)?;
     let body = Body {
         info: &info,
-        locals: &LOCALS,
+        locals,
         operators: &operators,
         trees: &trees,
     };

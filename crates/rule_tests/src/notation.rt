@@ -7,8 +7,8 @@ use std::test::Fail;
 use wasm_code::{Function, Imm, Instr, MemArg, Opcode, ValType, row_of};
 use wasm_types::{FuncInfo, MemoryType, ModuleInfo, PrimitiveTypeInfo, TypeInfo};
 
-/// The types of the function's parameters and locals.
-pub const LOCALS: [PrimitiveTypeInfo; 10] = [
+// The types of the function's parameters and locals.
+static LOCALS: [PrimitiveTypeInfo; 10] = [
     PrimitiveTypeInfo::I32,
     PrimitiveTypeInfo::I32,
     PrimitiveTypeInfo::I64,
@@ -20,6 +20,11 @@ pub const LOCALS: [PrimitiveTypeInfo; 10] = [
     PrimitiveTypeInfo::F64,
     PrimitiveTypeInfo::V128,
 ];
+
+/// The types of the function's parameters and locals.
+pub fn locals() -> &'static [PrimitiveTypeInfo] {
+    &LOCALS
+}
 
 /// The row of the instruction table that has the name.
 fn row_named(name: &str) -> Option<u16> {

@@ -3,7 +3,7 @@
 ghost use Rattle.body_splices.specs.OwnBytes.{IsBodyIn};
 ghost use Rattle.body_rewrites.specs.Places.{HasItsTrees};
 
-use crate::notation::{LOCALS, body_of, fields_of, module_of};
+use crate::notation::{body_of, fields_of, locals, module_of};
 use crate::rows::{EXACT_ROWS, ROWS};
 use body_rewrites::{Body, Rewrite, rewrite_body, trees_of};
 use peephole_machine::IntegerType;
@@ -114,7 +114,30 @@ fn made_of(
     Ok(list)
 }
 
-/// The same of a rule, a body and an operator by their texts, in a module that is exact or isn't.
+/// The same of the body with these bytes, in a module that is exact or isn't.
+fn made_in(
+    alloc: Global,
+    rules: &[u16],
+    rule: usize,
+    exact: bool,
+    bytes: &[u8],
+    operator: usize,
+) -> Result<Vec<Made>, Fail> {
+    let mut info = module_of(alloc)?;
+    info.exact = exact;
+    let operators = read_body(alloc, bytes, 0, bytes.len())?;
+    let locals = locals();
+    let trees = trees_of(alloc, locals, &info, &operators)?;
+    let body = Body {
+        info: &info,
+        locals,
+        operators: &operators,
+        trees: &trees,
+    };
+    made_of(alloc, rules, rule, &body, bytes, operator)
+}
+
+/// The same of a rule, a body and an operator by their texts.
 fn made_by(
     rt: &impl Abort,
     alloc: Global,
@@ -124,19 +147,15 @@ fn made_by(
 ) -> Result<Vec<Made>, Fail> {
     let [rule, body, operator] = fields;
     let text = body_of(rt, alloc, body)?;
-    let bytes = text.bytes();
-    let mut info = module_of(alloc)?;
-    info.exact = exact;
-    let operators = read_body(alloc, bytes, 0, bytes.len())?;
-    let trees = trees_of(alloc, &LOCALS, &info, &operators)?;
-    let body = Body {
-        info: &info,
-        locals: &LOCALS,
-        operators: &operators,
-        trees: &trees,
-    };
     let rule = table.number(rt, rule);
-    made_of(alloc, &table.rules, rule, &body, bytes, operator.parse()?)
+    made_in(
+        alloc,
+        &table.rules,
+        rule,
+        exact,
+        text.bytes(),
+        operator.parse()?,
+    )
 }
 
 /// Whether the rule makes of the operator what the line says, in a module that is exact or isn't, and as many rewrites there as `count`.
