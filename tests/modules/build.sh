@@ -25,6 +25,14 @@ machine: -O2 -Wl,--strip-all
 plain: -O0 -Wl,--strip-all
 shapes: -O2 -Wl,--strip-all
 shapes_plain: -O0 -Wl,--strip-all
+signals: -O2 -msimd128 -Wl,--strip-all
+matrices: -O3 -msimd128 -Wl,--strip-all
+pixels: -O2 -msimd128 -Wl,--strip-all
+sums: -O2 -msimd128 -Wl,--strip-all
+bodies: -O1 -msimd128 -Wl,--strip-all
+meshes: -O2 -msimd128 -Wl,--strip-all
+packing: -O1 -msimd128 -Wl,--strip-all
+noise: -O2 -msimd128 -Wl,--strip-all
 outside:
 shared:
 patterns:
