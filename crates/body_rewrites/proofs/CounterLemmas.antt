@@ -10,8 +10,6 @@ use Rattle.peephole_machine.specs.declared.integer.IntegerType.{IntegerType}
 use Rattle.peephole_machine.specs.declared.integer.IntegerType.TheVariants as integer
 use Rattle.peephole_machine.specs.Values.{Context, type_of, same_type}
 use Rattle.rewrite_rules.specs.declared.table.Row.{Row}
-use Rattle.rewrite_rules.specs.declared.table.Widths.{Widths}
-use Rattle.rewrite_rules.specs.declared.table.Widths.TheVariants as widths
 use Rattle.rewrite_rules.specs.Applying.{ExactRowsAreTold}
 use Rattle.rewrite_rules.specs.Holes.{HolesAreTold}
 use Rattle.rewrite_rules.specs.Laws.{TableIsRight}
@@ -26,7 +24,7 @@ use Rattle.body_rewrites.specs.declared.found.Found.{Found}
 use Rattle.body_rewrites.specs.declared.growth.Growth.TheVariants.{Grows}
 use Rattle.body_rewrites.specs.declared.rewrite.Rewrite.{Rewrite}
 use Rattle.body_rewrites.specs.declared.trees.Tree.{Tree}
-use Rattle.body_rewrites.specs.Alone.{form_by, takes, alone_growth}
+use Rattle.body_rewrites.specs.Alone.{takes, alone_growth}
 use Rattle.body_rewrites.specs.Asking.{all_asked, by_form, is_candidate, candidates, rewrite_of, rewrites_of, IsAskedSo}
 use Rattle.body_rewrites.specs.Counting.{sample, slot_of, slot_in, is_slot, is_in_slot, AddsCounts, count_in, CountsFound, by_alone, alone_slot, alone_slots, slots_in, of_tree}
 use Rattle.body_rewrites.specs.Listing.{HasGrowth, AreFound, found_as}
@@ -37,9 +35,9 @@ use Rattle.body_rewrites.specs.Trees.{IsTree, HasTree, IsTreeAt, TreesLeave}
 use Rattle.body_rewrites.proofs.StandsLemmas.{Operators}
 use Rattle.body_rewrites.proofs.AloneLineLemmas.{alone_some, alone_none}
 use Rattle.body_rewrites.proofs.AskingLemmas.{rewrites_are, is_asked}
-use Rattle.body_rewrites.proofs.FormLemmas.{form_alone, is_line, made_by, IsNotOwn}
+use Rattle.body_rewrites.proofs.ExactnessLemmas.{exact_nothing}
+use Rattle.body_rewrites.proofs.FormLemmas.{form_alone, is_line}
 use Rattle.body_rewrites.proofs.ListingLemmas.{line_nothing}
-use Rattle.body_rewrites.proofs.PlaceLemmas.{formed}
 use Rattle.body_rewrites.proofs.RootLemmas.{makes_fits}
 
 -- ---- trees that are alike
@@ -189,14 +187,6 @@ candidate_apart exact class tree a (Own o) b e = refl
 candidate_apart exact class tree a (Alone d) b e = absurd (false≢true e)
 candidate_apart exact class tree a Other b e = refl
 
--- a line is none of a rule beside the table
-not_own : (row : Row) (w : Widths) → Other ≡ form_by row w → IsNotOwn w
-not_own row widths.Both e = tt
-not_own row (widths.Only t) e = tt
-not_own row widths.Any e = tt
-not_own row (widths.Operands a b c) e = tt
-not_own row (widths.Own o) e = absurd cc
-
 -- it isn't ready, or may not stand there
 not_ready : (exact needs fits : Bool) → ((exact || not needs) && fits) ≡ false → ((exact ≡ false) × (needs ≡ true)) ⊎ (fits ≡ false)
 not_ready true needs fits e = inr e
@@ -221,22 +211,11 @@ module _ (types : TypesAreTold) (holes_are : HolesAreTold) (right : TableIsRight
       line_nothing context operators at a.number a.line is.line
       (λ change made. false≢true (sym off ∙ (ap (fits class true) is.root_is ∙ makes_fits context operators at class is_class true tt a.line change made)))
 
-  -- one on exact rows makes nothing where what runs the module isn't exact
-  exact_nothing : (a : Asked) → IsAskedSo a → a.form ≡ Other → needs_exact a.line.row ≡ true → context.info.exact ≡ false →
-      IsMade context operators (rewrite_of at a) → ⊥
-  exact_nothing a is form needs off =
-      let own = not_own a.line.row a.line.row.widths (sym form ∙ is.form_is) in
-      let line = is_line a.number a.line is.line own in
-      line_nothing context operators at a.number a.line is.line
-      (λ change made.
-      let so = made_by context operators a.line at change a.line.row.widths own made in
-      false≢true (sym off ∙ so.is.is.applies.exact (exacts a.line.row a.line.width (formed right a.line line) ∙ needs)))
-
   module _ (exact : Bool) (exact_is : exact ≡ context.info.exact) (class : ℕ) (is_class : IsClassAt operators at class) where
     other_apart : (a : Asked) → IsAskedSo a → a.form ≡ Other → by_form exact a.line.row Other (fits class true a.root) ≡ false →
         IsMade context operators (rewrite_of at a) → ⊥
     other_apart a is form off made = elim (not_ready exact (needs_exact a.line.row) (fits class true a.root) off) [
-      | inl h ↦ exact_nothing a is form h.1 (sym exact_is ∙ h.0) made
+      | inl h ↦ exact_nothing right exacts context operators at a is form h.1 (sym exact_is ∙ h.0) made
       | inr h ↦ other_nothing class is_class a is h made
     ]
 

@@ -1,8 +1,8 @@
 -- Words that choose a rewrite.
-use Rattle.std.proofs.Common.{◌≡◌, ◌⊎◌, ℕ, zero, suc, ◌+◌, ◌*◌, ◌%◌, ◌^◌, ◌<◌, ◌≤◌, inl, inr, List, [], ◌∷◌, ◌++◌, length, drop, map, Some, option_map, refl, sym, ap, ap₂, subst, ◌∙◌, arith}
-use Rattle.std.specs.Prelude.{◌-◌, Contains, slice_get, slice_range}
+use Rattle.std.proofs.Common.{◌≡◌, ◌⊎◌, ℕ, zero, suc, ◌+◌, ◌*◌, ◌%◌, ◌^◌, ◌<◌, inl, inr, List, [], ◌∷◌, ◌++◌, length, map, Some, option_map, refl, sym, ap, ap₂, subst, ◌∙◌, arith}
+use Rattle.std.specs.Prelude.{◌-◌, Contains, slice_get}
 use Rattle.std.proofs.lemmas.Bool.{cases_eq}
-use Rattle.std.proofs.lemmas.List.{length-append, length-drop, length-map, length-take}
+use Rattle.std.proofs.lemmas.List.{length-append, length-map}
 use Rattle.std.proofs.lemmas.List.Elements.{Contains-append_left, Contains-append_right}
 use Rattle.std.proofs.lemmas.Nat.{mod-mul-add}
 use Rattle.std.proofs.lemmas.Option.{get_or_from_slice_get, slice_get_within, slice_get-map, same_Some}
@@ -15,7 +15,7 @@ use Rattle.peephole_machine.specs.Values.{Context}
 use Rattle.rewrite_rules.specs.declared.rule.Rule.{Rule}
 use Rattle.rewrite_rules.specs.declared.pattern.Operator.TheVariants.{Whole}
 use Rattle.rewrite_rules.specs.declared.table.Own.{Own}
-use Rattle.rewrite_rules.specs.declared.table.Own.TheVariants.{Unfold, ThroughGlobal, WithNop, Fold, Forget, TeeToSet, DropNop, SetToTee}
+use Rattle.rewrite_rules.specs.declared.table.Own.TheVariants.{Unfold, ThroughGlobal, WithNop, Fold, Forget, TeeToSet, DropNop, SetToTee, Access as Accesses}
 use Rattle.rewrite_rules.specs.declared.table.Row.{Row}
 use Rattle.rewrite_rules.specs.declared.table.Widths.{Widths}
 use Rattle.rewrite_rules.specs.declared.table.Widths.TheVariants as widths
@@ -30,12 +30,12 @@ use Rattle.body_rewrites.specs.declared.rewrite.Rewrite.{Rewrite}
 use Rattle.body_rewrites.specs.Changes.{Change}
 use Rattle.body_rewrites.specs.Open.{HasInstruction}
 use Rattle.body_rewrites.specs.Own.{Rewrites}
-use Rattle.body_rewrites.specs.Trees.{Stands}
 use Rattle.body_rewrites.specs.Rewrites.{MakesBy, IsMade, asked_widths, by_rows, asked_below}
 use Rattle.body_rewrites.specs.Listing.{AreThose, IsWantedBy}
 use Rattle.body_rewrites.specs.Choice.{Draws, IsOf, IsOpen, HasOpen, Chooses, after_word}
 use Rattle.body_rewrites.specs.HasWords.{HasWords}
 use Rattle.body_rewrites.specs.ThoseLemmas.{contained_cases, those_bounded, those_same}
+use Rattle.body_rewrites.proofs.AccessLemmas.{access_inside, stands_inside}
 use Rattle.body_rewrites.proofs.CountingLemmas.{asked_few}
 
 within : (i n : ℕ) → i < n → i % n ≡ i
@@ -84,16 +84,6 @@ has_inside operators at i h =
     let size = length-map operators (λ (o : Operator × ℕ). o.0) in
     omega arith
 
-stands_inside : (operators : List (Operator × ℕ)) (start at : ℕ) (code : List Instruction) → Stands operators start (at + 1) code → 0 < length code →
-    start ≤ at → at + 1 - start ≤ length code → at < length operators
-stands_inside operators start at code h some ordered long =
-    let left = length-map (slice_range operators start (at + 1)) (λ (o : Operator × ℕ). o.0) in
-    let right = length-map code (λ (i : Instruction). Instr i) in
-    let same = ap length h in
-    let taken = length-take (at + 1 - start) (drop start operators) in
-    let dropped = length-drop start operators in
-    omega arith
-
 own_inside : (context : Context) (operators : List (Operator × ℕ)) (at : ℕ) (own : Own) (start : ℕ) (m : Made) → Rewrites context operators own start at m →
     at < length operators
 own_inside context operators at Unfold start (made.Sum t n) (e, c) = has_inside operators at (constant_code t n) c.has
@@ -109,6 +99,7 @@ own_inside context operators at Forget start made.Nothing f = has_inside operato
 own_inside context operators at TeeToSet start (made.SetAndGet n) (e, h) = has_inside operators at (tee_local n) h
 own_inside context operators at DropNop start made.Nothing (e, h) = has_inside operators at nop_code h
 own_inside context operators at SetToTee start (made.Tee n) (e, h, k) = has_inside operators at (get_local n) k
+own_inside context operators at (Accesses n) start (made.Access a w) f = access_inside context operators n start at a w f
 own_inside context operators at own start m h = absurd h
 
 makes_inside : (context : Context) (operators : List (Operator × ℕ)) (line : Line) (at : ℕ) (change : Change) (w : Widths) →

@@ -23,7 +23,9 @@ pub mod ChangedLemmas
 pub mod OperationCodeLemmas
 pub mod OwnRowLemmas
 pub mod OwnStandLemmas
+pub mod AccessLemmas
 pub mod OwnAloneLemmas
+pub mod OwnAccessLemmas
 pub mod MadeLemmas
 pub mod DifferingLemmas
 pub mod LineMakingLemmas
@@ -42,5 +44,6 @@ pub mod ChoiceLemmas
 pub mod HasWordsLemmas
 pub mod RootLemmas
 pub mod AskingLemmas
+pub mod ExactnessLemmas
 pub mod CounterLemmas
 pub mod ToldGrowthLemmas

@@ -14,7 +14,7 @@ use Rattle.body_splices.specs.Splice.{IsRangeIn}
 use Rattle.peephole_machine.specs.declared.integer.IntegerType.{IntegerType}
 use Rattle.peephole_machine.specs.Values.{Context}
 use Rattle.rewrite_rules.specs.declared.table.Own.{Own}
-use Rattle.rewrite_rules.specs.declared.table.Own.TheVariants.{Unfold, ThroughGlobal, WithNop, Fold, Forget, TeeToSet, DropNop, SetToTee}
+use Rattle.rewrite_rules.specs.declared.table.Own.TheVariants.{Unfold, ThroughGlobal, WithNop, Fold, Forget, TeeToSet, DropNop, SetToTee, Access as Accesses}
 use Rattle.rewrite_rules.specs.declared.table.Widths.{Widths}
 use Rattle.rewrite_rules.specs.declared.table.Widths.TheVariants as widths
 use Rattle.rewrite_rules.specs.Beside.{constants}
@@ -34,6 +34,7 @@ use Rattle.body_rewrites.specs.LineChanges.{LineChangesMayStand}
 use Rattle.body_rewrites.specs.Rewrites.{IsLineChange, asked_widths, MakesBy, IsAsked, IsLineOf}
 use Rattle.body_rewrites.specs.declared.rewrite.Rewrite.{Rewrite}
 use Rattle.body_rewrites.specs.MadeLaws.{ChangesMayStand}
+use Rattle.body_rewrites.proofs.AccessLemmas.{access_inside}
 use Rattle.body_rewrites.proofs.StandsLemmas.{Operators}
 use Rattle.body_rewrites.proofs.MatchingLemmas.{entry_in, one_there}
 use Rattle.body_rewrites.proofs.PlaceLemmas.{one_place_of}
@@ -97,6 +98,7 @@ own_inside context operators Forget start at made.Nothing f = instruction_inside
 own_inside context operators TeeToSet start at (made.SetAndGet n) (e, h) = instruction_inside operators at _ h
 own_inside context operators DropNop start at made.Nothing (e, h) = instruction_inside operators at _ h
 own_inside context operators SetToTee start at (made.Tee n) (e, h, g) = instruction_inside operators at _ g
+own_inside context operators (Accesses n) start at (made.Access a w) f = access_inside context operators n start at a w f
 own_inside context operators own start at m r = absurd r
 
 line_inside : (context : Context) (operators : Operators) (line : Line) (at : ℕ) (change : Change) → IsLineChange context operators line at change →

@@ -21,7 +21,7 @@ use Rattle.rewrite_rules.specs.Numbers.{low}
 use Rattle.rewrite_rules.specs.Instance.{constant_code, operator_code}
 use Rattle.rewrite_rules.specs.Beside.{constants, left_by}
 use Rattle.rewrite_rules.specs.declared.table.Own.{Own}
-use Rattle.rewrite_rules.specs.declared.table.Own.TheVariants.{Unfold, ThroughGlobal, WithNop, Fold, Forget, TeeToSet, DropNop, SetToTee}
+use Rattle.rewrite_rules.specs.declared.table.Own.TheVariants.{Unfold, ThroughGlobal, WithNop, Fold, Forget, TeeToSet, DropNop, SetToTee, Access as Accesses}
 use Rattle.body_rewrites.specs.declared.own.Made.{Made}
 use Rattle.body_rewrites.specs.declared.own.Made.TheVariants as made
 use Rattle.body_rewrites.specs.Trees.{Stands, IsTree, tree_after}
@@ -29,6 +29,7 @@ use Rattle.body_rewrites.specs.Open.{HasInstruction}
 use Rattle.body_rewrites.specs.Matching.{number_in}
 use Rattle.body_rewrites.specs.Changes.{Change}
 use Rattle.body_rewrites.specs.Own.{IsFolded, Rewrites, change_of, IsOwnChange}
+use Rattle.body_rewrites.proofs.AccessLemmas.{one_access}
 use Rattle.body_rewrites.proofs.StandsLemmas.{Operators}
 use Rattle.body_rewrites.proofs.AloneLemmas.{one_code}
 use Rattle.body_rewrites.proofs.CutLemmas.{one_start}
@@ -182,6 +183,10 @@ module _ (context : Context) (operators : Operators) where
   one_site DropNop s k at made.Nothing l r q = absurd q
   one_site SetToTee s k at (made.Tee n) (made.Tee o) (e, a, x) (f, b, y) = (omega arith, ap (λ n. made.Tee n) (same_index at n o 4 x y))
   one_site SetToTee s k at (made.Tee n) l r q = absurd q
+  one_site (Accesses n) s k at (made.Access a w) (made.Access b v) f g =
+      let (e, x, y) = one_access context operators n s k at a b w v f g in
+      (e, ap₂ (λ a w. made.Access a w) x y)
+  one_site (Accesses n) s k at (made.Access a w) l r q = absurd q
   one_site own s k at m l r q = absurd r
 
   pub one_change : (at : ℕ) (own : Own) (change other : Change) → IsOwnChange context operators own at change → IsOwnChange context operators own at other →

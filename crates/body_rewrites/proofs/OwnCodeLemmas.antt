@@ -1,19 +1,30 @@
 -- What is written is what is made, and there is nothing else to make.
 use Rattle.std.proofs.Common.{ℕ, zero, suc, ◌<◌, ◌≤◌, [], ◌∷◌, length, refl, arith}
+use Rattle.std.specs.Prelude.{IfNone, Option, Some, None}
 use Rattle.wasm_code.specs.Instruction.{Instruction}
+use Rattle.wasm_code.specs.declared.immediate.Imm.{Imm}
 use Rattle.peephole_machine.specs.Values.{Context}
+use Rattle.peephole_machine.specs.declared.integer.IntegerType.{IntegerType}
+use Rattle.peephole_machine.specs.declared.integer.IntegerType.TheVariants as integer
+use Rattle.rewrite_rules.specs.declared.access.AccessKind.{AccessKind}
+use Rattle.rewrite_rules.specs.declared.access.AccessKind.TheVariants.{Load, Store, Constant}
+use Rattle.rewrite_rules.specs.declared.access.Conversion.{Conversion}
+use Rattle.rewrite_rules.specs.declared.access.Conversion.TheVariants.{Nothing, By, With}
+use Rattle.rewrite_rules.specs.Access.{AccessesAreFormed, IsFormedConversion, IsOfRow, side_code}
 use Rattle.rewrite_rules.specs.Instance.{constant_code}
 use Rattle.rewrite_rules.specs.Beside.{nop_code, drop_code, get_local, tee_local}
 use Rattle.body_rewrites.specs.declared.changes.NewCode.{NewCode}
 use Rattle.rewrite_rules.specs.declared.table.Own.{Own}
-use Rattle.rewrite_rules.specs.declared.table.Own.TheVariants.{Unfold, ThroughGlobal, WithNop, Fold, Forget, TeeToSet, DropNop, SetToTee}
+use Rattle.rewrite_rules.specs.declared.table.Own.TheVariants.{Unfold, ThroughGlobal, WithNop, Fold, Forget, TeeToSet, DropNop, SetToTee, Access as Accesses}
 use Rattle.body_rewrites.specs.declared.own.Made.{Made}
 use Rattle.body_rewrites.specs.declared.own.Made.TheVariants as made
 use Rattle.body_rewrites.specs.declared.own.Site.{Site}
 use Rattle.body_rewrites.specs.Open.{HasInstruction}
 use Rattle.body_rewrites.specs.Changes.{Change, IsWritten}
 use Rattle.body_rewrites.specs.Own.{Rewrites, made_pieces, made_asks, change_of, IsOwnChange}
-use Rattle.body_rewrites.specs.OwnSites.{IsCode}
+use Rattle.body_rewrites.specs.OwnSites.{AreOfRows, IsCode, IsWritable}
+use Rattle.body_rewrites.proofs.AccessLemmas.{access_inside}
+use Rattle.body_rewrites.proofs.OwnRowLemmas.{i32_const_row, i64_const_row}
 use Rattle.body_rewrites.proofs.StandsLemmas.{Operators}
 use Rattle.body_rewrites.proofs.OwnAloneLemmas.{folded_at}
 
@@ -32,6 +43,7 @@ module _ (context : Context) (operators : Operators) (at : ℕ) where
   within TeeToSet start (made.SetAndGet n) (e, h) = inside operators at (tee_local n) h
   within DropNop start made.Nothing (e, h) = inside operators at nop_code h
   within SetToTee start (made.Tee n) (e, h, g) = inside operators at (get_local n) g
+  within (Accesses n) start (made.Access a w) f = access_inside context operators n start at a w f
   within own start m r = absurd r
 
   pub none_behind : length operators ≤ at → (own : Own) (change : Change) → IsOwnChange context operators own at change → ⊥
@@ -45,3 +57,46 @@ module _ (context : Context) (operators : Operators) (at : ℕ) where
     record { site = site; rewrites = r; is = refl },
     record { start_is = is.start_is; pieces_are = is.pieces_are; asks_are = is.asks_are },
   )
+
+-- ---- what is made is written
+
+constant_fits : (t : IntegerType) (n : ℕ) → IsOfRow (constant_code t n).row (constant_code t n).imm
+constant_fits integer.I32 n = i32_const_row _
+constant_fits integer.I64 n = i64_const_row _
+
+side_fits : (kind : AccessKind) (row : ℕ) (c : Conversion) (m : Imm) → IsOfRow row m → IsFormedConversion c →
+    AreOfRows (side_code kind (record { row = row; conversion = c }) m)
+side_fits Load row Nothing m h g = (h, tt)
+side_fits Constant row Nothing m h g = (h, tt)
+side_fits Load row (By o) m h g = (h, (g, tt))
+side_fits Constant row (By o) m h g = (h, (g, tt))
+side_fits Load row (With t n o) m h g = (h, (constant_fits t n, (g, tt)))
+side_fits Constant row (With t n o) m h g = (h, (constant_fits t n, (g, tt)))
+side_fits Store row Nothing m h g = (h, tt)
+side_fits Store row (By o) m h g = (g, (h, tt))
+side_fits Store row (With t n o) m h g = (constant_fits t n, (g, (h, tt)))
+
+module _ (formed : AccessesAreFormed) (context : Context) (operators : Operators) (at : ℕ) where
+  pub is_writable : (own : Own) (start : ℕ) (m : Made) → Rewrites context operators own start at m → IsWritable m
+  is_writable (Accesses n) start (made.Access a w) f =
+      let h = formed n a f.listed in
+      side_fits a.kind a.right.row a.right.conversion w (h.right_row f.immediate w f.written_is f.fits.kind) h.right_operators
+  is_writable Unfold start (made.Access a w) r = absurd r
+  is_writable ThroughGlobal start (made.Access a w) r = absurd r
+  is_writable WithNop start (made.Access a w) r = absurd r
+  is_writable Fold start (made.Access a w) r = absurd r
+  is_writable Forget start (made.Access a w) r = absurd r
+  is_writable TeeToSet start (made.Access a w) r = absurd r
+  is_writable DropNop start (made.Access a w) r = absurd r
+  is_writable SetToTee start (made.Access a w) r = absurd r
+  is_writable own start made.Nothing r = tt
+  is_writable own start (made.Constant t n) r = tt
+  is_writable own start (made.Sum t n) r = tt
+  is_writable own start made.Nop r = tt
+  is_writable own start (made.Global t g) r = tt
+  is_writable own start (made.SetAndGet n) r = tt
+  is_writable own start (made.Tee n) r = tt
+
+pub if_none : {A : Type 0} (o : Option A) (P Q : Type 0) → (P → Q) → IfNone o P → IfNone o Q
+if_none (Some x) P Q f h = tt
+if_none None P Q f h = f h

@@ -1,27 +1,55 @@
 -- What rules beside the table do to the number of operators.
-use Rattle.std.proofs.Common.{◌≡◌, ℕ, ◌+◌, ◌-◌, ◌<◌, inl, inr, List, [], ◌∷◌, ◌++◌, length, take, drop, refl, sym, ap, ◌∙◌, arith}
-use Rattle.std.specs.Prelude.{slice_range}
+use Rattle.std.proofs.Common.{◌≡◌, ℕ, suc, ◌+◌, ◌-◌, ◌<◌, inl, inr, List, [], ◌∷◌, ◌++◌, length, take, drop, refl, sym, ap, subst, ◌∙◌, arith}
+use Rattle.std.specs.Prelude.{◌==◌, nat_lt, if◌then◌else◌, slice_range}
+use Rattle.std.proofs.lemmas.Bool.{cases_eq, cases_lt, eq-eqb, le-ltb, lt-ltb, ne_eqb}
 use Rattle.std.proofs.lemmas.List.{drop-map, take-map, length-append}
+use Rattle.wasm_code.specs.Instruction.{Instruction}
 use Rattle.wasm_code.specs.declared.operator.Operator.{Operator}
 use Rattle.body_splices.specs.OwnBytes.{without_offsets}
 use Rattle.body_splices.specs.Laws.{pieces_operators}
 use Rattle.peephole_machine.specs.Values.{Context}
+use Rattle.rewrite_rules.specs.declared.growth.Growth.TheVariants as rows
+use Rattle.rewrite_rules.specs.Access.{conversion_size, right_code}
 use Rattle.rewrite_rules.specs.Beside.{get_global, set_global}
 use Rattle.rewrite_rules.specs.declared.table.Own.{Own}
-use Rattle.rewrite_rules.specs.declared.table.Own.TheVariants.{Unfold, ThroughGlobal, WithNop, Fold, Forget, TeeToSet, DropNop, SetToTee}
+use Rattle.rewrite_rules.specs.declared.table.Own.TheVariants.{Unfold, ThroughGlobal, WithNop, Fold, Forget, TeeToSet, DropNop, SetToTee, Access as Accesses}
 use Rattle.body_rewrites.specs.declared.own.Made.{Made}
 use Rattle.body_rewrites.specs.declared.own.Made.TheVariants as made
 use Rattle.body_rewrites.specs.declared.own.Site.{Site}
 use Rattle.body_rewrites.specs.Changes.{Change}
 use Rattle.body_rewrites.specs.Growth.{IsGrowth, HasGrowth}
 use Rattle.body_rewrites.specs.Own.{Rewrites, new, made_pieces, change_of, IsOwnChange}
-use Rattle.body_rewrites.specs.OwnSites.{growth_of}
+use Rattle.body_rewrites.specs.OwnSites.{growth_of, in_bodies}
+use Rattle.body_rewrites.proofs.AccessLemmas.{access_start, side_size}
 use Rattle.body_rewrites.proofs.StandsLemmas.{Operators}
 use Rattle.body_rewrites.proofs.MatchingLemmas.{length_in}
 use Rattle.body_rewrites.proofs.OperationCodeLemmas.{takes}
 use Rattle.body_rewrites.proofs.OwnAloneLemmas.{count_left}
 
+-- the growth of a row is so in bodies
+grows_so : (left right new old : ℕ) → new ≡ right + 1 → old ≡ left + 1 →
+    IsGrowth (in_bodies (if nat_lt right left then rows.Shrinks else (if right == left then rows.Keeps else rows.Grows))) new old
+grows_so left right new old e f = elim (cases_lt right left) [
+  | inl less ↦
+      subst (λ b. IsGrowth (in_bodies (if b then rows.Shrinks else (if right == left then rows.Keeps else rows.Grows))) new old)
+      (sym (lt-ltb right left less)) (let l : new < old = omega (arith, e, f, less) in l)
+  | inr high ↦
+      subst (λ b. IsGrowth (in_bodies (if b then rows.Shrinks else (if right == left then rows.Keeps else rows.Grows))) new old)
+      (sym (le-ltb right left high)) (elim (cases_eq right left) [
+        | inl same ↦
+            subst (λ b. IsGrowth (in_bodies (if b then rows.Keeps else rows.Grows)) new old) (sym (eq-eqb right left same))
+            (let s : new ≡ old = omega (arith, e, f, same) in s)
+        | inr other ↦
+            subst (λ b. IsGrowth (in_bodies (if b then rows.Keeps else rows.Grows)) new old) (sym (ne_eqb right left other))
+            (let l : old < new = omega (arith, e, f, high, other) in l)
+      ])
+]
+
 module _ (context : Context) (operators : Operators) (at : ℕ) where
+  new_count : (code : List Instruction) → length (pieces_operators (without_offsets operators) (new code)) ≡ length code
+  new_count [] = refl
+  new_count (i ∷ code) = ap suc (new_count code)
+
   -- as many operators are kept as the tree has
   kept_count : (start : ℕ) (more : List Operator) → at < length operators →
       length (slice_range (without_offsets operators) start (at + 1) ++ more) ≡ at + 1 - start + length more
@@ -53,6 +81,11 @@ module _ (context : Context) (operators : Operators) (at : ℕ) where
   growth_at TeeToSet start (made.SetAndGet n) (e, h) word = (let l : at + 1 - start < 2 = omega (arith, e) in l)
   growth_at DropNop start made.Nothing (e, h) word = (let l : 0 < at + 1 - start = omega (arith, e) in l)
   growth_at SetToTee start (made.Tee n) (e, h, g) word = (let l : 1 < at + 1 - start = omega (arith, e) in l)
+  growth_at (Accesses n) start (made.Access a w) f word =
+      let begins = access_start context operators n start at a w f in
+      let count = new_count (right_code a w) in
+      let size = side_size a.kind a.right.row a.right.conversion w in
+      grows_so (conversion_size a.left.conversion) (conversion_size a.right.conversion) _ (at + 1 - start) (count ∙ size) (omega (arith, begins))
   growth_at own start m r word = absurd r
 
   pub is_growing : (own : Own) (site : Site) → Rewrites context operators own site.start at site.made →

@@ -13,10 +13,11 @@ use Rattle.body_splices.specs.Splice.{IsPieceIn}
 use Rattle.body_splices.specs.Laws.{pieces_operators, KeepsInstructions}
 use Rattle.peephole_machine.specs.Values.{Context}
 use Rattle.rewrite_rules.specs.declared.pattern.Operator.TheVariants.{Whole}
+use Rattle.rewrite_rules.specs.Access.{left_code, right_code}
 use Rattle.rewrite_rules.specs.Instance.{constant_code, operator_code}
 use Rattle.rewrite_rules.specs.Beside.{StandsWith, BesidesKeepCode, nop_code, drop_code, get_local, set_local, tee_local, get_global, set_global, constants, sum_code}
 use Rattle.rewrite_rules.specs.declared.table.Own.{Own}
-use Rattle.rewrite_rules.specs.declared.table.Own.TheVariants.{Unfold, ThroughGlobal, WithNop, Fold, Forget, TeeToSet, DropNop, SetToTee}
+use Rattle.rewrite_rules.specs.declared.table.Own.TheVariants.{Unfold, ThroughGlobal, WithNop, Fold, Forget, TeeToSet, DropNop, SetToTee, Access as Accesses}
 use Rattle.body_rewrites.specs.declared.own.Made.{Made}
 use Rattle.body_rewrites.specs.declared.own.Made.TheVariants as made
 use Rattle.body_rewrites.specs.Trees.{Stands}
@@ -24,6 +25,7 @@ use Rattle.body_rewrites.specs.Open.{HasInstruction}
 use Rattle.body_rewrites.specs.Matching.{instructions}
 use Rattle.body_rewrites.specs.Changes.{Change, pieces_code, MayStand}
 use Rattle.body_rewrites.specs.Own.{Rewrites, new, made_pieces, made_asks, change_of, IsOwnChange}
+use Rattle.body_rewrites.proofs.AccessLemmas.{access_start}
 use Rattle.body_rewrites.proofs.StandsLemmas.{Operators, stands_nothing, stands_snoc}
 use Rattle.body_rewrites.proofs.LeavesLemmas.{trees_leave}
 
@@ -44,6 +46,10 @@ new_keep : (operators : Operators) (code : List Instruction) → All (KeepsInstr
 new_keep operators [] = All-nil (KeepsInstructions operators)
 new_keep operators (i ∷ code) = All-cons (KeepsInstructions operators) (New i) (new code) tt (new_keep operators code)
 
+new_back : (operators : Operators) (code : List Instruction) → pieces_code operators (new code) ≡ code
+new_back operators [] = refl
+new_back operators (i ∷ code) = ap (λ is. i ∷ is) (new_back operators code)
+
 -- the operators that are kept
 kept_are : (operators : Operators) (start end : ℕ) (code : List Instruction) → Stands operators start end code →
     slice_range (without_offsets operators) start end ≡ map instr_of code
@@ -60,6 +66,7 @@ made_code old made.Nop word = nop_code ∷ old
 made_code old (made.Global t g) word = old ++ set_global g ∷ get_global g ∷ []
 made_code old (made.SetAndGet n) word = set_local n ∷ get_local n ∷ []
 made_code old (made.Tee n) word = tee_local n ∷ []
+made_code old (made.Access a w) word = right_code a w
 
 module _ (operators : Operators) (start at : ℕ) (old : List Instruction) (ordered : start ≤ at) (stands : Stands operators start (at + 1) old) where
   kept_back : (os : List Operator) → instructions (slice_range (without_offsets operators) start (at + 1) ++ os) ≡ old ++ instructions os
@@ -74,6 +81,7 @@ module _ (operators : Operators) (start at : ℕ) (old : List Instruction) (orde
       kept_back (pieces_operators (without_offsets operators) (new (set_global g ∷ get_global g ∷ [])))
   written_is (made.SetAndGet n) word = refl
   written_is (made.Tee n) word = refl
+  written_is (made.Access a w) word = new_back operators (right_code a w)
 
   within_is : (m : Made) (word : ℕ) → at + 1 < length operators → All (IsPieceIn operators) (made_pieces start at m word)
   within_is made.Nothing word l = All-nil (IsPieceIn operators)
@@ -87,6 +95,7 @@ module _ (operators : Operators) (start at : ℕ) (old : List Instruction) (orde
       (new_within operators (set_global g ∷ get_global g ∷ []))
   within_is (made.SetAndGet n) word l = new_within operators (set_local n ∷ get_local n ∷ [])
   within_is (made.Tee n) word l = new_within operators (tee_local n ∷ [])
+  within_is (made.Access a w) word l = new_within operators (right_code a w)
 
   keep_is : (m : Made) (word : ℕ) → All (KeepsInstructions operators) (made_pieces start at m word)
   keep_is made.Nothing word = All-nil (KeepsInstructions operators)
@@ -100,6 +109,7 @@ module _ (operators : Operators) (start at : ℕ) (old : List Instruction) (orde
       (new_keep operators (set_global g ∷ get_global g ∷ []))
   keep_is (made.SetAndGet n) word = new_keep operators (set_local n ∷ get_local n ∷ [])
   keep_is (made.Tee n) word = new_keep operators (tee_local n ∷ [])
+  keep_is (made.Access a w) word = new_keep operators (right_code a w)
 
   made_stands : (context : Context) (m : Made) → ((word : ℕ) → StandsWith context (made_asks m) old (made_code old m word)) →
       MayStand context operators at (change_of at (record { start = start; made = m }))
@@ -154,6 +164,10 @@ module _ (laws : BesidesKeepCode) (context : Context) (operators : Operators) (a
       (stands_snoc operators start at (set_local n ∷ []) (get_local n) (omega arith) g
       (subst (λ k. Stands operators start k (set_local n ∷ [])) e (one_here operators start (set_local n) h)))
       context (made.Tee n) (λ word. laws.set_to_tee context n)
+  stand_at (Accesses n) start (made.Access a w) f =
+      let begins = access_start context operators n start at a w f in
+      made_stands operators start at (left_code a f.immediate) (omega arith) f.stands context (made.Access a w)
+      (λ word. laws.access context n a f.immediate w f.exact f.listed f.fits f.written_is)
   stand_at own start m r = absurd r
 
   pub stand : (own : Own) (change : Change) → IsOwnChange context operators own at change → MayStand context operators at change

@@ -3,6 +3,7 @@ use Rattle.std.proofs.Common.{◌≡◌, ℕ, suc, ◌+◌, ◌≤◌, Bool, tru
 use Rattle.std.specs.Prelude.{◌&&◌, nat_le, nat_lt, if◌then◌else◌}
 use Rattle.std.proofs.lemmas.Bool.{le-leb, leb-true, false≢true}
 use Rattle.wasm_code.specs.Instruction.{Instruction}
+use Rattle.wasm_code.specs.declared.immediate.Imm.{Imm}
 use Rattle.wasm_types.specs.declared.types.PrimitiveTypeInfo.{PrimitiveTypeInfo}
 use Rattle.peephole_machine.specs.declared.integer.IntegerType.TheVariants as integer
 use Rattle.peephole_machine.specs.Values.{Context}
@@ -10,9 +11,14 @@ use Rattle.rewrite_rules.specs.declared.pattern.Part.{Part}
 use Rattle.rewrite_rules.specs.declared.pattern.Part.TheVariants.{Hole, Constant, Drawn, Apply}
 use Rattle.rewrite_rules.specs.declared.pattern.Operator.TheVariants.{Whole}
 use Rattle.rewrite_rules.specs.declared.table.Own as own_rules
-use Rattle.rewrite_rules.specs.declared.table.Own.TheVariants.{Unfold, ThroughGlobal, WithNop, Fold, Forget, TeeToSet, DropNop, SetToTee}
+use Rattle.rewrite_rules.specs.declared.table.Own.TheVariants.{Unfold, ThroughGlobal, WithNop, Fold, Forget, TeeToSet, DropNop, SetToTee, Access as Accesses}
 use Rattle.rewrite_rules.specs.declared.table.Widths.{Widths}
 use Rattle.rewrite_rules.specs.declared.table.Widths.TheVariants.{Both, Only, Any, Operands, Own}
+use Rattle.rewrite_rules.specs.declared.access.AccessKind.{AccessKind}
+use Rattle.rewrite_rules.specs.declared.access.AccessKind.TheVariants.{Load, Store, Constant}
+use Rattle.rewrite_rules.specs.declared.access.Conversion.{Conversion}
+use Rattle.rewrite_rules.specs.declared.access.Conversion.TheVariants.{Nothing, By, With}
+use Rattle.rewrite_rules.specs.Access.{conversion_size, left_code, code_with, side_code}
 use Rattle.rewrite_rules.specs.Instance.{row_number, constant_code, operator_code}
 use Rattle.rewrite_rules.specs.Beside.{nop_code, drop_code, get_local, tee_local}
 use Rattle.body_rewrites.specs.declared.own.Made.{Made}
@@ -24,13 +30,16 @@ use Rattle.body_rewrites.specs.Changes.{Change}
 use Rattle.body_rewrites.specs.Cutting.{IsTreeTold, HasPart, AreCut}
 use Rattle.body_rewrites.specs.Open.{HasInstruction}
 use Rattle.body_rewrites.specs.Own.{Rewrites}
+use Rattle.body_rewrites.specs.OwnSites.{StandFrom}
 use Rattle.body_rewrites.specs.Places.{left_parts}
 use Rattle.body_rewrites.specs.Rewrites.{MakesBy, Makes, IsLineChange}
 use Rattle.body_rewrites.specs.declared.asked.Asked.{Asked}
 use Rattle.body_rewrites.specs.declared.here.Here.{Here}
 use Rattle.body_rewrites.specs.Asking.{IsAskedSo, IsHere}
-use Rattle.body_rewrites.specs.Roots.{class_of, IsClassAt, part_root, first_root, own_root, root_by, root_of, HasRoot, fits}
+use Rattle.body_rewrites.specs.Roots.{class_of, IsClassAt, part_root, first_root, side_root, access_root, own_root, root_by, root_of, HasRoot, fits}
 use Rattle.body_rewrites.specs.Trees.{IsTree}
+use Rattle.body_rewrites.proofs.AccessLemmas.{access_start}
+use Rattle.body_rewrites.proofs.OwnAccessLemmas.{they_stand_from}
 use Rattle.body_rewrites.proofs.StandsLemmas.{Operators}
 use Rattle.body_rewrites.proofs.OperationCodeLemmas.{operation_class}
 use Rattle.body_rewrites.proofs.OwnAloneLemmas.{folded_at}
@@ -82,6 +91,38 @@ module _ (context : Context) (operators : Operators) (at : ℕ) where
 
   -- ---- a rule beside the table
 
+  -- the last instruction of a load or a store with a conversion
+  side_ends : (kind : AccessKind) (row : ℕ) (c : Conversion) (start : ℕ) (m : Imm) → start + conversion_size c ≡ at →
+      StandFrom operators start (side_code kind (record { row = row; conversion = c }) m) →
+      HasRoot context operators at (side_root kind (record { row = row; conversion = c }))
+  side_ends Load row Nothing start m e h =
+      let ends : at + 1 ≡ suc start = omega (arith, e) in
+      (code_with row m, stands_here start (code_with row m) ends h.0, omega arith, omega arith)
+  side_ends Constant row Nothing start m e h =
+      let ends : at + 1 ≡ suc start = omega (arith, e) in
+      (code_with row m, stands_here start (code_with row m) ends h.0, omega arith, omega arith)
+  side_ends Load row (By o) start m e h =
+      let ends : at + 1 ≡ suc (start + 1) = omega (arith, e) in
+      (operator_code o, stands_here (start + 1) (operator_code o) ends h.1.0, omega arith, omega arith)
+  side_ends Constant row (By o) start m e h =
+      let ends : at + 1 ≡ suc (start + 1) = omega (arith, e) in
+      (operator_code o, stands_here (start + 1) (operator_code o) ends h.1.0, omega arith, omega arith)
+  side_ends Load row (With t n o) start m e h =
+      let ends : at + 1 ≡ suc (start + 1 + 1) = omega (arith, e) in
+      (operator_code o, stands_here (start + 1 + 1) (operator_code o) ends h.1.1.0, omega arith, omega arith)
+  side_ends Constant row (With t n o) start m e h =
+      let ends : at + 1 ≡ suc (start + 1 + 1) = omega (arith, e) in
+      (operator_code o, stands_here (start + 1 + 1) (operator_code o) ends h.1.1.0, omega arith, omega arith)
+  side_ends Store row Nothing start m e h =
+      let ends : at + 1 ≡ suc start = omega (arith, e) in
+      (code_with row m, stands_here start (code_with row m) ends h.0, omega arith, omega arith)
+  side_ends Store row (By o) start m e h =
+      let ends : at + 1 ≡ suc (start + 1) = omega (arith, e) in
+      (code_with row m, stands_here (start + 1) (code_with row m) ends h.1.0, omega arith, omega arith)
+  side_ends Store row (With t n o) start m e h =
+      let ends : at + 1 ≡ suc (start + 1 + 1) = omega (arith, e) in
+      (code_with row m, stands_here (start + 1 + 1) (code_with row m) ends h.1.1.0, omega arith, omega arith)
+
   own_at : (own : own_rules.Own) (start : ℕ) (m : Made) → Rewrites context operators own start at m → HasRoot context operators at (own_root own)
   own_at Unfold start (made.Sum integer.I32 n) (e, h) = (constant_code integer.I32 n, h.has, omega arith, omega arith)
   own_at Unfold start (made.Sum integer.I64 n) (e, h) = (constant_code integer.I64 n, h.has, omega arith, omega arith)
@@ -93,6 +134,10 @@ module _ (context : Context) (operators : Operators) (at : ℕ) where
   own_at TeeToSet start (made.SetAndGet n) (e, h) = (tee_local n, h, omega arith, omega arith)
   own_at DropNop start made.Nothing (e, h) = (nop_code, h, omega arith, omega arith)
   own_at SetToTee start (made.Tee n) (e, h, g) = (get_local n, g, omega arith, omega arith)
+  own_at (Accesses n) start (made.Access a w) f =
+      subst (λ o. HasRoot context operators at (access_root o)) (sym f.listed)
+      (side_ends a.kind a.left.row a.left.conversion start f.immediate (access_start context operators n start at a w f)
+      (they_stand_from operators (left_code a f.immediate) start (at + 1) f.ends f.stands))
   own_at own start m h = absurd h
 
   -- ---- what makes something has its root there

@@ -17,7 +17,7 @@ use Rattle.rewrite_rules.specs.declared.table.Row.{Row}
 use Rattle.rewrite_rules.specs.declared.table.Widths.{Widths}
 use Rattle.rewrite_rules.specs.declared.table.Widths.TheVariants as widths
 use Rattle.rewrite_rules.specs.Beside.{BesidesKeepCode}
-use Rattle.rewrite_rules.specs.Growing.{GrowsAs, own_growth, shown}
+use Rattle.rewrite_rules.specs.Growing.{GrowsAs, growth_told, own_growth, shown}
 use Rattle.rewrite_rules.specs.Growth.{shrinks, keeps, grows, growth_by, is_empty, left_over, own_size, own_sizes, without}
 use Rattle.rewrite_rules.specs.Holes.{HolesAreTold}
 use Rattle.rewrite_rules.specs.Instance.{code_of, codes_of, operator_code}
@@ -35,7 +35,9 @@ use Rattle.body_rewrites.specs.declared.places.Place.{Place}
 use Rattle.body_rewrites.specs.declared.rewrite.Rewrite.{Rewrite}
 use Rattle.body_rewrites.specs.Changes.{Change}
 use Rattle.body_rewrites.specs.Listing.{HasGrowth}
+use Rattle.body_rewrites.specs.Growth.{IsGrowth}
 use Rattle.body_rewrites.specs.Own.{Rewrites, made_pieces}
+use Rattle.body_rewrites.specs.OwnSites.{in_bodies}
 use Rattle.body_rewrites.specs.Places.{IsLine, IsPlaceOf, IsTreeCode, meant, operands_in}
 use Rattle.body_rewrites.specs.Rewrites.{IsLineChange, IsMadeBy, MakesBy, growth_of}
 use Rattle.body_rewrites.specs.Rewrites as bodies
@@ -243,23 +245,32 @@ module _ (context : Context) (operators : Operators) (at start : ℕ) where
   fewer own.Forget made.Nothing h e = growth_at context operators at own.Forget start made.Nothing h 0
   fewer own.DropNop made.Nothing h e = growth_at context operators at own.DropNop start made.Nothing h 0
   fewer own.SetToTee (made.Tee n) h e = growth_at context operators at own.SetToTee start (made.Tee n) h 0
+  fewer (own.Access n) (made.Access a w) h e =
+      subst (λ g. IsGrowth (in_bodies g) (length (pieces_operators (without_offsets operators) (made_pieces start at (made.Access a w) 0))) (at + 1 - start))
+      (sym (ap growth_told h.listed) ∙ e) (growth_at context operators at (own.Access n) start (made.Access a w) h 0)
   fewer own m h e = absurd h
 
-  never_keeps : (own : Own) → own_growth own ≡ rows.Keeps → ⊥
-  never_keeps own.Unfold e = cc
-  never_keeps own.ThroughGlobal e = cc
-  never_keeps own.WithNop e = cc
-  never_keeps own.Fold e = cc
-  never_keeps own.Forget e = cc
-  never_keeps own.TeeToSet e = cc
-  never_keeps own.DropNop e = cc
-  never_keeps own.SetToTee e = cc
+  as_many : (own : Own) (m : Made) → Rewrites context operators own start at m → own_growth own ≡ rows.Keeps →
+      length (pieces_operators (without_offsets operators) (made_pieces start at m 0)) ≡ at + 1 - start
+  as_many own.Unfold m h e = absurd cc
+  as_many own.ThroughGlobal m h e = absurd cc
+  as_many own.WithNop m h e = absurd cc
+  as_many own.TeeToSet m h e = absurd cc
+  as_many own.Fold m h e = absurd cc
+  as_many own.Forget m h e = absurd cc
+  as_many own.DropNop m h e = absurd cc
+  as_many own.SetToTee m h e = absurd cc
+  as_many (own.Access n) (made.Access a w) h e =
+      subst (λ g. IsGrowth (in_bodies g) (length (pieces_operators (without_offsets operators) (made_pieces start at (made.Access a w) 0))) (at + 1 - start))
+      (sym (ap growth_told h.listed) ∙ e) (growth_at context operators at (own.Access n) start (made.Access a w) h 0)
+  as_many own m h e = absurd h
 
   own_as_told : (own : Own) (m : Made) (told : told.Growth) → Rewrites context operators own start at m → told ≡ own_growth own →
       IsAsTold told (bodies.growth_by (at + 1 - start) (length (pieces_operators (without_offsets operators) (made_pieces start at m 0))))
   own_as_told own m rows.Shrinks h e =
       sym (counted.shrinks (at + 1 - start) (length (pieces_operators (without_offsets operators) (made_pieces start at m 0))) (fewer own m h (sym e)))
-  own_as_told own m rows.Keeps h e = absurd (never_keeps own (sym e))
+  own_as_told own m rows.Keeps h e =
+      sym (counted.keeps (at + 1 - start) (length (pieces_operators (without_offsets operators) (made_pieces start at m 0))) (as_many own m h (sym e)))
   own_as_told own m rows.Grows h e = tt
 
 -- ---- by a row
@@ -308,6 +319,7 @@ own_word operators start at made.Nop word = refl
 own_word operators start at (made.Global t g) word = refl
 own_word operators start at (made.SetAndGet n) word = refl
 own_word operators start at (made.Tee n) word = refl
+own_word operators start at (made.Access a w) word = refl
 
 line_word : (operators : Operators) (line : Line) (place : Place) (word : ℕ) →
     length (pieces_operators (without_offsets operators) ((by_line line place).pieces word))

@@ -63,6 +63,19 @@ rewrite_of at asked = record { operator = at; row = asked.number; width = asked.
 abbrev pub rewrites_of : (at : ℕ) → List Asked → List Rewrite
 rewrites_of at list = map (rewrite_of at) list
 
+-- ---- those that are ready
+
+-- what runs the module is exact where the row has to be; rows beside the table, and those of an operand alone, are ready always
+abbrev pub is_ready_by : (exact : Bool) → Row → Form → Bool
+is_ready_by exact row Other = exact || not (needs_exact row)
+is_ready_by exact row form = true
+
+abbrev pub is_ready : (exact : Bool) → Asked → Bool
+is_ready exact asked = is_ready_by exact asked.line.row asked.form
+
+abbrev pub ready_lines : (exact : Bool) → List Asked
+ready_lines exact = filter (is_ready exact) all_asked
+
 -- ---- where they are asked
 
 -- It is an operator of the body, with its class, and whether a tree ends with it.

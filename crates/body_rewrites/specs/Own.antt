@@ -1,7 +1,8 @@
 -- The rules that are no rows of the table, on the operators of a body (this project).
 use Rattle.std.specs.Prelude.{◌≡◌, ℕ, ◌+◌, ◌^◌, ◌<◌, Bool, true, false, List, [], ◌∷◌, ◌++◌, length, map, Some}
 use mir.Val.{bits}
-use Rattle.wasm_code.specs.Instruction.{Instruction}
+use Rattle.wasm_code.specs.Instruction.{Instruction, IsInstruction}
+use Rattle.wasm_code.specs.declared.immediate.Imm.{Imm}
 use Rattle.wasm_code.specs.declared.operator.Operator.{Operator}
 use Rattle.wasm_types.specs.declared.types.PrimitiveTypeInfo.{PrimitiveTypeInfo}
 use Rattle.wasm_types.specs.declared.types.PrimitiveTypeInfo.TheVariants as primitive
@@ -13,10 +14,13 @@ use Rattle.peephole_machine.specs.Values.{Context, width_of, types}
 use Rattle.peephole_machine.specs.Computed.{computed}
 use Rattle.peephole_machine.specs.Operation.{operator_of}
 use Rattle.rewrite_rules.specs.declared.pattern.Operator.TheVariants.{Whole}
+use Rattle.rewrite_rules.specs.declared.access.Access.{Access}
+use Rattle.rewrite_rules.specs.Access.{access_at, code_with, left_code, right_code, written_imm}
 use Rattle.rewrite_rules.specs.Code.{writes, traps}
 use Rattle.rewrite_rules.specs.Instance.{constant_code, operator_code}
 use Rattle.rewrite_rules.specs.Beside.{nop_code, drop_code, get_local, set_local, tee_local, get_global, set_global, constants, left_by, sum_code}
 use Rattle.rewrite_rules.specs.declared.table.Own.{Own}
+use Rattle.rewrite_rules.specs.declared.table.Own.TheVariants as own_rule
 use Rattle.rewrite_rules.specs.declared.table.Own.TheVariants.{Unfold, ThroughGlobal, WithNop, Fold, Forget, TeeToSet, DropNop, SetToTee}
 use Rattle.body_rewrites.specs.declared.own.Made.{Made}
 use Rattle.body_rewrites.specs.declared.own.Made.TheVariants as made
@@ -60,6 +64,17 @@ pub record IsForgotten (context : Context) (operators : List (Operator × ℕ)) 
   pub reads : writes tree.code ≡ false
   pub returns : traps tree.code ≡ false
 
+-- From `start` on, up to the operator at `at`, stands the left side of the access with the number, where what runs the module is exact; and `written` is the
+-- immediate that is written.
+pub record IsAccessed (context : Context) (operators : List (Operator × ℕ)) (n start at : ℕ) (access : Access) (written : Imm) : Type 0 where
+  pub exact : context.info.exact ≡ true
+  pub listed : access_at n ≡ Some access
+  pub immediate : Imm
+  pub fits : IsInstruction (code_with access.left.row immediate)
+  pub ends : start + length (left_code access immediate) ≡ at + 1
+  pub stands : Stands operators start (at + 1) (left_code access immediate)
+  pub written_is : written_imm access immediate ≡ Some written
+
 -- From `start` on, up to the operator at `at`, stands what the rule rewrites; and that is what is made of it. A further global is the first one behind the
 -- module's; where it has as many as indices count, there is none.
 abbrev pub Rewrites : Context → List (Operator × ℕ) → Own → (start at : ℕ) → Made → Type 0
@@ -73,6 +88,7 @@ Rewrites context operators TeeToSet start at (made.SetAndGet n) = (start ≡ at)
 Rewrites context operators DropNop start at made.Nothing = (start ≡ at) × HasInstruction operators at nop_code
 Rewrites context operators SetToTee start at (made.Tee n) =
     (start + 1 ≡ at) × HasInstruction operators start (set_local n) × HasInstruction operators at (get_local n)
+Rewrites context operators (own_rule.Access n) start at (made.Access a m) = IsAccessed context operators n start at a m
 Rewrites context operators own start at m = ⊥
 
 -- ---- what is written
@@ -90,6 +106,7 @@ made_pieces start at made.Nop word = New nop_code ∷ Kept start (at + 1) ∷ []
 made_pieces start at (made.Global t g) word = Kept start (at + 1) ∷ new (set_global g ∷ get_global g ∷ [])
 made_pieces start at (made.SetAndGet n) word = new (set_local n ∷ get_local n ∷ [])
 made_pieces start at (made.Tee n) word = new (tee_local n ∷ [])
+made_pieces start at (made.Access a m) word = new (right_code a m)
 
 -- the global that is asked for
 abbrev pub made_asks : Made → List PrimitiveTypeInfo

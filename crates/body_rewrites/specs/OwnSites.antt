@@ -1,5 +1,7 @@
 -- How rules beside the table are found and written in a body: for private functions (this project).
-use Rattle.std.specs.Prelude.{◌≡◌, ℕ, List, length, map, Option, Some, None, option_to_list}
+use Rattle.std.specs.Prelude.{◌≡◌, ℕ, ◌+◌, List, [], ◌∷◌, ◌++◌, length, map, ⊤, Option, Some, None, option_to_list}
+use Rattle.wasm_code.specs.Instruction.{Instruction, IsInstruction}
+use Rattle.wasm_code.specs.declared.immediate.Imm.{Imm}
 use Rattle.wasm_code.specs.declared.immediate.Imm.TheVariants as imm
 use Rattle.wasm_code.specs.declared.operator.Operator.{Operator}
 use Rattle.wasm_types.specs.declared.types.PrimitiveTypeInfo.{PrimitiveTypeInfo}
@@ -10,11 +12,17 @@ use Rattle.peephole_machine.specs.Values.{Context, types}
 use Rattle.peephole_machine.specs.Computed.{computed}
 use Rattle.peephole_machine.specs.Operation.{operator_of}
 use Rattle.rewrite_rules.specs.declared.pattern.Operator.TheVariants.{Whole}
+use Rattle.rewrite_rules.specs.declared.access.AccessKind.{AccessKind}
+use Rattle.rewrite_rules.specs.declared.access.AccessKind.TheVariants.{Load, Store, Constant}
+use Rattle.rewrite_rules.specs.declared.access.AccessSide.{AccessSide}
+use Rattle.rewrite_rules.specs.declared.growth.Growth as rows
+use Rattle.rewrite_rules.specs.declared.growth.Growth.TheVariants as growths
+use Rattle.rewrite_rules.specs.Access.{IsOfRow, access_growth, code_with, right_code, side_code}
 use Rattle.rewrite_rules.specs.Instance.{operator_code}
 use Rattle.rewrite_rules.specs.Beside.{left_by}
 use Rattle.body_rewrites.specs.declared.changes.NewCode.{NewCode}
 use Rattle.body_rewrites.specs.declared.growth.Growth.{Growth}
-use Rattle.body_rewrites.specs.declared.growth.Growth.TheVariants.{Shrinks, Grows}
+use Rattle.body_rewrites.specs.declared.growth.Growth.TheVariants.{Shrinks, Keeps, Grows}
 use Rattle.rewrite_rules.specs.declared.table.Own.{Own}
 use Rattle.rewrite_rules.specs.declared.table.Own.TheVariants.{Fold}
 use Rattle.body_rewrites.specs.declared.own.Made.{Made}
@@ -31,6 +39,11 @@ HasBare operators at row = HasInstruction operators at (record { row = row; imm 
 
 abbrev pub HasIndexed : List (Operator × ℕ) → (at row n : ℕ) → Type 0
 HasIndexed operators at row n = HasInstruction operators at (record { row = row; imm = imm.Index n })
+
+-- these stand there, one behind another
+abbrev pub StandFrom : List (Operator × ℕ) → (start : ℕ) → List Instruction → Type 0
+StandFrom operators start [] = ⊤
+StandFrom operators start (i ∷ code) = HasInstruction operators start i × StandFrom operators (start + 1) code
 
 -- the operator on whole numbers stands there
 abbrev pub HasOperation : List (Operator × ℕ) → ℕ → Operation → Type 0
@@ -54,13 +67,51 @@ abbrev pub IsSiteOf : Context → List (Operator × ℕ) → Own → (at : ℕ) 
 IsSiteOf context operators own at (Some site) = Rewrites context operators own site.start at site.made
 IsSiteOf context operators own at None = (start : ℕ) (m : Made) → ¬ (Rewrites context operators own start at m)
 
+-- where the instruction with the immediate stands, and where the conversion begins, of so many instructions, in code that begins there
+abbrev pub places : AccessKind → (start size : ℕ) → ℕ × ℕ
+places Load start size = (start, start + 1)
+places Constant start size = (start, start + 1)
+places Store start size = (start + size, start)
+
+-- the row's instruction with that immediate stands there
+pub record IsImmediateAt (operators : List (Operator × ℕ)) (at row : ℕ) (i : Imm) : Type 0 where
+  pub fits : IsInstruction (code_with row i)
+  pub has : HasInstruction operators at (code_with row i)
+
+-- it is the immediate of the side, which stands from `start` on
+pub record IsImmediateOf (operators : List (Operator × ℕ)) (start : ℕ) (kind : AccessKind) (side : AccessSide) (i : Imm) : Type 0 where
+  pub fits : IsInstruction (code_with side.row i)
+  pub stand : StandFrom operators start (side_code kind side i)
+
 -- ---- what is written
+
+-- the piece with the immediate, with those of the conversion
+abbrev pub ordered : AccessKind → (first : Piece) → (conversion : List Piece) → List Piece
+ordered Load first conversion = first ∷ conversion
+ordered Constant first conversion = first ∷ conversion
+ordered Store first conversion = conversion ++ first ∷ []
+
+-- each is an instruction of the standard
+abbrev pub AreOfRows : List Instruction → Type 0
+AreOfRows [] = ⊤
+AreOfRows (i ∷ code) = IsOfRow i.row i.imm × AreOfRows code
+
+-- so is what is made
+abbrev pub IsWritable : Made → Type 0
+IsWritable (made.Access a m) = AreOfRows (right_code a m)
+IsWritable m = ⊤
 
 -- the code is these pieces in the place of code from `start` on
 pub record IsCode (start : ℕ) (pieces : List Piece) (asks : List PrimitiveTypeInfo) (code : NewCode) : Type 0 where
   pub start_is : code.start ≡ start
   pub pieces_are : code.pieces.items ≡ pieces
   pub asks_are : option_to_list code.asks ≡ asks
+
+-- the growth of a row, as one of bodies
+abbrev pub in_bodies : rows.Growth → Growth
+in_bodies growths.Shrinks = Shrinks
+in_bodies growths.Keeps = Keeps
+in_bodies growths.Grows = Grows
 
 -- what is made grows so, beside what it is made of
 abbrev pub growth_of : Made → Growth
@@ -71,3 +122,4 @@ growth_of made.Nop = Grows
 growth_of (made.Global t g) = Grows
 growth_of (made.SetAndGet n) = Grows
 growth_of (made.Tee n) = Shrinks
+growth_of (made.Access a m) = in_bodies (access_growth a)

@@ -1,5 +1,5 @@
 -- What has to stand at an operator where a line of the table applies (this project).
-use Rattle.std.specs.Prelude.{◌≡◌, ◌&&◌, ℕ, ◌≤◌, nat_le, nat_lt, if◌then◌else◌, Bool, true, Option, Some, List, [], ◌∷◌, map, slice_get}
+use Rattle.std.specs.Prelude.{◌≡◌, ◌&&◌, ℕ, ◌≤◌, nat_le, nat_lt, if◌then◌else◌, Bool, true, Option, Some, None, List, [], ◌∷◌, map, slice_get}
 use Rattle.wasm_code.specs.Instruction.{Instruction}
 use Rattle.wasm_code.specs.declared.operator.Operator.{Operator}
 use Rattle.wasm_code.specs.declared.operator.Operator.TheVariants.{Instr}
@@ -17,6 +17,13 @@ use Rattle.rewrite_rules.specs.declared.table.Widths.{Widths}
 use Rattle.rewrite_rules.specs.declared.table.Widths.TheVariants.{Own}
 use Rattle.rewrite_rules.specs.declared.table.Own as own_rules
 use Rattle.rewrite_rules.specs.declared.table.Own.TheVariants as own
+use Rattle.rewrite_rules.specs.declared.access.Access.{Access}
+use Rattle.rewrite_rules.specs.declared.access.AccessKind.{AccessKind}
+use Rattle.rewrite_rules.specs.declared.access.AccessKind.TheVariants.{Load, Store, Constant}
+use Rattle.rewrite_rules.specs.declared.access.AccessSide.{AccessSide}
+use Rattle.rewrite_rules.specs.declared.access.Conversion.{Conversion}
+use Rattle.rewrite_rules.specs.declared.access.Conversion.TheVariants.{Nothing, By, With}
+use Rattle.rewrite_rules.specs.Access.{access_at}
 use Rattle.rewrite_rules.specs.Instance.{row_number}
 use Rattle.body_rewrites.specs.declared.places.Line.{Line}
 use Rattle.body_rewrites.specs.declared.root.Root.{Root}
@@ -77,6 +84,22 @@ abbrev pub first_root : List Part → Root
 first_root [] = root.Any
 first_root (p ∷ ps) = part_root p
 
+-- that of the last instruction of a conversion; of none, that of a row
+abbrev pub conversion_root : (row : ℕ) → Conversion → Root
+conversion_root row Nothing = one_row row
+conversion_root row (By o) = one_row (row_number o)
+conversion_root row (With t n o) = one_row (row_number o)
+
+-- that of a load, a store or a constant with a conversion
+abbrev pub side_root : AccessKind → AccessSide → Root
+side_root Load side = conversion_root side.row side.conversion
+side_root Constant side = conversion_root side.row side.conversion
+side_root Store side = one_row side.row
+
+abbrev pub access_root : Option Access → Root
+access_root None = root.Any
+access_root (Some a) = side_root a.kind a.left
+
 -- that of a rule beside the table
 abbrev pub own_root : own_rules.Own → Root
 own_root own.Unfold = root.Classes 36 37
@@ -87,6 +110,7 @@ own_root own.Forget = root.Classes 2 2
 own_root own.TeeToSet = root.Classes 6 6
 own_root own.DropNop = root.Classes 0 0
 own_root own.SetToTee = root.Classes 4 4
+own_root (own.Access n) = access_root (access_at n)
 
 abbrev pub root_by : Line → Widths → Root
 root_by line (Own o) = own_root o

@@ -2,12 +2,14 @@
 ghost use Rattle.std.specs.Prelude.{◌≡◌, ◌++◌, slice_get, OnOk, IfOk};
 ghost use Rattle.body_rewrites.specs.Alone.{form_of};
 ghost use Rattle.body_rewrites.specs.Rewrites.{asked_widths};
-ghost use Rattle.body_rewrites.specs.Asking.{asked_as, asked_for, asked_in, all_asked};
+ghost use Rattle.body_rewrites.specs.Asking.{asked_as, asked_for, asked_in, all_asked, is_ready, ready_lines};
+ghost use Rattle.body_rewrites.specs.Places.{context_of};
+ghost use Rattle.std.specs.List.{filter};
 ghost use Rattle.rewrite_rules.specs.Table.{ROWS};
 ghost use Rattle.body_rewrites.specs.Listing.{widths_told};
 
 use crate::alone::form_of;
-use crate::places::Line;
+use crate::places::{Body, Line, is_exact};
 use crate::rewrite::Rewrite;
 use crate::root::Root;
 use crate::roots::root_of;
@@ -51,6 +53,17 @@ impl Asked {
                 row: self.line.row.again(),
                 width: self.line.width,
             },
+        }
+    }
+
+    // Whether what runs the module is exact where the row has to be; a rule beside the table or an operand alone is ready always.
+    fn is_ready(&self, exact: bool) -> bool
+        ensures { result ≡ is_ready exact self.now }
+    {
+        match self.form {
+            Form::Own(_) => true,
+            Form::Alone(_) => true,
+            Form::Other => self.line.row.is_ready(exact),
         }
     }
 
@@ -120,13 +133,37 @@ pub(crate) fn add_numbered(number: usize, list: &mut Vec<Asked>) -> Result<(), A
     }
 }
 
-/// All lines of the table, by the row and the width. The only error is that memory was refused.
-pub(crate) fn all_asked(alloc: Global) -> Result<Vec<Asked>, AllocError>
+// All lines of the table, by the row and the width.
+fn all_asked(alloc: Global) -> Result<Vec<Asked>, AllocError>
     ensures { IfOk result (λ list. list.items ≡ all_asked) }
 {
     let mut list = Vec::new(alloc);
     for number in 0..row_count() {
         add_numbered(number, &mut list)?;
     }
+    Ok(list)
+}
+
+// Adds those of the lines that are ready.
+fn add_ready(lines: &[Asked], exact: bool, list: &mut Vec<Asked>) -> Result<(), AllocError>
+    ensures { OnOk result
+        (list.new.items ≡ list.old.items ++ filter (is_ready exact) lines.now) }
+{
+    for asked in lines {
+        if asked.is_ready(exact) {
+            list.push(asked.again())?;
+        }
+    }
+    Ok(())
+}
+
+/// The lines of the table, by the row and the width, but, where what runs the body's module isn't exact, those on exact rows whose left
+/// side is more than an operand: there they make nothing. The only error is that memory was refused.
+pub(crate) fn ready_lines(alloc: Global, body: &Body<'_>) -> Result<Vec<Asked>, AllocError>
+    ensures { IfOk result (λ list. list.items ≡ ready_lines (context_of body.now).info.exact) }
+{
+    let lines = all_asked(alloc)?;
+    let mut list = Vec::new(alloc);
+    add_ready(lines.as_slice(), is_exact(body), &mut list)?;
     Ok(list)
 }

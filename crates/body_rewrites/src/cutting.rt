@@ -29,7 +29,7 @@ fn number_of(instr: &Instr, t: IntegerType) -> Option<u64>
 }
 
 // Whether the instruction is the operator's.
-fn is_operator(instr: &Instr, operator: Operator) -> bool
+pub(crate) fn is_operator(instr: &Instr, operator: Operator) -> bool
     ensures { IsTrue result ↔ (instr.now ≡ operator_code operator) }
 {
     let same_row = instr.row() == operator.row();

@@ -3,10 +3,10 @@ ghost use Rattle.std.specs.Prelude.{◌≡◌, ◌<◌, ◌++◌, [], ◌∷◌,
 ghost use Rattle.rewrite_rules.specs.Table.{ROWS};
 ghost use Rattle.body_rewrites.specs.Places.{context_of, HasItsTrees};
 ghost use Rattle.body_rewrites.specs.Rewrites.{by_rows, asked_below};
-ghost use Rattle.body_rewrites.specs.Asking.{all_asked, rewrite_of, IsAskedSo, IsHere};
+ghost use Rattle.body_rewrites.specs.Asking.{ready_lines, rewrite_of, IsAskedSo, IsHere};
 ghost use Rattle.body_rewrites.specs.Listing.{AreThose, IsWantedBy, AreFound, AddsFound, passing, has_number, is_by, is_wanted};
 
-use crate::asked::{Asked, all_asked};
+use crate::asked::{Asked, ready_lines};
 use crate::found::Found;
 use crate::growth::{Growth, has_growth};
 use crate::here::{Here, here_at};
@@ -15,6 +15,7 @@ use crate::line_growth::growth_here;
 use crate::places::Body;
 use crate::rewrite::Rewrite;
 use crate::roots::fits;
+use rewrite_rules::laws::{exact_rows_are_told, table_is_right};
 use rewrite_rules::{Rule, rules_of_rows};
 use std::alloc::{AllocError, Global};
 
@@ -41,8 +42,8 @@ fn ask(body: &Body<'_>, asked: &Asked, here: Here, list: &mut Vec<Found>) -> Res
     }
 }
 
-/// What the lines make at an operator: each rewrite of it, and what it does to the number of operators, in their order. The only error
-/// is that memory was refused.
+/// What the lines that are ready make at an operator: each rewrite of it, and what it does to the number of operators, in their order.
+/// The only error is that memory was refused.
 pub(crate) fn rewrites_at(
     alloc: Global,
     body: &Body<'_>,
@@ -50,11 +51,13 @@ pub(crate) fn rewrites_at(
     at: usize,
 ) -> Result<Vec<Found>, AllocError>
     requires trees { HasItsTrees body.now }
-    requires lines { lines.now ≡ all_asked }
+    requires lines { lines.now ≡ ready_lines (context_of body.now).info.exact }
     requires inside { at < length body.now.operators.now }
     ensures { IfOk result (λ list. AreFound (context_of body.now) body.now.operators.now
         (by_rows at 0 ROWS) list.items) }
 {
+    table_is_right();
+    exact_rows_are_told();
     let here = here_at(body, at);
     let mut list = Vec::new(alloc);
     for asked in lines {
@@ -133,7 +136,7 @@ pub fn rewrites_of_body(
         (asked_below (length body.now.operators.now)) list.items) }
 {
     one_change();
-    let lines = all_asked(alloc)?;
+    let lines = ready_lines(alloc, body)?;
     let rows = rules_of_rows(alloc)?;
     let mut list = Vec::new(alloc);
     for at in 0..body.operators.len() {

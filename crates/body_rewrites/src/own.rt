@@ -1,5 +1,6 @@
 //! The rules that are no rows of the table, and what they make.
 
+pub(crate) mod access;
 pub(crate) mod drop_nop;
 pub(crate) mod fold;
 pub(crate) mod forget;
@@ -14,6 +15,8 @@ pub(crate) mod with_nop;
 pub(crate) mod writing;
 
 use peephole_machine::IntegerType;
+use rewrite_rules::Access;
+use wasm_code::Imm;
 use wasm_types::PrimitiveTypeInfo;
 
 /// What is made of code, whatever word is drawn.
@@ -33,6 +36,8 @@ pub enum Made {
     SetAndGet(u32),
     /// A tee of a local.
     Tee(u32),
+    /// The right side of an access, with that immediate.
+    Access(Access, Imm),
 }
 
 /// From which operator on something is made, and what.

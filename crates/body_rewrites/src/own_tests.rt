@@ -16,8 +16,12 @@ const BODY: &[u8] = b"\x01\x41\x05\x41\x07\x6a\x1a\x41\x01\x22\0\x21\0\x20\0\x1a
 /// `i32.div_u`, `drop`, `end`.
 const TRAPS: &[u8] = b"\x20\0\x41\0\x6e\x1a\x41\x05\x41\0\x6e\x1a\x0b";
 
-/// A new instruction, by its row and its number, and 0; or what is kept, by a row that there is not, from the first of both
-/// operators up to the one before the second.
+/// With a local of i32: `local.get 0`, `f32.load align=4`, `drop`, `local.get 0`, `local.get 0`, `i32.extend8_s`, `i32.store8`,
+/// `local.get 0`, `i32.load align=4 offset=8`, `drop`, `end`.
+const ACCESSES: &[u8] = b"\x20\0\x2a\x02\0\x1a\x20\0\x20\0\xc0\x3a\0\0\x20\0\x28\x02\x08\x1a\x0b";
+
+/// A new instruction, by its row and its number, and 0, or the alignment and the offset of its memory argument; or what is kept, by a
+/// row that there is not, from the first of both operators up to the one before the second.
 type Told = (u16, u64, u64);
 
 const KEPT: u16 = 1000;
@@ -49,13 +53,14 @@ fn told(piece: Piece) -> Told {
     match piece {
         Piece::Kept { start, end } => (KEPT, start as u64, end as u64),
         Piece::New(instr) => {
-            let number = match instr.imm() {
-                Imm::Index(index) => index as u64,
-                Imm::I32(z) => z.cast_unsigned() as u64,
-                Imm::I64(z) => z.cast_unsigned(),
-                _ => 0,
+            let (number, rest) = match instr.imm() {
+                Imm::Index(index) => (index as u64, 0),
+                Imm::I32(z) => (z.cast_unsigned() as u64, 0),
+                Imm::I64(z) => (z.cast_unsigned(), 0),
+                Imm::Mem(argument) => (argument.align as u64, argument.offset),
+                _ => (0, 0),
             };
-            (instr.row(), number, 0)
+            (instr.row(), number, rest)
         }
     }
 }
@@ -147,6 +152,62 @@ fn leaves_what_traps(rt: HostRuntime) -> Result<(), Fail> {
         (Own::Forget, 7),
     ] {
         assert!(rt; own_code(&body, own, at, 2).is_none());
+    }
+    Ok(())
+}
+
+/// By the access with the number, at an operator: the first operator that is replaced, and the pieces, and what becomes of the number of
+/// operators.
+const ACCESSED: [(u8, usize, usize, &[Told], Growth); 3] = [
+    (0, 1, 1, &[(11, 2, 0), (161, 0, 0)], Growth::Grows),
+    (67, 6, 5, &[(29, 0, 0)], Growth::Shrinks),
+    (82, 8, 8, &[(11, 0, 8)], Growth::Keeps),
+];
+
+/// Where nothing is made: another load, a load in the place of a store, a store behind another conversion, an alignment that stands
+/// there, and no access.
+const NOT_ACCESSED: [(u8, usize); 5] = [(0, 8), (72, 1), (77, 6), (106, 8), (200, 1)];
+
+#[test]
+fn writes_accesses(rt: HostRuntime) -> Result<(), Fail> {
+    let alloc = rt.alloc();
+    let operators = read_body(alloc, ACCESSES, 0, ACCESSES.len())?;
+    let mut info = ModuleInfo::new(alloc, &[]);
+    info.exact = true;
+    let trees = trees_of(alloc, &[PrimitiveTypeInfo::I32], &info, &operators)?;
+    let body = Body {
+        info: &info,
+        locals: &[PrimitiveTypeInfo::I32],
+        operators: &operators,
+        trees: &trees,
+    };
+    for (number, at, start, wanted, growth) in ACCESSED {
+        let code = own_code(&body, Own::Access(number), at, 2).expect(&rt, "it applies");
+        assert!(rt; code.start == start);
+        assert!(rt; are(&code.pieces, wanted));
+        assert!(rt; own_growth(&body, Own::Access(number), at) == Some(growth));
+    }
+    for (number, at) in NOT_ACCESSED {
+        assert!(rt; own_code(&body, Own::Access(number), at, 2).is_none());
+    }
+    Ok(())
+}
+
+/// Nothing is made where the module isn't exact.
+#[test]
+fn leaves_accesses_elsewhere(rt: HostRuntime) -> Result<(), Fail> {
+    let alloc = rt.alloc();
+    let operators = read_body(alloc, ACCESSES, 0, ACCESSES.len())?;
+    let info = ModuleInfo::new(alloc, &[]);
+    let trees = trees_of(alloc, &[PrimitiveTypeInfo::I32], &info, &operators)?;
+    let body = Body {
+        info: &info,
+        locals: &[PrimitiveTypeInfo::I32],
+        operators: &operators,
+        trees: &trees,
+    };
+    for (number, at, _, _, _) in ACCESSED {
+        assert!(rt; own_growth(&body, Own::Access(number), at).is_none());
     }
     Ok(())
 }

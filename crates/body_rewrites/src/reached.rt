@@ -3,7 +3,7 @@ ghost use Rattle.std.specs.Prelude.{◌≡◌, IfOk};
 ghost use Rattle.body_rewrites.specs.Places.{context_of, HasItsTrees};
 ghost use Rattle.body_rewrites.specs.Reached.{AreReached, has_wanted};
 
-use crate::asked::all_asked;
+use crate::asked::ready_lines;
 use crate::found::Found;
 use crate::growth::Growth;
 use crate::laws::one_change;
@@ -39,7 +39,7 @@ pub fn reached_operators(
         AreReached (context_of body.now) body.now.operators.now rules.now wanted.now marks.items) }
 {
     one_change();
-    let lines = all_asked(alloc)?;
+    let lines = ready_lines(alloc, body)?;
     let rows = rules_of_rows(alloc)?;
     let mut marks = Vec::new(alloc);
     for at in 0..body.operators.len() {

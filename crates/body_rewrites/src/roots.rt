@@ -2,7 +2,7 @@
 ghost use Rattle.std.specs.Prelude.{◌≡◌, ◌≤◌};
 ghost use Rattle.rewrite_rules.specs.declared.pattern.Operator.TheVariants as operator;
 ghost use Rattle.rewrite_rules.specs.Instance.{row_number};
-ghost use Rattle.body_rewrites.specs.Roots.{class_of, class_told, IsClassAt, one_row, constant_root, step_root, first_root, own_root, root_of, fits};
+ghost use Rattle.body_rewrites.specs.Roots.{class_of, class_told, IsClassAt, one_row, constant_root, step_root, first_root, conversion_root, side_root, access_root, own_root, root_of, fits};
 ghost use Rattle.body_rewrites.specs.Places.{left_parts};
 
 use crate::parts::count_of;
@@ -10,7 +10,9 @@ use crate::places::Line;
 use crate::root::Root;
 use crate::trees::instr_at;
 use peephole_machine::{IntegerType, Operation};
-use rewrite_rules::{Operator, Own, Step, Widths};
+use rewrite_rules::{
+    Access, AccessKind, AccessSide, Conversion, Operator, Own, Step, Widths, access_at,
+};
 use wasm_code::OperatorAndByteOffset;
 
 // The class of the instructions of a row of the instruction table, of which there are 446: its number; and one more for what is none.
@@ -76,6 +78,38 @@ fn step_root(step: Step, width: IntegerType) -> Root
     }
 }
 
+// The last instruction of a conversion; of none, one of the row.
+fn conversion_root(row: u16, conversion: Conversion) -> Root
+    ensures { result ≡ conversion_root row conversion }
+{
+    match conversion {
+        Conversion::Nothing => one_row(row),
+        Conversion::By(operator) => one_row(operator.row()),
+        Conversion::With(_, _, operator) => one_row(operator.row()),
+    }
+}
+
+// The last instruction of a side.
+fn side_root(kind: AccessKind, side: AccessSide) -> Root
+    ensures { result ≡ side_root kind side }
+{
+    match kind {
+        AccessKind::Load => conversion_root(side.row, side.conversion),
+        AccessKind::Store => one_row(side.row),
+        AccessKind::Constant => conversion_root(side.row, side.conversion),
+    }
+}
+
+// Where the access applies, if there is one.
+fn access_root(access: Option<Access>) -> Root
+    ensures { result ≡ access_root access }
+{
+    match access {
+        Some(access) => side_root(access.kind, access.left),
+        None => Root::Any,
+    }
+}
+
 // Where a rule beside the table applies.
 fn own_root(own: Own) -> Root
     ensures { result ≡ own_root own }
@@ -89,6 +123,7 @@ fn own_root(own: Own) -> Root
         Own::TeeToSet => Root::Classes(6, 6),
         Own::DropNop => Root::Classes(0, 0),
         Own::SetToTee => Root::Classes(4, 4),
+        Own::Access(number) => access_root(access_at(number)),
     }
 }
 

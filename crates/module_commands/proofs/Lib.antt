@@ -7,6 +7,7 @@ pub mod BlocksLemmas
 pub mod FaultsLemmas
 pub mod ArgumentsLemmas
 pub mod OptionsLemmas
+pub mod FamiliesLemmas
 pub mod ReachLemmas
 pub mod ShownLemmas
 pub mod OutcomeLemmas

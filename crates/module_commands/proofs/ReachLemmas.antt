@@ -1,6 +1,6 @@
 -- What is counted, one operator and one function more each time.
 use Rattle.std.proofs.Common.{◌≡◌, inl, inr, ℕ, suc, ◌+◌, ◌-◌, ◌^◌, ◌<◌, ◌≤◌, min, not, ◌&&◌, ◌||◌, Bool, true, false, List, [], ◌∷◌, ◌++◌, length, get_or, Option, Some, None, refl, sym, ap, ap₂, ◌∙◌, subst, arith}
-use Rattle.std.specs.Prelude.{◌↔◌, IsTrue, IfSome, IfNone, is_some, option_map, slice_get}
+use Rattle.std.specs.Prelude.{◌↔◌, IsTrue, IfSome, IfNone, is_some, slice_get}
 use Rattle.std.proofs.lemmas.Bool.{false≢true, not-true, not_from_false, cases_eq, cases_lt, and_parts, and_from, or_cases, or_left, or_right}
 use Rattle.std.proofs.lemmas.List.{length_push}
 use Rattle.std.proofs.lemmas.Option.{same_Some, slice_get-get_or, slice_get_cases, slice_get_past}
@@ -15,7 +15,9 @@ use Rattle.body_rewrites.specs.ThoseLemmas.{those_with, those_without, those_as}
 use Rattle.module_rewrites.specs.Function.{IsFunction}
 use Rattle.module_rewrites.specs.Scope.{Scope, wanted_of}
 use Rattle.module_commands.specs.Blocks.{HasNoDelimiter, IsBlock, IsBlockIn, delimits, is_delimiter_of}
-use Rattle.module_commands.specs.Reach.{AreCounted, AreCountedAt, AreOfBody, AreOfEntries, AreOfEntry, Counts, EndsBlock, EndsReached, HoldsReached, IsIntegerAt, IsOneIf, Told, nothing, number_of, numbers_below, part_in_64_bits, part_of, part_sum, reach_in_64_bits, sum_of}
+use Rattle.module_commands.specs.Reach.{AreCounted, AreCountedAt, AreOfBody, AreOfEntries, AreOfEntry, Counts, CountsFamily, CountsFamilyAt, EndsBlock, EndsReached, HoldsReached, IsOfFamily, IsOneIf, Told, no_part, nothing, number_of, numbers_below, part_in_64_bits, part_of, part_sum, reach_in_64_bits, sum_of}
+use Rattle.module_commands.specs.declared.families.Family.{Family}
+use Rattle.module_commands.specs.declared.families.Family.TheVariants.{Integers, Floats, Vectors, Accesses}
 use Rattle.module_commands.specs.declared.reach.Part.{Part}
 use Rattle.module_commands.specs.declared.reach.Reach.{Reach}
 
@@ -64,11 +66,13 @@ cap_both a b most = omega arith
 abbrev make_part : (all within : ℕ) → Part
 make_part all within = record { all = all; within = within }
 
-abbrev make_reach : (operators blocks integers : Part) → Reach
-make_reach operators blocks integers = record { operators = operators; blocks = blocks; integers = integers }
+abbrev make_reach : (operators blocks integers floats vectors accesses : Part) → Reach
+make_reach operators blocks integers floats vectors accesses =
+    record { operators = operators; blocks = blocks; integers = integers; floats = floats; vectors = vectors; accesses = accesses }
 
-same_reach : (p q r s t u : Part) → p ≡ s → q ≡ t → r ≡ u → make_reach p q r ≡ make_reach s t u
-same_reach p q r s t u e f g = ap₂ (λ x y. make_reach x y r) e f ∙ ap (make_reach s t) g
+same_reach : (a b c d e f s t u v w x : Part) → a ≡ s → b ≡ t → c ≡ u → d ≡ v → e ≡ w → f ≡ x → make_reach a b c d e f ≡ make_reach s t u v w x
+same_reach a b c d e f s t u v w x g h i j k l =
+    ap₂ (λ p q. make_reach p q c d e f) g h ∙ (ap₂ (λ p q. make_reach s t p q e f) i j ∙ ap₂ (λ p q. make_reach s t u v p q) k l)
 
 left_part : (p q : Part) → part_in_64_bits (part_sum (part_in_64_bits p) q) ≡ part_in_64_bits (part_sum p q)
 left_part p q = ap₂ make_part (cap_left p.all q.all (2 ^ 64 - 1)) (cap_left p.within q.within (2 ^ 64 - 1))
@@ -77,13 +81,51 @@ both_parts : (p q : Part) → part_in_64_bits (part_sum (part_in_64_bits p) (par
 both_parts p q = ap₂ make_part (cap_both p.all q.all (2 ^ 64 - 1)) (cap_both p.within q.within (2 ^ 64 - 1))
 
 left_sum : (r s : Reach) → reach_in_64_bits (sum_of (reach_in_64_bits r) s) ≡ reach_in_64_bits (sum_of r s)
-left_sum r s = same_reach _ _ _ _ _ _ (left_part r.operators s.operators) (left_part r.blocks s.blocks) (left_part r.integers s.integers)
+left_sum r s =
+    same_reach _ _ _ _ _ _ _ _ _ _ _ _ (left_part r.operators s.operators) (left_part r.blocks s.blocks) (left_part r.integers s.integers)
+    (left_part r.floats s.floats) (left_part r.vectors s.vectors) (left_part r.accesses s.accesses)
 
 both_sums : (r s : Reach) → reach_in_64_bits (sum_of (reach_in_64_bits r) (reach_in_64_bits s)) ≡ reach_in_64_bits (sum_of r s)
-both_sums r s = same_reach _ _ _ _ _ _ (both_parts r.operators s.operators) (both_parts r.blocks s.blocks) (both_parts r.integers s.integers)
+both_sums r s =
+    same_reach _ _ _ _ _ _ _ _ _ _ _ _ (both_parts r.operators s.operators) (both_parts r.blocks s.blocks) (both_parts r.integers s.integers)
+    (both_parts r.floats s.floats) (both_parts r.vectors s.vectors) (both_parts r.accesses s.accesses)
 
 pub told_nothing : (Are : Reach → Type 0) (reach : Reach) → Are nothing → reach ≡ nothing → Told Are reach
 told_nothing Are reach are is = record { exact = nothing; are = are; as_told = is }
+
+-- ---- the instructions of a family
+
+module _ (Reached : ℕ → Type 0) (operators : Operators) (family : Family) where
+  family_none : CountsFamily Reached operators 0 family no_part
+  family_none = record { all = counts_none (IsOfFamily family operators); within = counts_none (λ at. IsOfFamily family operators at × Reached at) }
+
+  family_next : (n : ℕ) (before own : Part) → CountsFamily Reached operators n family before → CountsFamilyAt Reached operators n family own →
+      CountsFamily Reached operators (n + 1) family (part_sum before own)
+  family_next n before own h k = record {
+    all = counts_next (IsOfFamily family operators) n _ _ h.all k.all;
+    within = counts_next (λ at. IsOfFamily family operators at × Reached at) n _ _ h.within k.within;
+  }
+
+  -- what one operator counts
+  pub family_at : (at : ℕ) (there marked : Bool) (part : Part) → (IsTrue there ↔ IsOfFamily family operators at) → (IsTrue marked ↔ Reached at) →
+      part ≡ part_of there marked → CountsFamilyAt Reached operators at family part
+  family_at at there marked part is_there is_marked is =
+      let one : CountsFamilyAt Reached operators at family (part_of there marked) = record {
+        all = one_if (IsOfFamily family operators at) there is_there;
+        within = one_if (IsOfFamily family operators at × Reached at) (there && marked) (
+          λ t. (is_there.0 (and_parts there marked t).0, is_marked.0 (and_parts there marked t).1),
+          λ h. and_from there marked (is_there.1 h.0) (is_marked.1 h.1),
+        );
+      } in
+      subst (CountsFamilyAt Reached operators at family) (sym is) one
+
+family_as : (P Q : ℕ → Type 0) (operators : Operators) (family : Family) (end : ℕ) (part : Part) → ((at : ℕ) → P at ↔ Q at) →
+    CountsFamily P operators end family part → CountsFamily Q operators end family part
+family_as P Q operators family end part same h = record {
+  all = h.all;
+  within = counts_as (λ at. IsOfFamily family operators at × P at) (λ at. IsOfFamily family operators at × Q at) end _
+      (λ at. (λ k. (k.0, (same at).0 k.1), λ k. (k.0, (same at).1 k.1))) h.within;
+}
 
 -- ---- operator by operator
 
@@ -93,8 +135,10 @@ counted_none Reached operators = record {
   operators_within = counts_none Reached;
   blocks_all = counts_none (EndsBlock operators);
   blocks_within = counts_none (EndsReached Reached operators);
-  integers_all = counts_none (IsIntegerAt operators);
-  integers_within = counts_none (λ at. IsIntegerAt operators at × Reached at);
+  integers = family_none Reached operators Integers;
+  floats = family_none Reached operators Floats;
+  vectors = family_none Reached operators Vectors;
+  accesses = family_none Reached operators Accesses;
 }
 
 counted_next : (Reached : ℕ → Type 0) (operators : Operators) (n : ℕ) (before own : Reach) → AreCounted Reached operators n before →
@@ -107,8 +151,10 @@ counted_next Reached operators n before own h k =
       operators_within = counts_next Reached n _ _ h.operators_within k.operators_within;
       blocks_all = counts_next (EndsBlock operators) n _ _ h.blocks_all k.blocks_all;
       blocks_within = counts_next (EndsReached Reached operators) n _ _ h.blocks_within k.blocks_within;
-      integers_all = counts_next (IsIntegerAt operators) n _ _ h.integers_all k.integers_all;
-      integers_within = counts_next (λ at. IsIntegerAt operators at × Reached at) n _ _ h.integers_within k.integers_within;
+      integers = family_next Reached operators Integers n _ _ h.integers k.integers;
+      floats = family_next Reached operators Floats n _ _ h.floats k.floats;
+      vectors = family_next Reached operators Vectors n _ _ h.vectors k.vectors;
+      accesses = family_next Reached operators Accesses n _ _ h.accesses k.accesses;
     }
 
 pub told_next : (Reached : ℕ → Type 0) (operators : Operators) (n : ℕ) (before own new : Reach) → Told (AreCounted Reached operators n) before →
@@ -120,24 +166,23 @@ told_next Reached operators n before own new h k is = record {
 }
 
 -- what one operator counts
-pub counted_at : (Reached : ℕ → Type 0) (operators : Operators) (at : ℕ) (marked ends integer held : Bool) (p q r : Part) → (IsTrue marked ↔ Reached at) →
-    (IsTrue ends ↔ EndsBlock operators at) → (IsTrue integer ↔ IsIntegerAt operators at) → (IsTrue held ↔ HoldsReached Reached operators (at + 1)) →
-    p ≡ part_of true marked → q ≡ part_of ends held → r ≡ part_of integer marked →
-    AreCountedAt Reached operators at (make_reach p q r)
-counted_at Reached operators at marked ends integer held p q r is_marked is_end is_integer is_held p_is q_is r_is =
-    let one : AreCountedAt Reached operators at (make_reach (part_of true marked) (part_of ends held) (part_of integer marked)) =
+pub counted_at : (Reached : ℕ → Type 0) (operators : Operators) (at : ℕ) (marked ends held : Bool) (p q i f v a : Part) →
+    (IsTrue marked ↔ Reached at) → (IsTrue ends ↔ EndsBlock operators at) → (IsTrue held ↔ HoldsReached Reached operators (at + 1)) →
+    p ≡ part_of true marked → q ≡ part_of ends held →
+    CountsFamilyAt Reached operators at Integers i → CountsFamilyAt Reached operators at Floats f → CountsFamilyAt Reached operators at Vectors v →
+    CountsFamilyAt Reached operators at Accesses a → AreCountedAt Reached operators at (make_reach p q i f v a)
+counted_at Reached operators at marked ends held p q i f v a is_marked is_end is_held p_is q_is integers floats vectors accesses =
     record {
-      operators_all = refl;
-      operators_within = one_if (Reached at) marked is_marked;
-      blocks_all = one_if (EndsBlock operators at) ends is_end;
-      blocks_within = one_if (EndsReached Reached operators at) (ends && held) (forth, back);
-      integers_all = one_if (IsIntegerAt operators at) integer is_integer;
-      integers_within = one_if (IsIntegerAt operators at × Reached at) (integer && marked) (
-        λ t. (is_integer.0 (and_parts integer marked t).0, is_marked.0 (and_parts integer marked t).1),
-        λ h. and_from integer marked (is_integer.1 h.0) (is_marked.1 h.1),
-      );
-    } in
-    subst (AreCountedAt Reached operators at) (sym (same_reach _ _ _ _ _ _ p_is q_is r_is)) one
+      operators_all = ap (λ (part : Part). part.all) p_is;
+      operators_within = subst (λ (part : Part). IsOneIf (Reached at) part.within) (sym p_is) (one_if (Reached at) marked is_marked);
+      blocks_all = subst (λ (part : Part). IsOneIf (EndsBlock operators at) part.all) (sym q_is) (one_if (EndsBlock operators at) ends is_end);
+      blocks_within = subst (λ (part : Part). IsOneIf (EndsReached Reached operators at) part.within) (sym q_is)
+          (one_if (EndsReached Reached operators at) (ends && held) (forth, back));
+      integers = integers;
+      floats = floats;
+      vectors = vectors;
+      accesses = accesses;
+    }
   where
     -- in a block that ends there, what no delimiter stands behind stands in the block
     inside : (start : ℕ) → IsBlock operators start (at + 1) → HoldsReached Reached operators (at + 1) → EndsReached Reached operators at
@@ -169,16 +214,6 @@ counted_at Reached operators at marked ends integer held p q r is_marked is_end 
           λ k o low high is. e.block.range.none k o (omega (arith, from, low)) high is,
           e.reached,
         ))
-
--- ---- integer instructions
-
-some_map : {A B : Type 0} (f : A → B) (o : Option A) → is_some (option_map f o) ≡ is_some o
-some_map f None = refl
-some_map f (Some x) = refl
-
--- there is one where there is one of the same
-pub some_alike : {A B : Type 0} (f : A → B) (o : Option A) (found : Option B) → option_map f o ≡ found → is_some o ≡ is_some found
-some_alike f o found is = sym (some_map f o) ∙ ap is_some is
 
 -- ---- blocks
 
@@ -253,9 +288,10 @@ counted_as P Q operators end reach same h = record {
     λ e. record { start = e.start; block = e.block; at = e.at; from = e.from; to = e.to; reached = (same e.at).0 e.reached },
     λ e. record { start = e.start; block = e.block; at = e.at; from = e.from; to = e.to; reached = (same e.at).1 e.reached },
   )) h.blocks_within;
-  integers_all = h.integers_all;
-  integers_within = counts_as (λ at. IsIntegerAt operators at × P at) (λ at. IsIntegerAt operators at × Q at) end _
-      (λ at. (λ k. (k.0, (same at).0 k.1), λ k. (k.0, (same at).1 k.1))) h.integers_within;
+  integers = family_as P Q operators Integers end _ same h.integers;
+  floats = family_as P Q operators Floats end _ same h.floats;
+  vectors = family_as P Q operators Vectors end _ same h.vectors;
+  accesses = family_as P Q operators Accesses end _ same h.accesses;
 }
 
 -- a mark tells whether the operator is reached; behind the last one there is neither a mark nor an operator

@@ -2,6 +2,7 @@ pub mod Arguments
 pub mod Blocks
 pub mod Ending
 pub mod Failures
+pub mod Families
 pub mod Form
 pub mod Front
 pub mod Lines

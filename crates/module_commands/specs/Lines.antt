@@ -184,11 +184,18 @@ abbrev pub part_line : Form → (name word : List ℕ) → Part → List ℕ
 part_line Text name word part = part_text word part
 part_line Json name word part = json_line (part_object name part)
 
--- the operators, the blocks and the integer instructions
+-- the instructions of each family
+abbrev pub family_lines : Form → Reach → List ℕ
+family_lines form reach =
+    ((part_line form (codes "integers") (codes "integers   ") reach.integers ++ part_line form (codes "floats") (codes "floats     ") reach.floats)
+    ++ part_line form (codes "vectors") (codes "vectors    ") reach.vectors)
+    ++ part_line form (codes "accesses") (codes "accesses   ") reach.accesses
+
+-- the operators, the blocks and these
 abbrev pub reach_lines : Form → Reach → List ℕ
 reach_lines form reach =
     (part_line form (codes "operators") (codes "operators  ") reach.operators ++ part_line form (codes "blocks") (codes "blocks     ") reach.blocks)
-    ++ part_line form (codes "integers") (codes "integers   ") reach.integers
+    ++ family_lines form reach
 
 -- the bytes of the module, and of what is written
 abbrev pub sizes_text : (before behind : ℕ) → List ℕ

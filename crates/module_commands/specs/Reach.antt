@@ -1,19 +1,19 @@
 -- How much of a module rules reach (this project).
-use Rattle.std.specs.Prelude.{◌≡◌, ◌⊎◌, ◌==◌, ◌&&◌, if◌then◌else◌, ℕ, zero, suc, ◌+◌, ◌-◌, ◌^◌, ◌<◌, ◌≤◌, min, Bool, true, false, List, [], ◌∷◌, ◌++◌, length, Option, Some, None, is_some, slice_get}
+use Rattle.std.specs.Prelude.{◌≡◌, ◌⊎◌, ◌&&◌, ℕ, zero, suc, ◌+◌, ◌-◌, ◌^◌, ◌<◌, ◌≤◌, min, Bool, true, false, List, [], ◌∷◌, ◌++◌, length, Option, Some, None, slice_get}
 use Rattle.wasm_code.specs.declared.operator.Operator.{Operator}
-use Rattle.wasm_code.specs.declared.operator.Operator.TheVariants as op
 use Rattle.wasm_types.specs.Module.{Module}
 use Rattle.wasm_types.specs.declared.types.PrimitiveTypeInfo.{PrimitiveTypeInfo}
 use Rattle.wasm_module.specs.Module.{Layout}
 use Rattle.peephole_machine.specs.Values.{Context, context_in}
-use Rattle.peephole_machine.specs.IntegerRow.{bare_operator}
-use Rattle.peephole_machine.specs.Row.{instruction_byte}
 use Rattle.body_rewrites.specs.Listing.{AreThose}
 use Rattle.body_rewrites.specs.Reached.{IsReached}
 use Rattle.module_rewrites.specs.Attempt.{CanRead}
 use Rattle.module_rewrites.specs.Function.{IsFunction}
 use Rattle.module_rewrites.specs.Scope.{Scope, wanted_of}
 use Rattle.module_commands.specs.Blocks.{HasNoDelimiter, IsBlock}
+use Rattle.module_commands.specs.Families.{family_of}
+use Rattle.module_commands.specs.declared.families.Family.{Family}
+use Rattle.module_commands.specs.declared.families.Family.TheVariants.{Integers, Floats, Vectors, Accesses}
 use Rattle.module_commands.specs.declared.reach.Part.{Part}
 use Rattle.module_commands.specs.declared.reach.Reach.{Reach}
 
@@ -43,41 +43,33 @@ pub record EndsReached (Reached : ℕ → Type 0) (operators : List (Operator ×
   pub to : at ≤ last
   pub reached : Reached at
 
--- The opcodes of integer instructions, whose operands and results are i32 or i64 alone: 41 and 42, of the constants, and those of the operators, the
--- comparisons and the conversions.
-abbrev pub is_integer_byte : ℕ → Bool
-is_integer_byte byte = if byte == 0x41 then true else (if byte == 0x42 then true else is_some (bare_operator byte))
+-- that of an operator with its offset, where there is one
+abbrev pub family_in : Option (Operator × ℕ) → Option Family
+family_in None = None
+family_in (Some o) = family_of o.0
 
--- of an opcode, where that is one byte
-abbrev pub is_integer_opcode : Option ℕ → Bool
-is_integer_opcode None = false
-is_integer_opcode (Some byte) = is_integer_byte byte
+-- an instruction of the family stands there
+abbrev pub IsOfFamily : Family → List (Operator × ℕ) → (at : ℕ) → Type 0
+IsOfFamily family operators at = family_in (slice_get operators at) ≡ Some family
 
--- an operator that is an integer instruction; no control operator is one
-abbrev pub is_integer : Operator → Bool
-is_integer (op.Instr i) = is_integer_opcode (instruction_byte i)
-is_integer operator = false
-
--- the same of an operator with its offset, where there is one
-abbrev pub is_integer_of : Option (Operator × ℕ) → Bool
-is_integer_of None = false
-is_integer_of (Some o) = is_integer o.0
-
--- an integer instruction stands there
-abbrev pub IsIntegerAt : List (Operator × ℕ) → (at : ℕ) → Type 0
-IsIntegerAt operators at = is_integer_of (slice_get operators at) ≡ true
+-- Of the family's instructions below `end` these are how many there are, and how many of them are reached.
+pub record CountsFamily (Reached : ℕ → Type 0) (operators : List (Operator × ℕ)) (end : ℕ) (family : Family) (part : Part) : Type 0 where
+  pub all : Counts (IsOfFamily family operators) end part.all
+  pub within : Counts (λ at. IsOfFamily family operators at × Reached at) end part.within
 
 -- ---- the numbers of a body
 
--- Of the first `end` operators: how many they are, how many blocks end with one of them, and how many are integer instructions; and of each how many are
--- reached, a block by one of its operators.
+-- Of the first `end` operators: how many they are, how many blocks end with one of them, and how many are instructions of each family; and of each how many
+-- are reached, a block by one of its operators.
 pub record AreCounted (Reached : ℕ → Type 0) (operators : List (Operator × ℕ)) (end : ℕ) (reach : Reach) : Type 0 where
   pub operators_all : reach.operators.all ≡ end
   pub operators_within : Counts Reached end reach.operators.within
   pub blocks_all : Counts (EndsBlock operators) end reach.blocks.all
   pub blocks_within : Counts (EndsReached Reached operators) end reach.blocks.within
-  pub integers_all : Counts (IsIntegerAt operators) end reach.integers.all
-  pub integers_within : Counts (λ at. IsIntegerAt operators at × Reached at) end reach.integers.within
+  pub integers : CountsFamily Reached operators end Integers reach.integers
+  pub floats : CountsFamily Reached operators end Floats reach.floats
+  pub vectors : CountsFamily Reached operators end Vectors reach.vectors
+  pub accesses : CountsFamily Reached operators end Accesses reach.accesses
 
 -- so it is of all operators of the body, by the rules, where they are to make the module smaller by rewrites that leave no more operators
 abbrev pub AreOfBody : Context → Scope → List (Operator × ℕ) → Reach → Type 0
@@ -91,7 +83,7 @@ no_part = record { all = 0; within = 0 }
 
 -- nothing is counted
 abbrev pub nothing : Reach
-nothing = record { operators = no_part; blocks = no_part; integers = no_part }
+nothing = record { operators = no_part; blocks = no_part; integers = no_part; floats = no_part; vectors = no_part; accesses = no_part }
 
 -- two counts of one thing, together
 abbrev pub part_sum : Part → Part → Part
@@ -103,6 +95,9 @@ sum_of r s = record {
   operators = part_sum r.operators s.operators;
   blocks = part_sum r.blocks s.blocks;
   integers = part_sum r.integers s.integers;
+  floats = part_sum r.floats s.floats;
+  vectors = part_sum r.vectors s.vectors;
+  accesses = part_sum r.accesses s.accesses;
 }
 
 -- The numbers of the function of the n-th code entry; it counts nothing where it can't be read.
@@ -134,6 +129,9 @@ reach_in_64_bits r = record {
   operators = part_in_64_bits r.operators;
   blocks = part_in_64_bits r.blocks;
   integers = part_in_64_bits r.integers;
+  floats = part_in_64_bits r.floats;
+  vectors = part_in_64_bits r.vectors;
+  accesses = part_in_64_bits r.accesses;
 }
 
 -- Numbers of which that is so, told as numbers of 64 bits.
@@ -161,14 +159,21 @@ part_of there reached = record { all = number_of there; within = number_of (ther
 abbrev pub IsOneIf : Type 0 → ℕ → Type 0
 IsOneIf P n = (P × (n ≡ 1)) ⊎ (¬ P × (n ≡ 0))
 
+-- what the operator there counts of the family
+pub record CountsFamilyAt (Reached : ℕ → Type 0) (operators : List (Operator × ℕ)) (at : ℕ) (family : Family) (part : Part) : Type 0 where
+  pub all : IsOneIf (IsOfFamily family operators at) part.all
+  pub within : IsOneIf (IsOfFamily family operators at × Reached at) part.within
+
 -- what the operator there counts
 pub record AreCountedAt (Reached : ℕ → Type 0) (operators : List (Operator × ℕ)) (at : ℕ) (reach : Reach) : Type 0 where
   pub operators_all : reach.operators.all ≡ 1
   pub operators_within : IsOneIf (Reached at) reach.operators.within
   pub blocks_all : IsOneIf (EndsBlock operators at) reach.blocks.all
   pub blocks_within : IsOneIf (EndsReached Reached operators at) reach.blocks.within
-  pub integers_all : IsOneIf (IsIntegerAt operators at) reach.integers.all
-  pub integers_within : IsOneIf (IsIntegerAt operators at × Reached at) reach.integers.within
+  pub integers : CountsFamilyAt Reached operators at Integers reach.integers
+  pub floats : CountsFamilyAt Reached operators at Floats reach.floats
+  pub vectors : CountsFamilyAt Reached operators at Vectors reach.vectors
+  pub accesses : CountsFamilyAt Reached operators at Accesses reach.accesses
 
 -- a reached operator stands before `end`, and no delimiter from it on
 abbrev pub HoldsReached : (Reached : ℕ → Type 0) → List (Operator × ℕ) → (end : ℕ) → Type 0

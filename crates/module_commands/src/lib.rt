@@ -5,6 +5,7 @@ mod arguments;
 mod blocks;
 mod ending;
 mod failure;
+mod families;
 mod faults;
 mod form;
 mod front;
@@ -27,6 +28,7 @@ mod words;
 
 pub use ending::Ending;
 pub use failure::Failure;
+pub use families::Family;
 pub use form::Form;
 pub use options::{Flags, Misuse, Options, Task};
 pub use reach::{Part, Reach, reach_of};

@@ -1,22 +1,20 @@
 //! How much of a module rules reach.
-ghost use Rattle.std.specs.Prelude.{◌≡◌, ◌↔◌, ◌+◌, ◌<◌, length, slice_get, is_some, IfOk, IfErr, IsTrue};
+ghost use Rattle.std.specs.Prelude.{◌≡◌, ◌↔◌, ◌+◌, ◌<◌, length, IfOk, IfErr, IsTrue};
 ghost use Rattle.wasm_types.specs.declared.types.PrimitiveTypeInfo.{PrimitiveTypeInfo};
-ghost use Rattle.peephole_machine.specs.IntegerRow.{bare_operator};
-ghost use Rattle.peephole_machine.specs.Row.{instruction_byte};
 ghost use Rattle.peephole_machine.specs.Values.{context_in};
 ghost use Rattle.body_rewrites.specs.Reached.{IsMarked};
-ghost use Rattle.module_commands.specs.Reach.{AreCounted, AreCountedAt, AreOfBody, AreOfEntry, EndsBlock, HoldsReached, IsReach, Told};
-ghost use Rattle.module_commands.specs.Reach.{is_integer, is_integer_byte, is_integer_of, is_integer_opcode, nothing, number_of, part_in_64_bits, part_of, part_sum, reach_in_64_bits, sum_of};
+ghost use Rattle.module_commands.specs.Reach.{AreCounted, AreCountedAt, AreOfBody, AreOfEntry, CountsFamilyAt, EndsBlock, HoldsReached, IsOfFamily, IsReach, Told};
+ghost use Rattle.module_commands.specs.Reach.{no_part, nothing, number_of, part_in_64_bits, part_of, part_sum, reach_in_64_bits, sum_of};
 ghost use Rattle.module_commands.specs.declared.failure.Failure.TheVariants.{Memory};
 ghost use Rattle.wasm_module.specs.Module.{IsModule};
 
 use crate::blocks::{block_ending, delimits};
 use crate::failure::Failure;
+use crate::families::{Family, family_of, same_family};
 use body_rewrites::{Body, reached_operators, trees_of};
 use module_rewrites::{Scope, read_function};
-use peephole_machine::{Operation, opcode_byte};
 use std::alloc::Global;
-use wasm_code::{Instr, Operator, OperatorAndByteOffset};
+use wasm_code::OperatorAndByteOffset;
 use wasm_module::Layout;
 use wasm_types::{ModuleInfo, PrimitiveTypeInfo};
 
@@ -35,8 +33,14 @@ pub struct Reach {
     /// Blocks, and those that have such an operator.
     pub blocks: Part,
     /// Instructions whose operands and results are i32 or i64 alone: constants, operators, comparisons and conversions; and those
-    /// that are such operators.
+    /// that are such operators. The families below are counted the same way.
     pub integers: Part,
+    /// Instructions with an f32 or f64 among their operands and results: constants, operators, comparisons and conversions.
+    pub floats: Part,
+    /// Instructions on vectors that neither load nor store.
+    pub vectors: Part,
+    /// Loads and stores, of any type.
+    pub accesses: Part,
 }
 
 // What a truth value counts.
@@ -56,7 +60,7 @@ fn part_of(there: bool, reached: bool) -> Part
             within: number_of(reached),
         }
     } else {
-        Part { all: 0, within: 0 }
+        no_part()
     }
 }
 
@@ -81,8 +85,18 @@ impl Reach {
             operators: self.operators.plus(other.operators),
             blocks: self.blocks.plus(other.blocks),
             integers: self.integers.plus(other.integers),
+            floats: self.floats.plus(other.floats),
+            vectors: self.vectors.plus(other.vectors),
+            accesses: self.accesses.plus(other.accesses),
         }
     }
+}
+
+// Nothing of one kind is counted.
+fn no_part() -> Part
+    ensures { result ≡ no_part }
+{
+    Part { all: 0, within: 0 }
 }
 
 // Nothing is counted.
@@ -90,56 +104,21 @@ fn nothing() -> Reach
     ensures { result ≡ nothing }
 {
     Reach {
-        operators: Part { all: 0, within: 0 },
-        blocks: Part { all: 0, within: 0 },
-        integers: Part { all: 0, within: 0 },
+        operators: no_part(),
+        blocks: no_part(),
+        integers: no_part(),
+        floats: no_part(),
+        vectors: no_part(),
+        accesses: no_part(),
     }
 }
 
-// Whether the opcode is that of an operator on whole numbers.
-fn operates(byte: u8) -> bool
-    ensures { result ≡ is_some (bare_operator byte) }
-{
-    Operation::from_byte(byte).is_some()
-}
-
-// Whether the opcode is that of an integer instruction.
-fn is_integer_byte(byte: u8) -> bool
-    ensures { result ≡ is_integer_byte byte }
-{
-    match byte {
-        0x41 => true,
-        0x42 => true,
-        _ => operates(byte),
-    }
-}
-
-// Whether the instruction is an integer instruction.
-fn is_integer_instruction(instr: &Instr) -> bool
-    ensures { result ≡ is_integer_opcode (instruction_byte instr.now) }
-{
-    match opcode_byte(instr) {
-        Some(byte) => is_integer_byte(byte),
-        None => false,
-    }
-}
-
-// Whether the operator is an integer instruction.
-fn is_integer(operator: &Operator) -> bool
-    ensures { result ≡ is_integer operator.now }
-{
-    match operator {
-        Operator::Instr(instr) => is_integer_instruction(instr),
-        _ => false,
-    }
-}
-
-// Whether an integer instruction stands there.
-fn is_integer_at(operators: &[OperatorAndByteOffset], at: usize) -> bool
+// Whether an instruction of the family stands there.
+fn is_of_family(operators: &[OperatorAndByteOffset], at: usize, family: Family) -> bool
     requires { at < length operators.now }
-    ensures { result ≡ is_integer_of (slice_get operators.now at) }
+    ensures { IsTrue result ↔ IsOfFamily family operators.now at }
 {
-    is_integer(&operators[at].0)
+    same_family(family_of(&operators[at].0), family)
 }
 
 // Whether a block ends with the operator there.
@@ -171,6 +150,17 @@ fn holds_marked(operators: &[OperatorAndByteOffset], marks: &[bool], at: usize, 
     !stopped && (held || marked)
 }
 
+// What the operator there counts of the family.
+fn family_at(operators: &[OperatorAndByteOffset], marks: &[bool], at: usize, family: Family) -> Part
+    requires inside { at < length operators.now }
+    requires count { length marks.now ≡ length operators.now }
+    ensures { CountsFamilyAt (IsMarked marks.now) operators.now at family result }
+{
+    let there = is_of_family(operators, at, family);
+    let marked = is_marked(marks, at);
+    part_of(there, marked)
+}
+
 // What the operator there counts. `held`: whether it is marked, or one before it with no delimiter from that on, and it is none.
 fn reach_at(operators: &[OperatorAndByteOffset], marks: &[bool], at: usize, held: bool) -> Reach
     requires inside { at < length operators.now }
@@ -180,11 +170,13 @@ fn reach_at(operators: &[OperatorAndByteOffset], marks: &[bool], at: usize, held
 {
     let marked = is_marked(marks, at);
     let ends = ends_block(operators, at);
-    let integer = is_integer_at(operators, at);
     Reach {
         operators: part_of(true, marked),
         blocks: part_of(ends, held),
-        integers: part_of(integer, marked),
+        integers: family_at(operators, marks, at, Family::Integers),
+        floats: family_at(operators, marks, at, Family::Floats),
+        vectors: family_at(operators, marks, at, Family::Vectors),
+        accesses: family_at(operators, marks, at, Family::Accesses),
     }
 }
 
@@ -252,10 +244,10 @@ fn reach_of_function(
     reach_of_body(alloc, &function.locals, info, scope, &function.operators)
 }
 
-/// How much of a module the rules reach: of the operators, the blocks and the integer instructions of all its functions that can be
-/// read, how many there are, and how many one of the rules rewrites, or hold an operator that one rewrites; where rewrites are to make
-/// the module smaller, those that leave no more operators. A function that can't be read counts nothing. A number that 64 bits don't
-/// hold is the greatest that they hold.
+/// How much of a module the rules reach: of the operators, the blocks and the instructions of each family in all its functions that
+/// can be read, how many there are, and how many one of the rules rewrites, or hold an operator that one rewrites; where rewrites are to
+/// make the module smaller, those that leave no more operators. A function that can't be read counts nothing. A number that 64 bits
+/// don't hold is the greatest that they hold.
 ///
 /// It takes time linear in the module, but as `reached_operators` says. The only error is `Memory`: an allocation was refused.
 pub fn reach_of(

@@ -3,7 +3,7 @@ ghost use Rattle.std.specs.Prelude.{◌≡◌, ◌<◌, ◌≤◌, ℕ, List, le
 ghost use Rattle.std.specs.Io.KnownBytes.{Appends};
 ghost use Rattle.serde_json.specs.View.{view};
 ghost use Rattle.module_commands.specs.Failures.{FailsToReport};
-ghost use Rattle.module_commands.specs.Lines.{functions_line, functions_object, functions_text, part_line, part_object, part_text, reach_lines, sizes_line, sizes_object, sizes_text, stopped_line, stopped_name, stopped_object, stopped_part, stopped_text};
+ghost use Rattle.module_commands.specs.Lines.{family_lines, functions_line, functions_object, functions_text, part_line, part_object, part_text, reach_lines, sizes_line, sizes_object, sizes_text, stopped_line, stopped_name, stopped_object, stopped_part, stopped_text};
 ghost use Rattle.module_commands.specs.Reports.{ReportsFunctions, TellsIfUnread, made_lines, rewrites_report, stop_name};
 ghost use Rattle.module_commands.specs.declared.failure.Failure.TheVariants.{Memory};
 ghost use Rattle.wasm_module.specs.Module.{IsModule};
@@ -150,6 +150,25 @@ fn write_part<W: Write>(
     }
 }
 
+// Writes the lines of the families.
+fn write_families<W: Write>(
+    alloc: Global,
+    notes: &mut W,
+    form: Form,
+    reach: Reach,
+) -> Result<(), Failure>
+    ensures lines { OnOk result (Appends (W.contents notes.old) (W.contents notes.new)
+        (family_lines form reach)) }
+    ensures fails { IfErr result FailsToReport }
+{
+    let (integers, floats) = (reach.integers, reach.floats);
+    let (vectors, accesses) = (reach.vectors, reach.accesses);
+    write_part(alloc, notes, form, "integers", "integers   ", integers)?;
+    write_part(alloc, notes, form, "floats", "floats     ", floats)?;
+    write_part(alloc, notes, form, "vectors", "vectors    ", vectors)?;
+    write_part(alloc, notes, form, "accesses", "accesses   ", accesses)
+}
+
 /// Reports how much of a module rules reach.
 pub fn report_reach<W: Write>(
     alloc: Global,
@@ -170,14 +189,7 @@ pub fn report_reach<W: Write>(
         reach.operators,
     )?;
     write_part(alloc, notes, form, "blocks", "blocks     ", reach.blocks)?;
-    write_part(
-        alloc,
-        notes,
-        form,
-        "integers",
-        "integers   ",
-        reach.integers,
-    )
+    write_families(alloc, notes, form, reach)
 }
 
 // Writes the lines of the rewrites that were made.

@@ -155,12 +155,14 @@ own_asks context operators own.Forget start at (made.Global t g) h = absurd h
 own_asks context operators own.TeeToSet start at (made.Global t g) h = absurd h
 own_asks context operators own.DropNop start at (made.Global t g) h = absurd h
 own_asks context operators own.SetToTee start at (made.Global t g) h = absurd h
+own_asks context operators (own.Access n) start at (made.Global t g) h = absurd h
 own_asks context operators o start at made.Nothing h = inl refl
 own_asks context operators o start at (made.Constant t n) h = inl refl
 own_asks context operators o start at (made.Sum t n) h = inl refl
 own_asks context operators o start at made.Nop h = inl refl
 own_asks context operators o start at (made.SetAndGet n) h = inl refl
 own_asks context operators o start at (made.Tee n) h = inl refl
+own_asks context operators o start at (made.Access a w) h = inl refl
 
 row_asks : (context : Context) (operators : Operators) (line : Line) (at : ℕ) (change : Change) (w : Widths) → MakesBy context operators line at change w →
     AsksForNumbers change.asks

@@ -134,7 +134,8 @@ exact_is i o e =
 
 -- ---- its types
 
-abbrev fixed_operands : List PrimitiveTypeInfo → List Operand
+-- operands of these types
+abbrev pub fixed_operands : List PrimitiveTypeInfo → List Operand
 fixed_operands ts = map (λ t. typed (Some t)) ts
 
 accepted : (ts : List PrimitiveTypeInfo) → accept (fixed_operands ts) ts ≡ true
@@ -171,10 +172,13 @@ module _ (n : Named) where
       ap₂ both_of (column_is (column_by row.info.operands row.opcode) ts e) (results_are row.info.result t f)
 
 module _ (i : Instruction) (o : ExactOperator) (is : IsExactOperator i o) where
-  other_typed : (info : Module) → other_types info i o.operands ≡ Some (o.result ∷ [])
+  pub exact_type : (info : Module) → other_type (names_in info i.imm) i ≡ Some (record { operands = fixed_operands o.operands; results = o.result ∷ [] })
   unfolding other_type
+  exact_type info = type_is (names_in info i.imm) (row_at i.row) o.operands o.result is.operands_are is.result_is
+
+  other_typed : (info : Module) → other_types info i o.operands ≡ Some (o.result ∷ [])
   other_typed info =
-      ap (option_and_then (results_on o.operands)) (type_is (names_in info i.imm) (row_at i.row) o.operands o.result is.operands_are is.result_is)
+      ap (option_and_then (results_on o.operands)) (exact_type info)
       ∙ if_typed_is (accept (fixed_operands o.operands) o.operands) (o.result ∷ []) (accepted o.operands)
 
   pub exact_typed : (context : Context) → row_types context (other i) o.operands ≡ Some (o.result ∷ [])

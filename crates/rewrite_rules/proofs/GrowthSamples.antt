@@ -49,7 +49,12 @@ shrinking =
     codes "drop_double_float_lane_negative" ∷ codes "bits_to_float_lane_negative" ∷ codes "bits_to_float_lane_magnitude" ∷
     codes "drop_negative_in_float_magnitude" ∷ codes "drop_repeated_float_magnitude" ∷ codes "drop_splat_and_extract" ∷
     codes "extract_bits" ∷ codes "splat_of_bits" ∷ codes "drop_replaced_lane" ∷ codes "extract_signed_lane" ∷ codes "drop_decided_vector" ∷
-    codes "cancel_vector_complement" ∷ codes "gather_vector_mask" ∷ codes "bits_to_vector_xor" ∷ []
+    codes "cancel_vector_complement" ∷ codes "gather_vector_mask" ∷ codes "bits_to_vector_xor" ∷
+    codes "drop_extension_again" ∷ codes "drop_mask_in_extension" ∷ codes "drop_extension_in_mask" ∷
+    codes "shift_to_wide_sign_test" ∷ codes "difference_to_sign" ∷
+    codes "drop_clz_of_test" ∷
+    codes "shift_to_half" ∷
+    codes "shift_to_power_test" ∷ codes "negated_sign_test_to_sign" ∷ codes "sign_test_to_half" ∷ codes "drop_extension_in_remainder" ∷ []
 
 keeping : List (List ℕ)
 keeping =
@@ -61,7 +66,11 @@ keeping =
     codes "neg_out_of_copysign" ∷ codes "neg_into_copysign" ∷ codes "commute_floats" ∷ codes "turn_floats" ∷ codes "self_equality_to_le" ∷
     codes "self_equality_to_ge" ∷ codes "self_order_to_equality" ∷
     codes "commute_vector_bits" ∷ codes "associate_vector_bits_left" ∷ codes "associate_vector_bits_right" ∷ codes "commute_lanes" ∷
-    codes "associate_lanes_left" ∷ codes "associate_lanes_right" ∷ codes "turn_lane_test" ∷ codes "turn_lane_bound" ∷ []
+    codes "associate_lanes_left" ∷ codes "associate_lanes_right" ∷ codes "turn_lane_test" ∷ codes "turn_lane_bound" ∷
+    codes "wrap_before_extension" ∷ codes "wrap_behind_extension" ∷ codes "widen_before_extension" ∷ codes "widen_behind_extension" ∷
+    codes "sign_test_to_shift" ∷ codes "shift_to_sign_test" ∷ codes "above_zero_to_unequal" ∷ codes "unequal_to_above_zero" ∷
+    codes "power_test_to_previous" ∷
+    codes "previous_to_power_test" ∷ []
 
 -- and all others grow
 growth : List ℕ → Growth

@@ -1,3 +1,4 @@
+pub mod PassLemmas
 pub mod NeedsLemmas
 pub mod NeedsSamples
 pub mod NameLemmas
@@ -26,4 +27,5 @@ pub mod ExactSamples
 pub mod InstructionLemmas
 pub mod GrowingLemmas
 pub mod ApplyingLemmas
+pub mod AccessFormedLemmas
 pub mod beside

@@ -40,15 +40,15 @@ use Rattle.rewrite_rules.proofs.TypesLemmas.{behind_is, after_append, after_abov
 cast_back : (w : Width) (n : ℕ) → cast_unsigned w (cast_signed w (n % 2 ^ bits w)) % 2 ^ bits w ≡ n % 2 ^ bits w
 cast_back w n = ap (λ x. x % 2 ^ bits w) (of_z-to_z w (n % 2 ^ bits w) (mod-lt n (pow_pos (bits w)))) ∙ mod-mod n (2 ^ bits w)
 
-constant_row : (t : IntegerType) (n : ℕ) → integer_row (constant_code t n) ≡ row.constant t (cast_unsigned (width_of t) (cast_signed (width_of t) (low t n)))
+pub constant_row : (t : IntegerType) (n : ℕ) → integer_row (constant_code t n) ≡ row.constant t (cast_unsigned (width_of t) (cast_signed (width_of t) (low t n)))
 unfolding integer_row table row_at
 constant_row integer.I32 n = refl
 constant_row integer.I64 n = refl
 
-constant_types : (context : Context) (t : IntegerType) (n : ℕ) → row_types context (integer_row (constant_code t n)) [] ≡ Some (type_of t ∷ [])
+pub constant_types : (context : Context) (t : IntegerType) (n : ℕ) → row_types context (integer_row (constant_code t n)) [] ≡ Some (type_of t ∷ [])
 constant_types context t n = ap (λ r. row_types context r []) (constant_row t n)
 
-constant_runs : (t : IntegerType) (n : ℕ) (stack : List Value) (s : State) →
+pub constant_runs : (t : IntegerType) (n : ℕ) (stack : List Value) (s : State) →
     run (constant_code t n ∷ []) stack s ≡ Ends (stack ++ record { type = type_of t; number = low t n } ∷ []) s
 constant_runs t n stack s =
     let z = cast_unsigned (width_of t) (cast_signed (width_of t) (low t n)) in

@@ -131,7 +131,7 @@ row_is (Exact n i) e = exact_row n i e
 abbrev pub types_at : PrimitiveTypeInfo → List Kind → List PrimitiveTypeInfo
 types_at u ks = map (kind_at u) ks
 
-same_at : (u : PrimitiveTypeInfo) (ts : List PrimitiveTypeInfo) → types_at u (map fixed ts) ≡ ts
+pub same_at : (u : PrimitiveTypeInfo) (ts : List PrimitiveTypeInfo) → types_at u (map fixed ts) ≡ ts
 same_at u [] = refl
 same_at u (t ∷ ts) = ap (λ xs. t ∷ xs) (same_at u ts)
 

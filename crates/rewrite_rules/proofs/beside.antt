@@ -5,3 +5,10 @@ pub mod GlobalRule
 pub mod NopRules
 pub mod LocalRules
 pub mod BesideLemmas
+pub mod FrameLemmas
+pub mod ConversionLemmas
+pub mod AccessNumbers
+pub mod AccessLemmas
+pub mod ConstantLemmas
+pub mod AccessRows
+pub mod AccessRules

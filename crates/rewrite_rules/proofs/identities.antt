@@ -29,4 +29,10 @@ pub mod RowLemmas
 pub mod VectorRows
 pub mod LaneTestRows
 pub mod LaneMoveRows
+pub mod ExtensionIdentities
+pub mod ExtensionRows
+pub mod SignTestIdentities
+pub mod PowerTestIdentities
+pub mod HalfIdentities
+pub mod UndoneRows
 pub mod TableLemmas

@@ -1,7 +1,7 @@
 -- Rules that are no rows of the table (this project).
-use Rattle.std.specs.Prelude.{◌≡◌, ℕ, ◌+◌, ◌-◌, ◌^◌, false, List, [], ◌∷◌, ◌++◌, length, map, Some}
+use Rattle.std.specs.Prelude.{◌≡◌, ℕ, ◌+◌, ◌-◌, ◌^◌, true, false, List, [], ◌∷◌, ◌++◌, length, map, Some}
 use mir.Val.{bits}
-use Rattle.wasm_code.specs.Instruction.{Instruction}
+use Rattle.wasm_code.specs.Instruction.{Instruction, IsInstruction}
 use Rattle.wasm_code.specs.declared.immediate.Imm.TheVariants as imm
 use Rattle.wasm_types.specs.declared.types.PrimitiveTypeInfo.{PrimitiveTypeInfo}
 use Rattle.peephole_machine.specs.declared.integer.IntegerType.{IntegerType}
@@ -16,6 +16,9 @@ use Rattle.peephole_programs.specs.control.Wider.{wider}
 use Rattle.peephole_programs.specs.validation.StaysValid.{ChecksAs}
 use Rattle.rewrite_rules.specs.declared.pattern.Operator.TheVariants.{Whole}
 use Rattle.rewrite_rules.specs.Code.{Leaves, writes, traps}
+use Rattle.wasm_code.specs.declared.immediate.Imm.{Imm}
+use Rattle.rewrite_rules.specs.declared.access.Access.{Access}
+use Rattle.rewrite_rules.specs.Access.{access_at, code_with, left_code, right_code, written_imm}
 use Rattle.rewrite_rules.specs.Numbers.{low}
 use Rattle.rewrite_rules.specs.Instance.{constant_code, operator_code, StandsFor}
 
@@ -96,3 +99,6 @@ pub record BesidesKeepCode : Type 0 where
   pub tee_to_set : (context : Context) (n : ℕ) → StandsWith context [] (tee_local n ∷ []) (set_local n ∷ get_local n ∷ [])
   -- a set and a get of a local → a tee
   pub set_to_tee : (context : Context) (n : ℕ) → StandsWith context [] (set_local n ∷ get_local n ∷ []) (tee_local n ∷ [])
+  -- where what runs the module is exact, an instruction with an immediate that is listed → the other one
+  pub access : (context : Context) (n : ℕ) (a : Access) (i k : Imm) → context.info.exact ≡ true → access_at n ≡ Some a →
+      IsInstruction (code_with a.left.row i) → written_imm a i ≡ Some k → StandsWith context [] (left_code a i) (right_code a k)

@@ -1,14 +1,16 @@
 -- What a row does to the number of instructions, as the code has it (this project).
-use Rattle.std.specs.Prelude.{◌≡◌, ℕ, ◌+◌, List, [], ◌∷◌, Some, slice_get}
+use Rattle.std.specs.Prelude.{◌≡◌, ℕ, ◌+◌, List, [], ◌∷◌, Option, Some, None, slice_get}
 use Rattle.peephole_machine.specs.declared.integer.IntegerType.{IntegerType}
 use Rattle.rewrite_rules.specs.declared.growth.Growth as code
 use Rattle.rewrite_rules.specs.declared.growth.Growth.TheVariants.{Shrinks, Keeps, Grows}
 use Rattle.rewrite_rules.specs.declared.table.Own as beside
-use Rattle.rewrite_rules.specs.declared.table.Own.TheVariants.{Unfold, ThroughGlobal, WithNop, Fold, Forget, TeeToSet, DropNop, SetToTee}
+use Rattle.rewrite_rules.specs.declared.table.Own.TheVariants.{Unfold, ThroughGlobal, WithNop, Fold, Forget, TeeToSet, DropNop, SetToTee, Access}
 use Rattle.rewrite_rules.specs.declared.table.Row.{Row}
 use Rattle.rewrite_rules.specs.declared.table.Step.{Step}
 use Rattle.rewrite_rules.specs.declared.table.Step.TheVariants.{Operand, End}
 use Rattle.rewrite_rules.specs.declared.table.Widths.TheVariants.{Own}
+use Rattle.rewrite_rules.specs.declared.access.Access as listed
+use Rattle.rewrite_rules.specs.Access.{access_at, access_growth}
 use Rattle.rewrite_rules.specs.Growth.{Growth, shrinks, keeps, grows, growth_of}
 use Rattle.rewrite_rules.specs.Applying.{IsFormed}
 use Rattle.rewrite_rules.specs.Table.{widths_in, line_of}
@@ -25,6 +27,11 @@ own_steps (End ∷ steps) = 0
 own_steps (Operand n ∷ steps) = own_steps steps
 own_steps (s ∷ steps) = own_steps steps + 1
 
+-- what an access does, where there is one
+abbrev pub growth_told : Option listed.Access → code.Growth
+growth_told (Some a) = access_growth a
+growth_told None = Grows
+
 -- what the rules beside the table do
 abbrev pub own_growth : beside.Own → code.Growth
 own_growth Unfold = Grows
@@ -35,6 +42,7 @@ own_growth Forget = Shrinks
 own_growth TeeToSet = Grows
 own_growth DropNop = Shrinks
 own_growth SetToTee = Shrinks
+own_growth (Access n) = growth_told (access_at n)
 
 -- It is what each of the row's lines that is well formed does; of a rule beside the table, what that does.
 pub record GrowsAs (row : Row) (growth : code.Growth) : Type 0 where

@@ -18,4 +18,5 @@ pub mod Holes
 pub mod Applying
 pub mod Growing
 pub mod Texts
+pub mod Access
 pub mod Beside

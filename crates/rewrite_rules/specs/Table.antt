@@ -27,7 +27,9 @@ use Rattle.rewrite_rules.specs.declared.table.TheConstants.{FLOATS, FLOAT_BITS, 
 use Rattle.rewrite_rules.specs.declared.table.TheConstants.{VECTOR_BITS, VECTOR_FORMS, LANE_SUMS, LANE_NEGATIVES, LANE_ZEROS, LANE_MAGNITUDES}
 use Rattle.rewrite_rules.specs.declared.table.TheConstants.{LANE_ORDERS, WIDE_ORDERS, LANE_OPPOSITES, WIDE_OPPOSITES, LANE_COMPLEMENTS, WIDE_COMPLEMENTS}
 use Rattle.rewrite_rules.specs.declared.table.TheConstants.{LANE_BOUNDS, LANE_REPEATS, LANE_CHOICES, LANE_SHIFTS, LANE_TURNS, LANE_FLOATS}
+use Rattle.rewrite_rules.specs.declared.table.TheConstants.{ACCESS_BITS, ACCESS_WIDTHS, LOAD_SIGNS, STORE_SIGNS, ALIGNMENTS, CONSTANTS}
 use Rattle.rewrite_rules.specs.declared.table.TheConstants.{LANE_SPLATS, LANE_BITS, SPLAT_BITS, SIGNED_LANES, EXTENDED_LANES, VECTOR_DECIDED}
+use Rattle.rewrite_rules.specs.declared.table.TheConstants.{EXTENSIONS, EXTENSION_MASKS, EXTENSION_MOVES, SIGN_TESTS, POWER_TESTS, ZERO_COUNTS, HALVES, UNDONE}
 use Rattle.rewrite_rules.specs.Pattern.{Kind, fixed, any, operands_of, Pattern, Patterns, hole, constant, drawn, apply, none, ◌▹◌}
 use Rattle.rewrite_rules.specs.Instance.{row_number, immediate_of}
 use Rattle.rewrite_rules.specs.Parts.{parts_of}
@@ -183,7 +185,9 @@ parts =
     VECTOR_BITS ∷ VECTOR_FORMS ∷ LANE_SUMS ∷ LANE_NEGATIVES ∷ LANE_ZEROS ∷ LANE_MAGNITUDES ∷
     LANE_ORDERS ∷ WIDE_ORDERS ∷ LANE_OPPOSITES ∷ WIDE_OPPOSITES ∷ LANE_COMPLEMENTS ∷ WIDE_COMPLEMENTS ∷
     LANE_BOUNDS ∷ LANE_REPEATS ∷ LANE_CHOICES ∷ LANE_SHIFTS ∷ LANE_TURNS ∷ LANE_FLOATS ∷
-    LANE_SPLATS ∷ LANE_BITS ∷ SPLAT_BITS ∷ SIGNED_LANES ∷ EXTENDED_LANES ∷ VECTOR_DECIDED ∷ []
+    LANE_SPLATS ∷ LANE_BITS ∷ SPLAT_BITS ∷ SIGNED_LANES ∷ EXTENDED_LANES ∷ VECTOR_DECIDED ∷
+    ACCESS_BITS ∷ ACCESS_WIDTHS ∷ LOAD_SIGNS ∷ STORE_SIGNS ∷ ALIGNMENTS ∷ CONSTANTS ∷
+    EXTENSIONS ∷ EXTENSION_MASKS ∷ EXTENSION_MOVES ∷ SIGN_TESTS ∷ POWER_TESTS ∷ ZERO_COUNTS ∷ HALVES ∷ UNDONE ∷ []
 
 abbrev pub part_at : ℕ → List Entry
 part_at n = get_or parts n []

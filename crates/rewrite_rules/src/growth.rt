@@ -4,6 +4,7 @@ ghost use Rattle.std.specs.List.{remove};
 ghost use Rattle.rewrite_rules.specs.Growth.{without, left_over, growth_by};
 ghost use Rattle.rewrite_rules.specs.Growing.{own_steps, shown, own_growth, GrowsAs};
 
+use crate::access::access_at;
 use crate::holes::holes_of;
 use crate::laws::holes_are_told;
 use crate::table::{Own, Row, Side, Step, Widths};
@@ -93,6 +94,10 @@ impl Own {
             Own::TeeToSet => Growth::Grows,
             Own::DropNop => Growth::Shrinks,
             Own::SetToTee => Growth::Shrinks,
+            Own::Access(number) => match access_at(number) {
+                Some(access) => access.growth(),
+                None => Growth::Grows,
+            },
         }
     }
 }

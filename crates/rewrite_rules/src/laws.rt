@@ -1,5 +1,6 @@
 //! What holds of the rules. A function here does nothing: its contract is the laws.
 
+ghost use Rattle.rewrite_rules.specs.Access.{AccessesAreFormed};
 ghost use Rattle.rewrite_rules.specs.Applying.{ExactRowsAreTold};
 ghost use Rattle.rewrite_rules.specs.Laws.{LinesKeepCode, TableIsRight};
 ghost use Rattle.rewrite_rules.specs.Names.{NamesDiffer, AreFew};
@@ -76,6 +77,12 @@ pub fn besides_keep_code()
     validity_goes_by_types();
     lines_keep_code();
 }
+
+/// What each of the accesses that are listed writes is well formed: rows and immediates go together, and an alignment that is at most
+/// natural stays so.
+pub fn accesses_are_formed()
+    ensures { AccessesAreFormed }
+{}
 
 /// There are fewer rows, and so rules, than numbers of 16 bits.
 pub fn rows_are_few()

@@ -1,6 +1,7 @@
 //! Rules that rewrite code, as rows of a table, and what holds of them.
 #![tactic(auto)]
 
+mod access;
 mod applying;
 mod effects;
 mod growth;
@@ -22,6 +23,7 @@ mod tests;
 mod text_tests;
 mod texts;
 
+pub use access::{Access, AccessKind, AccessSide, Conversion, access_at};
 pub use applying::Found;
 pub use effects::{traps, writes};
 pub use growth::Growth;

@@ -5,13 +5,15 @@ ghost use Rattle.rewrite_rules.specs.Lines.{shown, shown_at};
 ghost use Rattle.rewrite_rules.specs.Names.{begin_at};
 
 use crate::table::{
-    ABSORBED, AGAIN, ALONE, BACK, COUNTED, EQUALS, EXTENDED_LANES, FLOAT_BITS, FLOAT_COPIES,
+    ABSORBED, ACCESS_BITS, ACCESS_WIDTHS, AGAIN, ALIGNMENTS, ALONE, BACK, CONSTANTS, COUNTED,
+    EQUALS, EXTENDED_LANES, EXTENSION_MASKS, EXTENSION_MOVES, EXTENSIONS, FLOAT_BITS, FLOAT_COPIES,
     FLOAT_ORDERS, FLOAT_SELVES, FLOAT_SIGNS, FLOAT_TESTS, FLOAT_TURNS, FLOATS, FORMS, FRONT,
-    GROUPS, LANE_BITS, LANE_BOUNDS, LANE_CHOICES, LANE_COMPLEMENTS, LANE_FLOATS, LANE_MAGNITUDES,
-    LANE_NEGATIVES, LANE_OPPOSITES, LANE_ORDERS, LANE_REPEATS, LANE_SHIFTS, LANE_SPLATS, LANE_SUMS,
-    LANE_TURNS, LANE_ZEROS, LONGER, NEUTRAL, OPPOSITES, ORDERS, PARTS, POWERS, Row, SETTLED,
-    SHORTER, SIGNED_LANES, SIGNS, SPLAT_BITS, TESTS, TURNED, TWICE, TableLine, VECTOR_BITS,
-    VECTOR_DECIDED, VECTOR_FORMS, WIDE_COMPLEMENTS, WIDE_OPPOSITES, WIDE_ORDERS,
+    GROUPS, HALVES, LANE_BITS, LANE_BOUNDS, LANE_CHOICES, LANE_COMPLEMENTS, LANE_FLOATS,
+    LANE_MAGNITUDES, LANE_NEGATIVES, LANE_OPPOSITES, LANE_ORDERS, LANE_REPEATS, LANE_SHIFTS,
+    LANE_SPLATS, LANE_SUMS, LANE_TURNS, LANE_ZEROS, LOAD_SIGNS, LONGER, NEUTRAL, OPPOSITES, ORDERS,
+    PARTS, POWER_TESTS, POWERS, Row, SETTLED, SHORTER, SIGN_TESTS, SIGNED_LANES, SIGNS, SPLAT_BITS,
+    STORE_SIGNS, TESTS, TURNED, TWICE, TableLine, UNDONE, VECTOR_BITS, VECTOR_DECIDED,
+    VECTOR_FORMS, WIDE_COMPLEMENTS, WIDE_OPPOSITES, WIDE_ORDERS, ZERO_COUNTS,
 };
 
 // The lines of each constant, each of which stands once in memory.
@@ -120,6 +122,34 @@ static SIGNED_LANES_LINES: [TableLine; SIGNED_LANES.len()] = SIGNED_LANES;
 static EXTENDED_LANES_LINES: [TableLine; EXTENDED_LANES.len()] = EXTENDED_LANES;
 
 static VECTOR_DECIDED_LINES: [TableLine; VECTOR_DECIDED.len()] = VECTOR_DECIDED;
+
+static ACCESS_BITS_LINES: [TableLine; ACCESS_BITS.len()] = ACCESS_BITS;
+
+static ACCESS_WIDTHS_LINES: [TableLine; ACCESS_WIDTHS.len()] = ACCESS_WIDTHS;
+
+static LOAD_SIGNS_LINES: [TableLine; LOAD_SIGNS.len()] = LOAD_SIGNS;
+
+static STORE_SIGNS_LINES: [TableLine; STORE_SIGNS.len()] = STORE_SIGNS;
+
+static ALIGNMENTS_LINES: [TableLine; ALIGNMENTS.len()] = ALIGNMENTS;
+
+static CONSTANTS_LINES: [TableLine; CONSTANTS.len()] = CONSTANTS;
+
+static EXTENSIONS_LINES: [TableLine; EXTENSIONS.len()] = EXTENSIONS;
+
+static EXTENSION_MASKS_LINES: [TableLine; EXTENSION_MASKS.len()] = EXTENSION_MASKS;
+
+static EXTENSION_MOVES_LINES: [TableLine; EXTENSION_MOVES.len()] = EXTENSION_MOVES;
+
+static SIGN_TESTS_LINES: [TableLine; SIGN_TESTS.len()] = SIGN_TESTS;
+
+static POWER_TESTS_LINES: [TableLine; POWER_TESTS.len()] = POWER_TESTS;
+
+static ZERO_COUNTS_LINES: [TableLine; ZERO_COUNTS.len()] = ZERO_COUNTS;
+
+static HALVES_LINES: [TableLine; HALVES.len()] = HALVES;
+
+static UNDONE_LINES: [TableLine; UNDONE.len()] = UNDONE;
 
 // The line with that number among these.
 fn line_in(lines: &'static [TableLine], number: usize) -> Option<&'static TableLine>
@@ -447,6 +477,90 @@ fn in_vector_decided(number: usize) -> Option<&'static TableLine>
     line_in(&VECTOR_DECIDED_LINES, number)
 }
 
+fn in_access_bits(number: usize) -> Option<&'static TableLine>
+    ensures { shown_at result ≡ slice_get ACCESS_BITS number }
+{
+    line_in(&ACCESS_BITS_LINES, number)
+}
+
+fn in_access_widths(number: usize) -> Option<&'static TableLine>
+    ensures { shown_at result ≡ slice_get ACCESS_WIDTHS number }
+{
+    line_in(&ACCESS_WIDTHS_LINES, number)
+}
+
+fn in_load_signs(number: usize) -> Option<&'static TableLine>
+    ensures { shown_at result ≡ slice_get LOAD_SIGNS number }
+{
+    line_in(&LOAD_SIGNS_LINES, number)
+}
+
+fn in_store_signs(number: usize) -> Option<&'static TableLine>
+    ensures { shown_at result ≡ slice_get STORE_SIGNS number }
+{
+    line_in(&STORE_SIGNS_LINES, number)
+}
+
+fn in_alignments(number: usize) -> Option<&'static TableLine>
+    ensures { shown_at result ≡ slice_get ALIGNMENTS number }
+{
+    line_in(&ALIGNMENTS_LINES, number)
+}
+
+fn in_constants(number: usize) -> Option<&'static TableLine>
+    ensures { shown_at result ≡ slice_get CONSTANTS number }
+{
+    line_in(&CONSTANTS_LINES, number)
+}
+
+fn in_extensions(number: usize) -> Option<&'static TableLine>
+    ensures { shown_at result ≡ slice_get EXTENSIONS number }
+{
+    line_in(&EXTENSIONS_LINES, number)
+}
+
+fn in_extension_masks(number: usize) -> Option<&'static TableLine>
+    ensures { shown_at result ≡ slice_get EXTENSION_MASKS number }
+{
+    line_in(&EXTENSION_MASKS_LINES, number)
+}
+
+fn in_extension_moves(number: usize) -> Option<&'static TableLine>
+    ensures { shown_at result ≡ slice_get EXTENSION_MOVES number }
+{
+    line_in(&EXTENSION_MOVES_LINES, number)
+}
+
+fn in_sign_tests(number: usize) -> Option<&'static TableLine>
+    ensures { shown_at result ≡ slice_get SIGN_TESTS number }
+{
+    line_in(&SIGN_TESTS_LINES, number)
+}
+
+fn in_power_tests(number: usize) -> Option<&'static TableLine>
+    ensures { shown_at result ≡ slice_get POWER_TESTS number }
+{
+    line_in(&POWER_TESTS_LINES, number)
+}
+
+fn in_zero_counts(number: usize) -> Option<&'static TableLine>
+    ensures { shown_at result ≡ slice_get ZERO_COUNTS number }
+{
+    line_in(&ZERO_COUNTS_LINES, number)
+}
+
+fn in_halves(number: usize) -> Option<&'static TableLine>
+    ensures { shown_at result ≡ slice_get HALVES number }
+{
+    line_in(&HALVES_LINES, number)
+}
+
+fn in_undone(number: usize) -> Option<&'static TableLine>
+    ensures { shown_at result ≡ slice_get UNDONE number }
+{
+    line_in(&UNDONE_LINES, number)
+}
+
 // The same, by the number of the constant.
 fn line_of(part: usize, number: usize) -> Option<&'static TableLine>
     ensures { shown_at result ≡ slice_get (part_at part) number }
@@ -505,15 +619,29 @@ fn line_of(part: usize, number: usize) -> Option<&'static TableLine>
         50 => in_signed_lanes(number),
         51 => in_extended_lanes(number),
         52 => in_vector_decided(number),
+        53 => in_access_bits(number),
+        54 => in_access_widths(number),
+        55 => in_load_signs(number),
+        56 => in_store_signs(number),
+        57 => in_alignments(number),
+        58 => in_constants(number),
+        59 => in_extensions(number),
+        60 => in_extension_masks(number),
+        61 => in_extension_moves(number),
+        62 => in_sign_tests(number),
+        63 => in_power_tests(number),
+        64 => in_zero_counts(number),
+        65 => in_halves(number),
+        66 => in_undone(number),
         _ => None,
     }
 }
 
 // How many lines each constant has.
-const COUNTS: [usize; 53] = [
+const COUNTS: [usize; 67] = [
     15, 10, 10, 11, 16, 8, 7, 6, 12, 10, 15, 6, 11, 11, 17, 16, 15, 16, 4, 14, 19, 20, 20, 18, 12,
     20, 12, 24, 12, 19, 18, 21, 24, 20, 16, 20, 16, 20, 16, 20, 16, 12, 24, 24, 24, 24, 20, 24, 24,
-    20, 24, 24, 14,
+    20, 24, 24, 14, 16, 26, 20, 20, 48, 6, 25, 20, 8, 10, 4, 6, 4, 10,
 ];
 
 // The line with that number in the table.
@@ -551,7 +679,7 @@ pub(crate) fn name_at(number: usize) -> Option<&'static str>
 }
 
 // How many lines there are.
-const LINE_COUNT: usize = 871;
+const LINE_COUNT: usize = 1094;
 
 /// How many rows there are.
 pub fn row_count() -> usize

@@ -103,6 +103,8 @@ pub enum Own {
     DropNop,
     /// `local.set` and `local.get` of one local as `local.tee`.
     SetToTee,
+    /// An instruction with an immediate as another one: the access with that number.
+    Access(u8),
 }
 
 /// What is asked of the number of a constant, by its index.
@@ -185,6 +187,8 @@ macro_rules! step {
     (ge_s) => { Step::Compare(Comparison::GeS) };
     (ge_u) => { Step::Compare(Comparison::GeU) };
     ((i32.eqz)) => { Step::Whole(Operation::Eqz(IntegerType::I32)) };
+    ((i32.clz)) => { Step::Whole(Operation::Unary(IntegerType::I32, Unary::Clz)) };
+    ((i64.clz)) => { Step::Whole(Operation::Unary(IntegerType::I64, Unary::Clz)) };
     ((i32.ctz)) => { Step::Whole(Operation::Unary(IntegerType::I32, Unary::Ctz)) };
     ((i64.ctz)) => { Step::Whole(Operation::Unary(IntegerType::I64, Unary::Ctz)) };
     ((i32.popcnt)) => { Step::Whole(Operation::Unary(IntegerType::I32, Unary::Popcnt)) };
@@ -375,12 +379,21 @@ macro_rules! row {
     };
 }
 
-// A rule that is no row: its name, and which one it is.
+// A rule that is no row: its name, and which one it is; of accesses, each of which is a line, the number, and the name where a rule begins.
 macro_rules! own {
     ($name:literal: $own:ident) => {
         (
             Some($name),
             Widths::Own(Own::$own),
+            None,
+            [Step::End; 7],
+            [Step::End; 7],
+        )
+    };
+    ($($name:literal:)? Access $number:literal) => {
+        (
+            name!($($name)?),
+            Widths::Own(Own::Access($number)),
             None,
             [Step::End; 7],
             [Step::End; 7],
@@ -1469,4 +1482,283 @@ pub const VECTOR_DECIDED: [TableLine; 14] = [
     row!("gather_vector_mask" for (V128): [x z (v128.and) y z (v128.and) (v128.or)] => [x y (v128.or) z (v128.and)]),
     row!("vector_xor_to_bits" for (V128): [x y (v128.xor)] => [x y (v128.andnot) y x (v128.andnot) (v128.or)]),
     row!("bits_to_vector_xor" for (V128): [x y (v128.andnot) y x (v128.andnot) (v128.or)] => [x y (v128.xor)]),
+];
+
+/// Loads and stores of floats by those of their bits, and back.
+pub const ACCESS_BITS: [TableLine; 16] = [
+    own!("float_load_to_bits": Access 0),
+    own!(Access 1),
+    own!("bits_to_float_load": Access 2),
+    own!(Access 3),
+    own!("load_by_float": Access 4),
+    own!(Access 5),
+    own!("float_to_load": Access 6),
+    own!(Access 7),
+    own!("float_store_to_bits": Access 8),
+    own!(Access 9),
+    own!("bits_to_float_store": Access 10),
+    own!(Access 11),
+    own!("store_by_float": Access 12),
+    own!(Access 13),
+    own!("float_to_store": Access 14),
+    own!(Access 15),
+];
+
+/// Loads and stores of i64 by those of i32, and loads of vectors by those of integers, and back.
+pub const ACCESS_WIDTHS: [TableLine; 26] = [
+    own!("load_and_extend": Access 16),
+    own!(Access 17),
+    own!(Access 18),
+    own!(Access 19),
+    own!(Access 20),
+    own!(Access 21),
+    own!("extend_in_load": Access 22),
+    own!(Access 23),
+    own!(Access 24),
+    own!(Access 25),
+    own!(Access 26),
+    own!(Access 27),
+    own!("wrap_and_store": Access 28),
+    own!(Access 29),
+    own!(Access 30),
+    own!("store_unwrapped": Access 31),
+    own!(Access 32),
+    own!(Access 33),
+    own!("load_and_splat": Access 34),
+    own!(Access 35),
+    own!(Access 36),
+    own!(Access 37),
+    own!("splat_in_load": Access 38),
+    own!(Access 39),
+    own!(Access 40),
+    own!(Access 41),
+];
+
+/// Loads with a sign by those without one, and masks of what is loaded.
+pub const LOAD_SIGNS: [TableLine; 20] = [
+    own!("load_and_extend_sign": Access 42),
+    own!(Access 43),
+    own!(Access 44),
+    own!(Access 45),
+    own!(Access 46),
+    own!("extend_sign_in_load": Access 47),
+    own!(Access 48),
+    own!(Access 49),
+    own!(Access 50),
+    own!(Access 51),
+    own!("put_mask_on_load": Access 52),
+    own!(Access 53),
+    own!(Access 54),
+    own!(Access 55),
+    own!(Access 56),
+    own!("drop_mask_on_load": Access 57),
+    own!(Access 58),
+    own!(Access 59),
+    own!(Access 60),
+    own!(Access 61),
+];
+
+/// Bits that a store doesn't write.
+pub const STORE_SIGNS: [TableLine; 20] = [
+    own!("put_extension_in_store": Access 62),
+    own!(Access 63),
+    own!(Access 64),
+    own!(Access 65),
+    own!(Access 66),
+    own!("drop_extension_in_store": Access 67),
+    own!(Access 68),
+    own!(Access 69),
+    own!(Access 70),
+    own!(Access 71),
+    own!("put_mask_in_store": Access 72),
+    own!(Access 73),
+    own!(Access 74),
+    own!(Access 75),
+    own!(Access 76),
+    own!("drop_mask_in_store": Access 77),
+    own!(Access 78),
+    own!(Access 79),
+    own!(Access 80),
+    own!(Access 81),
+];
+
+/// Loads and stores with the least alignment, and with the natural one.
+pub const ALIGNMENTS: [TableLine; 48] = [
+    own!("align_to_byte": Access 82),
+    own!(Access 83),
+    own!(Access 84),
+    own!(Access 85),
+    own!(Access 86),
+    own!(Access 87),
+    own!(Access 88),
+    own!(Access 89),
+    own!(Access 90),
+    own!(Access 91),
+    own!(Access 92),
+    own!(Access 93),
+    own!(Access 94),
+    own!(Access 95),
+    own!(Access 96),
+    own!(Access 97),
+    own!(Access 98),
+    own!(Access 99),
+    own!(Access 100),
+    own!(Access 101),
+    own!(Access 102),
+    own!(Access 103),
+    own!(Access 104),
+    own!(Access 105),
+    own!("align_naturally": Access 106),
+    own!(Access 107),
+    own!(Access 108),
+    own!(Access 109),
+    own!(Access 110),
+    own!(Access 111),
+    own!(Access 112),
+    own!(Access 113),
+    own!(Access 114),
+    own!(Access 115),
+    own!(Access 116),
+    own!(Access 117),
+    own!(Access 118),
+    own!(Access 119),
+    own!(Access 120),
+    own!(Access 121),
+    own!(Access 122),
+    own!(Access 123),
+    own!(Access 124),
+    own!(Access 125),
+    own!(Access 126),
+    own!(Access 127),
+    own!(Access 128),
+    own!(Access 129),
+];
+
+/// Constants of floats by their bits, and of vectors by their complements.
+pub const CONSTANTS: [TableLine; 6] = [
+    own!("float_constant_to_bits": Access 130),
+    own!(Access 131),
+    own!("bits_to_float_constant": Access 132),
+    own!(Access 133),
+    own!("complement_vector_constant": Access 134),
+    own!("drop_complement_of_constant": Access 135),
+];
+
+/// Low bits read as signed twice.
+pub const EXTENSIONS: [TableLine; 25] = [
+    row!("drop_extension_again" for I32: [x (i32.extend8_s) (i32.extend8_s)] => [x (i32.extend8_s)]),
+    row!(for I32: [x (i32.extend16_s) (i32.extend8_s)] => [x (i32.extend8_s)]),
+    row!(for I32: [x (i32.extend8_s) (i32.extend16_s)] => [x (i32.extend8_s)]),
+    row!(for I32: [x (i32.extend16_s) (i32.extend16_s)] => [x (i32.extend16_s)]),
+    row!(for I64: [x (i64.extend8_s) (i64.extend8_s)] => [x (i64.extend8_s)]),
+    row!(for I64: [x (i64.extend16_s) (i64.extend8_s)] => [x (i64.extend8_s)]),
+    row!(for I64: [x (i64.extend32_s) (i64.extend8_s)] => [x (i64.extend8_s)]),
+    row!(for I64: [x (i64.extend8_s) (i64.extend16_s)] => [x (i64.extend8_s)]),
+    row!(for I64: [x (i64.extend16_s) (i64.extend16_s)] => [x (i64.extend16_s)]),
+    row!(for I64: [x (i64.extend32_s) (i64.extend16_s)] => [x (i64.extend16_s)]),
+    row!(for I64: [x (i64.extend8_s) (i64.extend32_s)] => [x (i64.extend8_s)]),
+    row!(for I64: [x (i64.extend16_s) (i64.extend32_s)] => [x (i64.extend16_s)]),
+    row!("extend_again" for I32: [x (i32.extend8_s)] => [x (i32.extend8_s) (i32.extend8_s)]),
+    row!(for I32: [x (i32.extend8_s)] => [x (i32.extend16_s) (i32.extend8_s)]),
+    row!(for I32: [x (i32.extend8_s)] => [x (i32.extend8_s) (i32.extend16_s)]),
+    row!(for I32: [x (i32.extend16_s)] => [x (i32.extend16_s) (i32.extend16_s)]),
+    row!(for I64: [x (i64.extend8_s)] => [x (i64.extend8_s) (i64.extend8_s)]),
+    row!(for I64: [x (i64.extend8_s)] => [x (i64.extend16_s) (i64.extend8_s)]),
+    row!(for I64: [x (i64.extend8_s)] => [x (i64.extend32_s) (i64.extend8_s)]),
+    row!(for I64: [x (i64.extend8_s)] => [x (i64.extend8_s) (i64.extend16_s)]),
+    row!(for I64: [x (i64.extend16_s)] => [x (i64.extend16_s) (i64.extend16_s)]),
+    row!(for I64: [x (i64.extend16_s)] => [x (i64.extend32_s) (i64.extend16_s)]),
+    row!(for I64: [x (i64.extend8_s)] => [x (i64.extend8_s) (i64.extend32_s)]),
+    row!(for I64: [x (i64.extend16_s)] => [x (i64.extend16_s) (i64.extend32_s)]),
+    row!(for I64: [x (i64.extend32_s)] => [x (i64.extend32_s) (i64.extend32_s)]),
+];
+
+/// Low bits read as signed, and masked.
+pub const EXTENSION_MASKS: [TableLine; 20] = [
+    row!("drop_mask_in_extension" for I32: [x 0xff and (i32.extend8_s)] => [x (i32.extend8_s)]),
+    row!(for I32: [x 0xffff and (i32.extend16_s)] => [x (i32.extend16_s)]),
+    row!(for I64: [x 0xff and (i64.extend8_s)] => [x (i64.extend8_s)]),
+    row!(for I64: [x 0xffff and (i64.extend16_s)] => [x (i64.extend16_s)]),
+    row!(for I64: [x 0xffffffff and (i64.extend32_s)] => [x (i64.extend32_s)]),
+    row!("mask_in_extension" for I32: [x (i32.extend8_s)] => [x 0xff and (i32.extend8_s)]),
+    row!(for I32: [x (i32.extend16_s)] => [x 0xffff and (i32.extend16_s)]),
+    row!(for I64: [x (i64.extend8_s)] => [x 0xff and (i64.extend8_s)]),
+    row!(for I64: [x (i64.extend16_s)] => [x 0xffff and (i64.extend16_s)]),
+    row!(for I64: [x (i64.extend32_s)] => [x 0xffffffff and (i64.extend32_s)]),
+    row!("drop_extension_in_mask" for I32: [x (i32.extend8_s) 0xff and] => [x 0xff and]),
+    row!(for I32: [x (i32.extend16_s) 0xffff and] => [x 0xffff and]),
+    row!(for I64: [x (i64.extend8_s) 0xff and] => [x 0xff and]),
+    row!(for I64: [x (i64.extend16_s) 0xffff and] => [x 0xffff and]),
+    row!(for I64: [x (i64.extend32_s) 0xffffffff and] => [x 0xffffffff and]),
+    row!("extension_in_mask" for I32: [x 0xff and] => [x (i32.extend8_s) 0xff and]),
+    row!(for I32: [x 0xffff and] => [x (i32.extend16_s) 0xffff and]),
+    row!(for I64: [x 0xff and] => [x (i64.extend8_s) 0xff and]),
+    row!(for I64: [x 0xffff and] => [x (i64.extend16_s) 0xffff and]),
+    row!(for I64: [x 0xffffffff and] => [x (i64.extend32_s) 0xffffffff and]),
+];
+
+/// Low bits read as signed before a number is wrapped or extended, or behind that.
+pub const EXTENSION_MOVES: [TableLine; 8] = [
+    row!("wrap_before_extension" for I64: [x (i64.extend8_s) (i32.wrap_i64)] => [x (i32.wrap_i64) (i32.extend8_s)]),
+    row!(for I64: [x (i64.extend16_s) (i32.wrap_i64)] => [x (i32.wrap_i64) (i32.extend16_s)]),
+    row!("wrap_behind_extension" for I64: [x (i32.wrap_i64) (i32.extend8_s)] => [x (i64.extend8_s) (i32.wrap_i64)]),
+    row!(for I64: [x (i32.wrap_i64) (i32.extend16_s)] => [x (i64.extend16_s) (i32.wrap_i64)]),
+    row!("widen_before_extension" for I32: [x (i32.extend8_s) (i64.extend_i32_s)] => [x (i64.extend_i32_u) (i64.extend8_s)]),
+    row!(for I32: [x (i32.extend16_s) (i64.extend_i32_s)] => [x (i64.extend_i32_u) (i64.extend16_s)]),
+    row!("widen_behind_extension" for I32: [x (i64.extend_i32_u) (i64.extend8_s)] => [x (i32.extend8_s) (i64.extend_i32_s)]),
+    row!(for I32: [x (i64.extend_i32_u) (i64.extend16_s)] => [x (i32.extend16_s) (i64.extend_i32_s)]),
+];
+
+/// The sign of a number, and whether it is 0.
+pub const SIGN_TESTS: [TableLine; 10] = [
+    row!("sign_test_to_shift" for I32: [x 0 lt_s] => [x 31 shr_u]),
+    row!("shift_to_sign_test" for I32: [x 31 shr_u] => [x 0 lt_s]),
+    row!("wide_sign_test_to_shift" for I64: [x 0 lt_s] => [x 63 shr_u (i32.wrap_i64)]),
+    row!("shift_to_wide_sign_test" for I64: [x 63 shr_u (i32.wrap_i64)] => [x 0 lt_s]),
+    row!("sign_to_difference" for I32: [x 31 shr_s] => [0 x 31 shr_u sub]),
+    row!(for I64: [x 63 shr_s] => [0 x 63 shr_u sub]),
+    row!("difference_to_sign" for I32: [0 x 31 shr_u sub] => [x 31 shr_s]),
+    row!(for I64: [0 x 63 shr_u sub] => [x 63 shr_s]),
+    row!("above_zero_to_unequal": [0 x lt_u] => [x 0 ne]),
+    row!("unequal_to_above_zero": [x 0 ne] => [0 x lt_u]),
+];
+
+/// Comparisons with powers of two.
+pub const POWER_TESTS: [TableLine; 4] = [
+    row!("power_test_to_shift": [x c lt_u] => [x (log c) shr_u eqz] if c is power),
+    row!([x c ge_u] => [x (log c) shr_u 0 ne] if c is power),
+    row!("power_test_to_previous": [x c lt_u] => [x (c-1) le_u] if c is power),
+    row!([x c ge_u] => [x (c-1) gt_u] if c is power),
+];
+
+/// Whether a number is 0, by how many zeros stand above its highest bit.
+pub const ZERO_COUNTS: [TableLine; 6] = [
+    row!("test_by_clz" for I32: [x eqz] => [x (i32.clz) N eq]),
+    row!(for I64: [x eqz] => [x (i64.clz) N eq]),
+    row!("drop_clz_of_test" for I32: [x (i32.clz) N eq] => [x eqz]),
+    row!(for I64: [x (i64.clz) N eq] => [x eqz]),
+    row!(for I32: [x (i32.clz) N ne] => [x eqz (i32.eqz)]),
+    row!(for I64: [x (i64.clz) N ne] => [x eqz (i32.eqz)]),
+];
+
+/// Half a number with sign.
+pub const HALVES: [TableLine; 4] = [
+    row!("half_to_shift" for I32: [x 2 div_s] => [x x 31 shr_u add 1 shr_s]),
+    row!(for I64: [x 2 div_s] => [x x 63 shr_u add 1 shr_s]),
+    row!("shift_to_half" for I32: [x x 31 shr_u add 1 shr_s] => [x 2 div_s]),
+    row!(for I64: [x x 63 shr_u add 1 shr_s] => [x 2 div_s]),
+];
+
+/// What rules on signs, powers of two and low bits made, in the forms that others gave it, turned back.
+pub const UNDONE: [TableLine; 10] = [
+    row!("shift_to_power_test": [x c shr_u eqz] => [x (2^c) lt_u] if c < N),
+    row!([x c shr_u 0 ne] => [x (2^c) ge_u] if c < N),
+    row!("previous_to_power_test": [x c le_u] => [x (c+1) lt_u] if c is mask),
+    row!([x c gt_u] => [x (c+1) ge_u] if c is mask),
+    row!("negated_sign_test_to_sign" for I32: [0 x 0 lt_s sub] => [x 31 shr_s]),
+    row!("sign_test_to_half" for I32: [x x 0 lt_s add 1 shr_s] => [x 2 div_s]),
+    row!("drop_extension_in_remainder" for I32: [x (i32.extend8_s) 0x100 rem_u] => [x 0x100 rem_u]),
+    row!(for I32: [x (i32.extend16_s) 0x10000 rem_u] => [x 0x10000 rem_u]),
+    row!(for I64: [x (i64.extend8_s) 0x100 rem_u] => [x 0x100 rem_u]),
+    row!(for I64: [x (i64.extend16_s) 0x10000 rem_u] => [x 0x10000 rem_u]),
 ];

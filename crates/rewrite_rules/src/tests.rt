@@ -1,14 +1,16 @@
-//! Each public call on rows of the table: names and numbers of rules, values of numbers, conditions, moves, and whether rows apply.
+//! Each public call on rows of the table: names and numbers of rules, values of numbers, conditions, moves, whether rows apply, and
+//! accesses.
 
 use crate::{
-    Condition, Effects, Number, Rule, all_rules, may_move, row_at, row_count, rule_count,
-    rule_names, rules_of_rows,
+    Condition, Effects, Number, Rule, access_at, all_rules, may_move, row_at, row_count,
+    rule_count, rule_names, rules_of_rows,
 };
 use peephole_machine::IntegerType;
 use std::test::Fail;
+use wasm_code::{Imm, MemArg};
 
 /// Names of rules, and their numbers, as callers in C have them.
-const NAMES: [(&str, usize); 25] = [
+const NAMES: [(&str, usize); 36] = [
     ("commute", 0),
     ("turn_comparison", 1),
     ("associate_left", 2),
@@ -34,6 +36,17 @@ const NAMES: [(&str, usize); 25] = [
     ("parts_to_order", 175),
     ("double_vector_complement", 176),
     ("bits_to_vector_xor", 256),
+    ("float_load_to_bits", 257),
+    ("load_and_extend", 265),
+    ("drop_mask_in_store", 278),
+    ("align_naturally", 280),
+    ("float_constant_to_bits", 281),
+    ("drop_complement_of_constant", 284),
+    ("drop_extension_again", 285),
+    ("widen_behind_extension", 294),
+    ("power_test_to_previous", 304),
+    ("shift_to_half", 308),
+    ("drop_extension_in_remainder", 313),
 ];
 
 #[test]
@@ -44,10 +57,10 @@ fn tells_rules_by_their_names(rt: HostRuntime) -> Result<(), Fail> {
         assert!(rt; rule.name() == name);
         assert!(rt; Rule::from_number(number) == Some(rule));
     }
-    assert!(rt; rule_count() == 257);
+    assert!(rt; rule_count() == 314);
     assert!(rt; all_rules(rt.alloc())?.get(256).copied() == Rule::from_number(256));
     assert!(rt; rule_names(rt.alloc())?.get(76).copied() == Some("join_sums"));
-    assert!(rt; Rule::from_number(257).is_none());
+    assert!(rt; Rule::from_number(314).is_none());
     assert!(rt; "no_rule".parse::<Rule>().is_err());
     Ok(())
 }
@@ -55,6 +68,7 @@ fn tells_rules_by_their_names(rt: HostRuntime) -> Result<(), Fail> {
 #[test]
 fn tells_of_which_rule_a_row_is(rt: HostRuntime) -> Result<(), Fail> {
     let rules = rules_of_rows(rt.alloc())?;
+    assert!(rt; row_count() == 1094);
     assert!(rt; rules.len() == row_count());
     assert!(rt; rules.get(6).copied() == Some(0));
     assert!(rt; rules.get(7).copied() == Some(1));
@@ -158,5 +172,49 @@ fn tells_whether_operands_may_move(rt: HostRuntime) -> Result<(), Fail> {
         assert!(rt; may_move(&effects, &[0, 1], &[0]) == leave_out);
         assert!(rt; may_move(&effects, &[0], &[0, 0]) == repeat);
     }
+    Ok(())
+}
+
+// A memory argument with the least alignment, with one of four bytes, and with one of eight.
+const BY_BYTE: Imm = Imm::Mem(MemArg {
+    offset: 8,
+    align: 0,
+    memory: 1,
+});
+
+const BY_FOUR: Imm = Imm::Mem(MemArg {
+    offset: 8,
+    align: 2,
+    memory: 1,
+});
+
+const BY_EIGHT: Imm = Imm::Mem(MemArg {
+    offset: 8,
+    align: 3,
+    memory: 1,
+});
+
+/// Numbers of accesses, an immediate that stands there, and the one that is written, where one is.
+const WRITTEN: [(u8, Imm, Option<Imm>); 11] = [
+    (0, BY_FOUR, Some(BY_FOUR)),
+    (0, Imm::F32(1), None),
+    (82, BY_FOUR, Some(BY_BYTE)),
+    (106, BY_FOUR, None),
+    (107, BY_FOUR, Some(BY_EIGHT)),
+    (130, Imm::F32(0xffc0_0001), Some(Imm::I32(-0x3f_ffff))),
+    (131, Imm::F64(1), Some(Imm::I64(1))),
+    (132, Imm::I32(-1), Some(Imm::F32(0xffff_ffff))),
+    (133, Imm::I64(-2), Some(Imm::F64(0xffff_ffff_ffff_fffe))),
+    (134, Imm::V128(5), Some(Imm::V128(-6))),
+    (135, BY_FOUR, None),
+];
+
+#[test]
+fn tells_what_accesses_write(rt: HostRuntime) -> Result<(), Fail> {
+    for (number, immediate, expected) in WRITTEN {
+        let access = access_at(number).expect(&rt, "it is an access's number");
+        assert!(rt; access.written(immediate) == expected, "access {number}");
+    }
+    assert!(rt; access_at(136).is_none());
     Ok(())
 }

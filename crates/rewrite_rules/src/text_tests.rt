@@ -6,7 +6,7 @@ use std::test::Fail;
 use wasm_types::PrimitiveTypeInfo;
 
 /// Numbers of rows, and their texts.
-const TEXTS: [(usize, &str); 43] = [
+const TEXTS: [(usize, &str); 47] = [
     (0, "add x y → add y x"),
     (7, "lt_s x y → gt_s y x"),
     (15, "add x (add y z) → add (add x y) z"),
@@ -59,6 +59,10 @@ const TEXTS: [(usize, &str); 43] = [
         860,
         "v128: i32x4.splat 0 → v128.and (i32x4.splat r) (i32x4.splat 0)",
     ),
+    (871, "f32.load → i32.load, f32.reinterpret_i32"),
+    (913, "i32.load8_s → i32.load8_u, i32.extend8_s"),
+    (943, "i32.store8 → i32.const 255, i32.and, i32.store8"),
+    (963, "v128.load → v128.load, align=1"),
 ];
 
 #[test]
@@ -72,7 +76,7 @@ fn prints_rows(rt: HostRuntime) -> Result<(), Fail> {
 }
 
 /// Numbers of rows, and what they do to the number of instructions.
-const GROWTHS: [(usize, Growth); 21] = [
+const GROWTHS: [(usize, Growth); 24] = [
     (0, Growth::Keeps),
     (25, Growth::Grows),
     (32, Growth::Grows),
@@ -94,6 +98,9 @@ const GROWTHS: [(usize, Growth); 21] = [
     (249, Growth::Shrinks),
     (269, Growth::Grows),
     (307, Growth::Keeps),
+    (871, Growth::Grows),
+    (873, Growth::Shrinks),
+    (963, Growth::Keeps),
 ];
 
 #[test]
@@ -173,12 +180,15 @@ fn prints_exact_rows(rt: HostRuntime) -> Result<(), Fail> {
     Ok(())
 }
 
-/// The rows on whole numbers have no such operator, and all behind them have one.
+/// The rows on whole numbers have no such operator, nor do accesses, and all between them have one.
 #[test]
 fn tells_which_rows_need_exact_rows(rt: HostRuntime) -> Result<(), Fail> {
     for number in 0..crate::row_count() {
         let row = TableRow::numbered(number).expect(&rt, "it is a row's number");
-        assert!(rt; row.needs_exact() == (number >= 249), "row {number}");
+        assert!(rt;
+            row.needs_exact() == (249..871).contains(&number),
+            "row {number}"
+        );
     }
     Ok(())
 }

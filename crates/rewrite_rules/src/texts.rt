@@ -2,8 +2,9 @@
 ghost use Rattle.std.specs.Prelude.{◌<◌, ◌≤◌, Some};
 ghost use Rattle.rewrite_rules.specs.Texts.{slot_text, number_text, condition_text};
 
+use crate::access::{Access, AccessKind, AccessSide, Conversion, access_at};
 use crate::operator_names::{binary_name, comparison_name, name_behind, type_in_front, type_name};
-use crate::pattern::Number;
+use crate::pattern::{Number, Operator};
 use crate::table::{Condition, Own, Row, Side, Step, Widths};
 use instruction_names::instruction_name;
 use std::fmt;
@@ -248,18 +249,82 @@ impl fmt::Display for Condition {
     }
 }
 
+// An operator of a conversion, by its whole name.
+#[derive(Clone, Copy)]
+struct OperatorName(Operator);
+
+impl fmt::Display for OperatorName {
+    fn fmt<W: fmt::Write>(&self, f: &mut fmt::Formatter<W>) -> fmt::Result {
+        match self.0 {
+            Operator::Whole(operation) => write!(f, "{}", Name(Step::Whole(operation))),
+            Operator::Select => write!(f, "{}", Name(Step::Select)),
+            Operator::Exact(row, lane) => write!(f, "{}", Name(Step::Exact(row, lane))),
+        }
+    }
+}
+
+impl fmt::Display for Conversion {
+    fn fmt<W: fmt::Write>(&self, f: &mut fmt::Formatter<W>) -> fmt::Result {
+        match *self {
+            Conversion::Nothing => Ok(()),
+            Conversion::By(operator) => write!(f, "{}", OperatorName(operator)),
+            Conversion::With(t, number, operator) => {
+                write!(
+                    f,
+                    "{}.const {number}, {}",
+                    type_name(t),
+                    OperatorName(operator)
+                )
+            }
+        }
+    }
+}
+
+// A side of an access of that kind.
+#[derive(Clone, Copy)]
+struct AccessText(AccessKind, AccessSide);
+
+impl fmt::Display for AccessText {
+    fn fmt<W: fmt::Write>(&self, f: &mut fmt::Formatter<W>) -> fmt::Result {
+        let side = self.1;
+        let name = instruction_name(side.row);
+        match (self.0, side.conversion) {
+            (_, Conversion::Nothing) => write!(f, "{name}"),
+            (AccessKind::Store, conversion) => write!(f, "{conversion}, {name}"),
+            (_, conversion) => write!(f, "{name}, {conversion}"),
+        }
+    }
+}
+
+/// Its text has the instructions of both sides without their immediates, as `i32.load8_s → i32.load8_u, i32.extend8_s`, and behind
+/// them the alignment that is written, in bytes, as `i32.load → i32.load, align=1`.
+impl fmt::Display for Access {
+    fn fmt<W: fmt::Write>(&self, f: &mut fmt::Formatter<W>) -> fmt::Result {
+        let left = AccessText(self.kind, self.left);
+        let right = AccessText(self.kind, self.right);
+        match self.align {
+            None => write!(f, "{left} → {right}"),
+            Some(align) => write!(f, "{left} → {right}, align={}", 1u32 << (align % 32)),
+        }
+    }
+}
+
 impl fmt::Display for Own {
     fn fmt<W: fmt::Write>(&self, f: &mut fmt::Formatter<W>) -> fmt::Result {
-        f.write_str(match *self {
-            Own::Unfold => "c → add r (c - r)",
-            Own::ThroughGlobal => "x → x, by way of a further global",
-            Own::WithNop => "x → nop x",
-            Own::Fold => "op c d → the value",
-            Own::Forget => "drop x → nothing",
-            Own::TeeToSet => "local.tee x → local.set x, local.get",
-            Own::DropNop => "nop → nothing",
-            Own::SetToTee => "local.set x, local.get → local.tee x",
-        })
+        match *self {
+            Own::Unfold => f.write_str("c → add r (c - r)"),
+            Own::ThroughGlobal => f.write_str("x → x, by way of a further global"),
+            Own::WithNop => f.write_str("x → nop x"),
+            Own::Fold => f.write_str("op c d → the value"),
+            Own::Forget => f.write_str("drop x → nothing"),
+            Own::TeeToSet => f.write_str("local.tee x → local.set x, local.get"),
+            Own::DropNop => f.write_str("nop → nothing"),
+            Own::SetToTee => f.write_str("local.set x, local.get → local.tee x"),
+            Own::Access(number) => match access_at(number) {
+                Some(access) => write!(f, "{access}"),
+                None => Ok(()),
+            },
+        }
     }
 }
 

@@ -6,6 +6,9 @@ use Rattle.serde_json.specs.Written.{compact_text}
 use Rattle.rewrite_rules.specs.declared.growth.Growth.{Growth}
 use Rattle.rewrite_rules.specs.declared.growth.Growth.TheVariants.{Shrinks, Keeps, Grows}
 use Rattle.rewrite_rules.specs.declared.table.Row.{Row}
+use Rattle.rewrite_rules.specs.declared.table.Widths.{Widths}
+use Rattle.rewrite_rules.specs.declared.table.Widths.TheVariants.{Own}
+use Rattle.rewrite_rules.specs.Access.{own_needs_exact}
 use Rattle.rewrite_rules.specs.Growing.{GrowsAs}
 use Rattle.rewrite_rules.specs.Names.{names, rule_of}
 use Rattle.rewrite_rules.specs.Table.{ROWS, needs_exact}
@@ -30,9 +33,17 @@ abbrev pub rows_among : (rule n : ℕ) → ℕ
 rows_among rule zero = 0
 rows_among rule (suc n) = rows_among rule n + counted (rule_of n) rule
 
+-- It has an exact row, or is of a rule beside the table that needs an engine that is exact.
+abbrev pub is_exact_by : Widths → Row → Bool
+is_exact_by (Own o) row = own_needs_exact o
+is_exact_by w row = needs_exact row
+
+abbrev pub is_exact_row : Row → Bool
+is_exact_row row = is_exact_by row.widths row
+
 -- Each row of the rule needs an engine that is exact.
 abbrev pub NeedsExact : (rule : ℕ) → Type 0
-NeedsExact rule = (n : ℕ) (row : Row) → rule_of n ≡ Some rule → slice_get ROWS n ≡ Some row → IsTrue (needs_exact row)
+NeedsExact rule = (n : ℕ) (row : Row) → rule_of n ≡ Some rule → slice_get ROWS n ≡ Some row → IsTrue (is_exact_row row)
 
 -- There are as many texts as rows, where something is said of the number of instructions, it holds of each row, and the rule is told to
 -- need an engine that is exact where each row does.

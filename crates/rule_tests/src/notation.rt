@@ -39,6 +39,28 @@ fn row_named(name: &str) -> Option<u16> {
     None
 }
 
+/// Whether it is the name of a load or a store.
+fn is_memory(name: &str) -> bool {
+    name.contains("load") || name.contains("store")
+}
+
+/// The memory argument that the text is: the exponent of its alignment and its offset.
+fn argument_of(text: &str) -> Option<MemArg> {
+    if text.is_empty() {
+        return Some(MemArg {
+            offset: 0,
+            align: 2,
+            memory: 0,
+        });
+    }
+    let (align, offset) = text.split_once(' ').unwrap_or((text, "0"));
+    Some(MemArg {
+        offset: offset.parse().ok()?,
+        align: align.parse().ok()?,
+        memory: 0,
+    })
+}
+
 /// The instruction that the text is: its name, and its immediate, if it has one.
 fn instr_of(text: &str) -> Option<Instr> {
     let (name, number) = text.split_once(' ').unwrap_or((text, ""));
@@ -50,13 +72,9 @@ fn instr_of(text: &str) -> Option<Instr> {
         "f64.const" => Imm::F64(number.parse().ok()?),
         "v128.const" => Imm::V128(number.parse().ok()?),
         "select.i32" => Imm::Val(ValType::I32),
-        "i32.load" | "i64.load" | "f32.load" | "f64.load" | "i32.store" => Imm::Mem(MemArg {
-            offset: 0,
-            align: 2,
-            memory: 0,
-        }),
-        _ if number.is_empty() => Imm::Nothing,
         _ if name.contains("_lane") => Imm::Lane(number.parse().ok()?),
+        _ if is_memory(name) => Imm::Mem(argument_of(number)?),
+        _ if number.is_empty() => Imm::Nothing,
         _ => Imm::Index(number.parse().ok()?),
     };
     Instr::new(row, imm)

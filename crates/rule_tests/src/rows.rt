@@ -1,10 +1,13 @@
 //! What each rule makes of bodies, and where it makes nothing, worked by hand: the rows, by families of rules.
 
+mod accesses;
 mod bits;
+mod extensions;
 mod float_signs;
 mod float_tests;
 mod floats;
 mod forms;
+mod integer_tests;
 mod lane_bounds;
 mod lane_floats;
 mod lane_moves;
@@ -28,17 +31,20 @@ mod vectors;
 /// - A are the lanes of i8x16, B those of i16x8, C those of four, and D those of two.
 ///
 /// Locals 0 and 1 are of i32, 2 and 3 of i64, 4 and 7 of f32, 5 and 8 of f64, and 6 and 9 of v128; globals 0 and 1 are of i32 and of i64.
-/// Constants of floats are written by their bits.
-pub(crate) const ROWS: [&str; 5] = [
+/// Constants of floats are written by their bits. Behind a load or a store stand the exponent of its alignment, which is 2 where none
+/// stands there, and the offset, which is 0 where none stands there.
+pub(crate) const ROWS: [&str; 7] = [
     orders::ROWS,
     forms::ROWS,
     operands::ROWS,
     shorter::ROWS,
     bits::ROWS,
+    extensions::ROWS,
+    integer_tests::ROWS,
 ];
 
 /// The same of rules that need an exact module: these rows are of such a module, and in any other one the rules make nothing.
-pub(crate) const EXACT_ROWS: [&str; 10] = [
+pub(crate) const EXACT_ROWS: [&str; 11] = [
     floats::ROWS,
     float_signs::ROWS,
     float_tests::ROWS,
@@ -49,4 +55,5 @@ pub(crate) const EXACT_ROWS: [&str; 10] = [
     lane_bounds::ROWS,
     lane_floats::ROWS,
     lane_moves::ROWS,
+    accesses::ROWS,
 ];

@@ -89,6 +89,12 @@ const NEGATED: &[u8] = b"\0asm\x01\0\0\0\x01\x06\x01\x60\x01\x7d\x01\x7d\x03\x02
 const FLOAT: &[u8] = b"\0asm\x01\0\0\0\x01\x06\x01\x60\x01\x7d\x01\x7d\x03\x02\x01\0\
     \x0a\x06\x01\x04\0\x20\0\x0b";
 
+/// A function with instructions of each family: two constants of i32 and an extension; a truncation that saturates, a conversion, a
+/// constant and a comparison of f32; a splat; a load of an f32 and one of a vector. It drops what they give, and asks a memory's size.
+const FAMILIES: &[u8] = b"\0asm\x01\0\0\0\x01\x04\x01\x60\0\0\x03\x02\x01\0\x05\x03\x01\0\x01\
+    \x0a\x20\x01\x1e\0\x41\0\x2a\x02\0\xfc\0\xfd\x0f\x1a\x41\0\xfd\0\x04\0\x1a\
+    \x3f\0\xb2\x43\0\0\0\0\x5b\xac\x1a\x0b";
+
 /// A function with an atomic operator on an i32 that no proposal has (FE 4F).
 const NO_ATOMIC: &[u8] =
     b"\0asm\x01\0\0\0\x01\x05\x01\x60\0\x01\x7f\x03\x02\x01\0\x05\x04\x01\x03\x01\x01\
@@ -220,6 +226,9 @@ const RUNS: &str = r#"
 ! operators  4          rewritable 1
 ! blocks     1          rewritable 1
 ! integers   1          rewritable 1
+! floats     0          rewritable 0
+! vectors    0          rewritable 0
+! accesses   0          rewritable 0
 ! function 0      operator 2      rule commute
 ! bytes      32         new 32
 
@@ -229,6 +238,9 @@ const RUNS: &str = r#"
 ! {"all":4,"of":"operators","rewritable":1}
 ! {"all":1,"of":"blocks","rewritable":1}
 ! {"all":1,"of":"integers","rewritable":1}
+! {"all":0,"of":"floats","rewritable":0}
+! {"all":0,"of":"vectors","rewritable":0}
+! {"all":0,"of":"accesses","rewritable":0}
 ! {"function":0,"operator":2,"rule":"commute"}
 ! {"bytes":32,"new":32}
 
@@ -345,6 +357,18 @@ const RUNS: &str = r#"
 ! operators  10         rewritable 0
 ! blocks     3          rewritable 0
 ! integers   2          rewritable 0
+! floats     0          rewritable 0
+! vectors    0          rewritable 0
+! accesses   0          rewritable 0
+
+--reach --rule fold | FAMILIES | Err(Nothing(NoRule))
+! functions  1          unreadable 0
+! operators  15         rewritable 0
+! blocks     1          rewritable 0
+! integers   3          rewritable 0
+! floats     4          rewritable 0
+! vectors    1          rewritable 0
+! accesses   2          rewritable 0
 
 --blocks | STRUCTURE | Ok(Whole)
 > function 0      block      0..3
@@ -377,6 +401,9 @@ const RUNS: &str = r#"
 ! {"all":0,"of":"operators","rewritable":0}
 ! {"all":0,"of":"blocks","rewritable":0}
 ! {"all":0,"of":"integers","rewritable":0}
+! {"all":0,"of":"floats","rewritable":0}
+! {"all":0,"of":"vectors","rewritable":0}
+! {"all":0,"of":"accesses","rewritable":0}
 
 --blocks | REFERENCE | Ok(Whole)
 > entry    0      UnknownForm at 20
@@ -469,6 +496,9 @@ const RUNS: &str = r#"
 ! operators  11         rewritable 2
 ! blocks     1          rewritable 1
 ! integers   5          rewritable 2
+! floats     0          rewritable 0
+! vectors    0          rewritable 0
+! accesses   0          rewritable 0
 ! function 0      operator 7      rule double_to_product
 ! stopped NotSmaller
 ! bytes      39         new 38
@@ -505,6 +535,9 @@ const RUNS: &str = r#"
 ! operators  4          rewritable 1
 ! blocks     1          rewritable 1
 ! integers   0          rewritable 0
+! floats     2          rewritable 1
+! vectors    0          rewritable 0
+! accesses   0          rewritable 0
 ! function 0      operator 2      rule drop_double_float_negation
 ! bytes      30         new 28
 
@@ -558,6 +591,7 @@ fn module_of(name: &str) -> Option<&'static [u8]> {
         "TEXT" => Some(TEXT),
         "NEGATED" => Some(NEGATED),
         "FLOAT" => Some(FLOAT),
+        "FAMILIES" => Some(FAMILIES),
         "NO_ATOMIC" => Some(NO_ATOMIC),
         "CATCHING" => Some(CATCHING),
         "TAIL_CALL" => Some(TAIL_CALL),

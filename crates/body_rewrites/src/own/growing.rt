@@ -5,13 +5,24 @@ ghost use Rattle.body_rewrites.specs.Trees.{AreTrees};
 ghost use Rattle.body_rewrites.specs.Changes.{Change};
 ghost use Rattle.body_rewrites.specs.Growth.{HasGrowth};
 ghost use Rattle.body_rewrites.specs.Own.{IsOwnChange};
-ghost use Rattle.body_rewrites.specs.OwnSites.{growth_of};
+ghost use Rattle.body_rewrites.specs.OwnSites.{in_bodies, growth_of};
 
 use crate::growth::Growth;
 use crate::own::Made;
 use crate::own::sites::site_of;
 use crate::places::Body;
-use rewrite_rules::Own;
+use rewrite_rules::{Growth as RowGrowth, Own};
+
+// The growth of a row, as one of bodies.
+fn in_bodies(growth: RowGrowth) -> Growth
+    ensures { result ≡ in_bodies growth }
+{
+    match growth {
+        RowGrowth::Shrinks => Growth::Shrinks,
+        RowGrowth::Keeps => Growth::Keeps,
+        RowGrowth::Grows => Growth::Grows,
+    }
+}
 
 // Whether that is more than what it is made of.
 fn growth_of(made: Made) -> Growth
@@ -25,6 +36,7 @@ fn growth_of(made: Made) -> Growth
         Made::Global(_, _) => Growth::Grows,
         Made::SetAndGet(_) => Growth::Grows,
         Made::Tee(_) => Growth::Shrinks,
+        Made::Access(access, _) => in_bodies(access.growth()),
     }
 }
 

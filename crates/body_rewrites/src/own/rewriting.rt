@@ -10,6 +10,7 @@ use crate::own::sites::site_of;
 use crate::own::writing::written;
 use crate::places::Body;
 use rewrite_rules::Own;
+use rewrite_rules::laws::accesses_are_formed;
 
 /// What the rule makes at the operator, by the word; none where it makes nothing.
 ///
@@ -31,5 +32,6 @@ pub fn own_code(body: &Body<'_>, own: Own, at: usize, word: u64) -> Option<NewCo
     let Some(site) = site_of(body, own, at) else {
         return None;
     };
-    Some(written(site, at, word))
+    accesses_are_formed();
+    written(site, at, word)
 }

@@ -5,7 +5,7 @@ ghost use Rattle.body_rewrites.specs.Trees.{AreTrees};
 ghost use Rattle.body_rewrites.specs.OwnSites.{IsSiteOf};
 
 use crate::own::{
-    Site, drop_nop, fold, forget, set_to_tee, tee_to_set, through_global, unfold, with_nop,
+    Site, access, drop_nop, fold, forget, set_to_tee, tee_to_set, through_global, unfold, with_nop,
 };
 use crate::places::Body;
 use rewrite_rules::Own;
@@ -25,5 +25,6 @@ pub(crate) fn site_of(body: &Body<'_>, own: Own, at: usize) -> Option<Site>
         Own::TeeToSet => tee_to_set::find(body.operators, at),
         Own::DropNop => drop_nop::find(body.operators, at),
         Own::SetToTee => set_to_tee::find(body.operators, at),
+        Own::Access(number) => access::find(body.info, body.operators, at, number),
     }
 }

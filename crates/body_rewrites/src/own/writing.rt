@@ -1,17 +1,19 @@
 //! What a rule beside the table makes, written.
-ghost use Rattle.std.specs.Prelude.{◌≡◌, ◌+◌, ◌-◌, ◌<◌, ◌^◌, ℕ, List, [], ◌∷◌, ◌≤◌, length, option_to_list};
+ghost use Rattle.std.specs.Prelude.{◌≡◌, ◌+◌, ◌-◌, ◌<◌, ◌^◌, ℕ, List, [], ◌∷◌, ◌≤◌, IfSome, IfNone, length, option_to_list};
 ghost use mir.Val.{bits};
 ghost use Rattle.body_splices.specs.declared.piece.Piece.{Piece as PieceOf};
+ghost use Rattle.body_splices.specs.declared.piece.Piece.TheVariants.{New};
 ghost use Rattle.peephole_machine.specs.Values.{width_of};
 ghost use Rattle.peephole_machine.specs.declared.operation.Operation.TheVariants as operation;
 ghost use Rattle.peephole_machine.specs.declared.operation.Binary.TheVariants as binary;
 ghost use Rattle.rewrite_rules.specs.declared.pattern.Operator.TheVariants.{Whole};
+ghost use Rattle.rewrite_rules.specs.Access.{IsOfRow, side_code};
 ghost use Rattle.rewrite_rules.specs.Numbers.{low};
 ghost use Rattle.rewrite_rules.specs.Instance.{operator_code};
 ghost use Rattle.rewrite_rules.specs.Beside.{nop_code, get_local, set_local, tee_local, get_global, set_global, sum_code};
 ghost use Rattle.body_rewrites.specs.Changes.{IsWritten};
 ghost use Rattle.body_rewrites.specs.Own.{new, made_asks, made_pieces, change_of};
-ghost use Rattle.body_rewrites.specs.OwnSites.{IsCode};
+ghost use Rattle.body_rewrites.specs.OwnSites.{AreOfRows, IsCode, IsWritable, ordered};
 
 use crate::changes::NewCode;
 use crate::instructions::{constant, instr};
@@ -19,6 +21,7 @@ use crate::own::{Made, Site};
 use arrayvec::ArrayVec;
 use body_splices::Piece;
 use peephole_machine::IntegerType;
+use rewrite_rules::{AccessKind, AccessSide, Conversion};
 use wasm_code::{Imm, Instr};
 use wasm_types::PrimitiveTypeInfo;
 
@@ -119,20 +122,80 @@ fn code(start: usize, pieces: &[Piece], asks: Option<PrimitiveTypeInfo>) -> NewC
     }
 }
 
-// What is made at the site, by the word.
-pub(crate) fn written(site: Site, at: usize, word: u64) -> NewCode
+// A new instruction, where it is one of the standard.
+fn piece(row: u16, imm: Imm) -> Option<Piece>
+    ensures some { IfSome result (λ p. p ≡ New (record { row = row; imm = imm })) }
+    ensures none { IfNone result (¬ (IsOfRow row imm)) }
+{
+    match Instr::new(row, imm) {
+        Some(instr) => Some(Piece::New(instr)),
+        None => None,
+    }
+}
+
+// The instruction with the immediate, and one of the conversion.
+fn with_one(start: usize, kind: AccessKind, first: Piece, by: Piece) -> NewCode
+    ensures { IsCode start (ordered kind first (by ∷ [])) [] result }
+{
+    match kind {
+        AccessKind::Load => code(start, &[first, by], None),
+        AccessKind::Store => code(start, &[by, first], None),
+        AccessKind::Constant => code(start, &[first, by], None),
+    }
+}
+
+// The instruction with the immediate, and two of the conversion.
+fn with_two(start: usize, kind: AccessKind, first: Piece, number: Piece, by: Piece) -> NewCode
+    ensures { IsCode start (ordered kind first (number ∷ by ∷ [])) [] result }
+{
+    match kind {
+        AccessKind::Load => code(start, &[first, number, by], None),
+        AccessKind::Store => code(start, &[number, by, first], None),
+        AccessKind::Constant => code(start, &[first, number, by], None),
+    }
+}
+
+// The side of an access.
+fn side(start: usize, kind: AccessKind, side: AccessSide, immediate: Imm) -> Option<NewCode>
+    ensures some { IfSome result (IsCode start (new (side_code kind side immediate)) []) }
+    ensures none { IfNone result (¬ (AreOfRows (side_code kind side immediate))) }
+{
+    let Some(first) = piece(side.row, immediate) else {
+        return None;
+    };
+    match side.conversion {
+        Conversion::Nothing => Some(code(start, &[first], None)),
+        Conversion::By(operator) => match piece(operator.row(), operator.immediate()) {
+            Some(by) => Some(with_one(start, kind, first, by)),
+            None => None,
+        },
+        Conversion::With(t, number, operator) => {
+            match piece(operator.row(), operator.immediate()) {
+                Some(by) => {
+                    let number = Piece::New(constant(t, number));
+                    Some(with_two(start, kind, first, number, by))
+                }
+                None => None,
+            }
+        }
+    }
+}
+
+// What is made at the site, by the word; none where it isn't made of instructions of the standard.
+pub(crate) fn written(site: Site, at: usize, word: u64) -> Option<NewCode>
     requires { at < 2 ^ 64 - 1 }
-    ensures { IsCode site.start (made_pieces site.start at site.made word)
-        (made_asks site.made) result }
+    ensures some { IfSome result (IsCode site.start (made_pieces site.start at site.made word)
+        (made_asks site.made)) }
+    ensures none { IfNone result (¬ (IsWritable site.made)) }
 {
     let start = site.start;
     let kept = Piece::Kept { start, end: at + 1 };
     match site.made {
-        Made::Nothing => code(start, &[], None),
-        Made::Constant(t, number) => code(start, &[Piece::New(constant(t, number))], None),
-        Made::Sum(t, number) => code(start, &sum(t, number, word), None),
-        Made::Nop => code(start, &[Piece::New(nop()), kept], None),
-        Made::Global(t, global) => code(
+        Made::Nothing => Some(code(start, &[], None)),
+        Made::Constant(t, number) => Some(code(start, &[Piece::New(constant(t, number))], None)),
+        Made::Sum(t, number) => Some(code(start, &sum(t, number, word), None)),
+        Made::Nop => Some(code(start, &[Piece::New(nop()), kept], None)),
+        Made::Global(t, global) => Some(code(
             start,
             &[
                 kept,
@@ -140,12 +203,13 @@ pub(crate) fn written(site: Site, at: usize, word: u64) -> NewCode
                 Piece::New(get_global(global)),
             ],
             Some(t),
-        ),
-        Made::SetAndGet(local) => code(
+        )),
+        Made::SetAndGet(local) => Some(code(
             start,
             &[Piece::New(set_local(local)), Piece::New(get_local(local))],
             None,
-        ),
-        Made::Tee(local) => code(start, &[Piece::New(tee_local(local))], None),
+        )),
+        Made::Tee(local) => Some(code(start, &[Piece::New(tee_local(local))], None)),
+        Made::Access(access, immediate) => side(start, access.kind, access.right, immediate),
     }
 }

@@ -11,6 +11,7 @@ use Rattle.rewrite_rules.proofs.beside.ConstantRules.{fold, as_a_sum}
 use Rattle.rewrite_rules.proofs.beside.GlobalRule.{through_global}
 use Rattle.rewrite_rules.proofs.beside.NopRules.{with_nop, drop_nop, forget}
 use Rattle.rewrite_rules.proofs.beside.LocalRules.{tee_to_set, set_to_tee}
+use Rattle.rewrite_rules.proofs.beside.AccessRules.{access_stands}
 
 pub besides_keep_code : TypedCodePushes → PushesOnFrames → RowTypesStay → MoreGlobalsCheckAlike → LinesKeepCode → BesidesKeepCode
 besides_keep_code push frames stay wide law = record {
@@ -24,4 +25,5 @@ besides_keep_code push frames stay wide law = record {
   forget = forget push frames stay wide;
   tee_to_set = tee_to_set push frames wide;
   set_to_tee = set_to_tee push frames wide;
+  access = access_stands wide;
 }

@@ -58,7 +58,7 @@ shift_product t h c us vs a e =
     ap ok (product_is k (h 0) n (ltb-true n k (and_parts (nat_lt n k) true e).0))
 
 -- a constant that is a power of two is the one of its lowest bit
-power_is : (t : IntegerType) (n : ℕ) → ((2 ^ lowest_bit t n == n) && true) ≡ true → 2 ^ lowest_bit t n ≡ n
+pub power_is : (t : IntegerType) (n : ℕ) → ((2 ^ lowest_bit t n == n) && true) ≡ true → 2 ^ lowest_bit t n ≡ n
 power_is t n e = eqb-true (2 ^ lowest_bit t n) n (and_parts (2 ^ lowest_bit t n == n) true e).0
 
 pub product_shift : (t : IntegerType) → IsRight (line.product_shift t)

@@ -1,22 +1,27 @@
 -- Lines that count the bits of numbers are right.
 use Rattle.std.proofs.Common.{◌≡◌, ℕ, zero, suc, ◌+◌, ◌-◌, ◌/◌, ◌%◌, ◌^◌, ◌<◌, ◌≤◌, Bool, true, false, refl, sym, ap, ap₂, ◌∙◌, true≢false, arith}
 use Rattle.std.specs.Prelude.{◌==◌, not, if◌then◌else◌, bit_xor}
-use Rattle.std.specs.Int.{Width, trailing_zeros}
+use Rattle.std.specs.Int.{Width, leading_zeros, trailing_zeros}
 use Rattle.std.specs.Int.Bits.{xor_add_and}
-use Rattle.std.specs.Int.Count.{trailing_of_zero}
+use Rattle.std.specs.Int.Count.{leading_of_zero, trailing_of_zero}
 use Rattle.std.proofs.Math.Nat.{mod-eq_of_lt, add-mod_right, pow-suc}
 use Rattle.std.proofs.lemmas.Bool.{eqb-true, eq-eqb, ne_eqb}
-use Rattle.std.proofs.lemmas.Nat.{pow_pos, and_mask, trailing_le}
+use Rattle.std.proofs.lemmas.Nat.{pow_pos, and_mask, leading_le, leading_top, trailing_le}
 use Rattle.std.proofs.lemmas.Nat.Bits.{bit_at-trailing_zeros}
 use mir.Val.{bits}
 use Rattle.peephole_machine.specs.declared.integer.IntegerType.{IntegerType}
 use Rattle.peephole_machine.specs.declared.integer.IntegerType.TheVariants as integer
+use Rattle.peephole_machine.specs.declared.operation.Unary.{Unary}
+use Rattle.peephole_machine.specs.declared.operation.Unary.TheVariants.{Clz, Ctz}
 use Rattle.peephole_machine.specs.declared.operation.Comparison.{Comparison}
 use Rattle.peephole_machine.specs.Values.{width_of}
-use Rattle.peephole_machine.specs.Integer.{ones_in, holds}
-use Rattle.peephole_machine.specs.Operation.{comparison_of}
+use Rattle.peephole_machine.specs.Integer.{ones_in, unary_value, holds}
+use Rattle.peephole_machine.specs.Operation.{unary_of, comparison_of}
 use Rattle.rewrite_rules.specs.Numbers.{low}
 use Rattle.rewrite_rules.specs.Line.{IsRight}
+use Rattle.rewrite_rules.specs.declared.table.TheConstants.{ZERO_COUNTS}
+use Rattle.rewrite_rules.specs.Table.{rows_of}
+use Rattle.rewrite_rules.proofs.identities.RowLemmas.{AtRows, ◌▸◌, turned}
 use Rattle.rewrite_rules.proofs.identities.Words as line
 use Rattle.rewrite_rules.proofs.identities.ComparisonIdentities.{not_truth}
 use Rattle.rewrite_rules.proofs.identities.NumberLemmas.{below_power}
@@ -72,6 +77,13 @@ all_below w (suc n) l =
     let place = (bit_at-trailing_zeros w (suc n) (omega arith) l).0 in
     ne_eqb (trailing_zeros w (suc n)) (bits w) (λ z. absurd (omega arith)) ∙ sym (ne_eqb (suc n) 0 (λ z. absurd (omega arith)))
 
+-- those above the highest one
+all_above : (w : Width) (n : ℕ) → n < 2 ^ bits w → (leading_zeros w n == bits w) ≡ (n == 0)
+all_above w zero l = eq-eqb (leading_zeros w 0) (bits w) (leading_of_zero (bits w))
+all_above w (suc n) l =
+    let sum = (leading_top (bits w) (suc n) (omega arith) l).1 in
+    ne_eqb (leading_zeros w (suc n)) (bits w) (λ z. absurd (omega arith)) ∙ sym (ne_eqb (suc n) 0 (λ z. absurd (omega arith)))
+
 -- ---- lines
 
 -- a count is a number of few bits itself
@@ -87,16 +99,27 @@ test_by_popcnt t h c us vs a e =
     let l = small t (h 0) (a 0) in
     sym (ap (λ k. truth (k == 0)) (set_low t (h 0) l) ∙ ap truth (none_set (bits (width_of t)) (h 0) l))
 
-by_ctz : (t : IntegerType) (n : ℕ) → n < 2 ^ bits (width_of t) → (low t (trailing_zeros (width_of t) n) == low t (bits (width_of t))) ≡ (n == 0)
-by_ctz t n l =
-    let w = width_of t in
-    ap₂ (λ i j. i == j) (count_low t (trailing_zeros w n) (trailing_le (bits w) n)) (count_low t (bits w) (omega arith)) ∙ all_below w n l
+-- of 0 the zeros that are counted are all of its bits, and of no other number
+abbrev pub CountsAll : Unary → Type 0
+CountsAll f =
+    (t : IntegerType) (n : ℕ) → n < 2 ^ bits (width_of t) →
+    (low t (unary_value (width_of t) (unary_of f) n) == low t (bits (width_of t))) ≡ (n == 0)
 
-pub test_by_ctz : (t : IntegerType) → IsRight (line.test_by_ctz t)
-test_by_ctz t h c us vs a e = sym (ap truth (by_ctz t (h 0) (small t (h 0) (a 0))))
+-- a count and the width are numbers of the width
+both_low : (t : IntegerType) (i : ℕ) → i ≤ bits (width_of t) → (low t i == low t (bits (width_of t))) ≡ (i == bits (width_of t))
+both_low t i l = ap₂ (λ j k. j == k) (count_low t i l) (count_low t (bits (width_of t)) (omega arith))
 
-pub tests_by_ctz : (t : IntegerType) → IsRight (line.tests_by_ctz t)
-tests_by_ctz t h c us vs a e = ap (λ b. truth (not b)) (by_ctz t (h 0) (small t (h 0) (a 0))) ∙ sym (not_truth (h 0 == 0))
+pub by_ctz : CountsAll Ctz
+by_ctz t n l = let w = width_of t in both_low t (trailing_zeros w n) (trailing_le (bits w) n) ∙ all_below w n l
+
+by_clz : CountsAll Clz
+by_clz t n l = let w = width_of t in both_low t (leading_zeros w n) (leading_le (bits w) n) ∙ all_above w n l
+
+pub test_by_zeros : (f : Unary) → CountsAll f → (t : IntegerType) → IsRight (line.test_by_zeros f t)
+test_by_zeros f k t h c us vs a e = sym (ap truth (k t (h 0) (small t (h 0) (a 0))))
+
+pub tests_by_zeros : (f : Unary) → CountsAll f → (t : IntegerType) → IsRight (line.tests_by_zeros f t)
+tests_by_zeros f k t h c us vs a e = ap (λ b. truth (not b)) (k t (h 0) (small t (h 0) (a 0))) ∙ sym (not_truth (h 0 == 0))
 
 -- a truth value is how many of its bits are set
 truth_counted : (b : Bool) → ok (ones_in 32 ((if b then 1 else 0) % 2 ^ 32) % 2 ^ 32) ≡ truth b
@@ -124,3 +147,15 @@ popcnt_of_complement t h c us vs a e =
     let sum : k + (M - ones_in k m) ≡ ones_in k (h 0) + M = omega arith in
     sym (ap₂ (λ i j. ok (low t (i + (M - low t (ones_in k j))))) (count_low t k (omega arith)) other
     ∙ (ap (λ i. ok (low t (k + (M - i)))) (set_low t m below) ∙ ap ok (ap (low t) sum ∙ add-mod_right (ones_in k (h 0)) M)))
+
+-- ---- rows
+
+pub zero_counts_right : AtRows IsRight (rows_of ZERO_COUNTS)
+zero_counts_right =
+    test_by_zeros Clz by_clz integer.I32
+    ▸ test_by_zeros Clz by_clz integer.I64
+    ▸ turned (line.test_by_zeros Clz) (test_by_zeros Clz by_clz) integer.I32
+    ▸ turned (line.test_by_zeros Clz) (test_by_zeros Clz by_clz) integer.I64
+    ▸ tests_by_zeros Clz by_clz integer.I32
+    ▸ tests_by_zeros Clz by_clz integer.I64
+    ▸ tt

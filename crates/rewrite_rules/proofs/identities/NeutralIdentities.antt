@@ -112,7 +112,7 @@ whole : (z : ℤ) → int_div z (pos 1) ≡ z
 whole (pos a) = ap pos (div-one a)
 whole (negsuc a) = ap (λ n. neg_ℤ (pos n)) (div-one (suc a))
 
-not_large : (t : IntegerType) (b : Bool) (n : ℕ) (cause : Cause) →
+pub not_large : (t : IntegerType) (b : Bool) (n : ℕ) (cause : Cause) →
     or_cause (kept (width_of t) (if (b && false) then None else Some n)) cause ≡ ok (low t n)
 not_large t true n cause = refl
 not_large t false n cause = refl

@@ -1,12 +1,13 @@
 -- What is shown of the lines of rows, row by row.
-use Rattle.std.proofs.Common.{List, [], ◌∷◌, ◌++◌}
+use Rattle.std.proofs.Common.{sym, List, [], ◌∷◌, ◌++◌}
 use Rattle.std.specs.Prelude.{⊤}
 use Rattle.peephole_machine.specs.declared.integer.IntegerType.{IntegerType}
 use Rattle.peephole_machine.specs.declared.integer.IntegerType.TheVariants as integer
 use Rattle.rewrite_rules.specs.declared.table.Widths.{Widths}
 use Rattle.rewrite_rules.specs.declared.table.Widths.TheVariants.{Both, Only, Any, Operands, Own}
 use Rattle.rewrite_rules.specs.declared.table.Row.{Row}
-use Rattle.rewrite_rules.specs.Line.{Line}
+use Rattle.rewrite_rules.specs.Line.{Line, IsRight}
+use Rattle.rewrite_rules.proofs.identities.Words as line
 use Rattle.rewrite_rules.specs.Table.{Entry, rows_of, joined, width_by, line_of}
 
 -- it holds of the line of a row, for each of the row's widths
@@ -40,3 +41,7 @@ joins P (e ∷ es) ds h k = (h.0, joins P es ds h.1 k)
 pub at_all : (P : Line → Type 0) (lists : List (List Entry)) → AtParts P lists → AtRows P (rows_of (joined lists))
 at_all P [] h = tt
 at_all P (es ∷ rest) h = joins P es (joined rest) h.0 (at_all P rest h.1)
+
+-- a line that is right is right from right to left
+pub turned : (l : IntegerType → Line) → ((t : IntegerType) → IsRight (l t)) → (t : IntegerType) → IsRight (line.back l t)
+turned l k t h c us vs a e = sym (k t h c vs us a e)

@@ -1,6 +1,6 @@
 -- Every row of the table has lines that are well formed, and right.
-use Rattle.std.proofs.Common.{◌≡◌, ℕ, zero, suc, Some, subst, ◌%◌, ◌^◌, true, Bool, List, [], ◌∷◌, refl, sym, ap}
-use Rattle.std.specs.Prelude.{◌&&◌, not, map, slice_get, take, drop}
+use Rattle.std.proofs.Common.{◌≡◌, ℕ, zero, suc, Some, subst, ◌%◌, ◌^◌, true, false, Bool, List, [], ◌∷◌, refl, sym, ap}
+use Rattle.std.specs.Prelude.{not, map, slice_get, take, drop}
 use Rattle.std.specs.Int.{w32, w64, cast_unsigned}
 use Rattle.std.proofs.lemmas.Bool.{and_parts}
 use Rattle.wasm_code.specs.Table.{table, row_at}
@@ -10,6 +10,7 @@ use Rattle.peephole_machine.specs.declared.integer.IntegerType.{IntegerType}
 use Rattle.peephole_machine.specs.declared.integer.IntegerType.TheVariants as integer
 use Rattle.peephole_machine.specs.declared.operation.Binary.{Binary}
 use Rattle.peephole_machine.specs.declared.operation.Binary.TheVariants.{Add, Sub, Mul, DivS, DivU, And, Or, Xor, Shl, ShrS, ShrU, Rotl, Rotr}
+use Rattle.peephole_machine.specs.declared.operation.Unary.TheVariants.{Ctz}
 use Rattle.peephole_machine.specs.declared.operation.Comparison.{Comparison}
 use Rattle.peephole_machine.specs.declared.operation.Comparison.TheVariants.{Eq, Ne, LtS, LtU, GtS, GtU, LeS, LeU, GeS, GeU}
 use Rattle.peephole_machine.specs.Operation.{comparison_of}
@@ -20,14 +21,21 @@ use Rattle.rewrite_rules.specs.declared.table.Widths.TheVariants.{Both, Only, An
 use Rattle.rewrite_rules.specs.declared.table.Row.{Row}
 use Rattle.rewrite_rules.specs.Exact.{exact_operator}
 use Rattle.rewrite_rules.specs.Line.{Line, is_formed, IsRight}
-use Rattle.rewrite_rules.specs.Table.{parts, rows_of, joined, ROWS, width_by, line_of, widths_in, lines_of, OfEachLine}
+use Rattle.rewrite_rules.specs.declared.table.TheConstants.{ACCESS_BITS, ACCESS_WIDTHS, LOAD_SIGNS, STORE_SIGNS, ALIGNMENTS, CONSTANTS}
+use Rattle.rewrite_rules.specs.Table.{Entry, row_in, parts, rows_of, joined, ROWS, width_by, line_of, widths_in, lines_of, OfEachLine}
 use Rattle.rewrite_rules.specs.Laws.{LinesKeepCode, TableIsRight}
+use Rattle.rewrite_rules.proofs.PassLemmas.{passes, passes_at}
 use Rattle.rewrite_rules.proofs.identities.Words as line
-use Rattle.rewrite_rules.proofs.identities.RowLemmas.{AtWidths, AtRows, AtParts, ◌▸◌, joins, at_all}
+use Rattle.rewrite_rules.proofs.identities.RowLemmas.{AtWidths, AtRows, AtParts, ◌▸◌, joins, at_all, turned}
 use Rattle.rewrite_rules.proofs.identities.VectorRows as vector
 use Rattle.rewrite_rules.proofs.identities.LaneTestRows as lane_tests
 use Rattle.rewrite_rules.proofs.identities.LaneMoveRows as moves
 use Rattle.rewrite_rules.proofs.identities.ExtensionNumbers as number
+use Rattle.rewrite_rules.proofs.identities.ExtensionRows as extension
+use Rattle.rewrite_rules.proofs.identities.SignTestIdentities as sign_test
+use Rattle.rewrite_rules.proofs.identities.UndoneRows as undone
+use Rattle.rewrite_rules.proofs.identities.HalfIdentities as half
+use Rattle.rewrite_rules.proofs.identities.PowerTestIdentities as power_test
 use Rattle.rewrite_rules.proofs.identities.ComparisonNumbers as opposite
 use Rattle.rewrite_rules.proofs.identities.SignNumbers as sign
 use Rattle.rewrite_rules.proofs.identities.WidthLemmas.{ok}
@@ -46,18 +54,6 @@ use Rattle.rewrite_rules.proofs.identities.FloatTestIdentities as test
 
 -- ---- well formed
 
--- a test passes on all
-abbrev passes : {A : Type 0} → (A → Bool) → List A → Bool
-passes f [] = true
-passes f (x ∷ xs) = f x && passes f xs
-
-passes_at : {A : Type 0} (f : A → Bool) (xs : List A) → passes f xs ≡ true → (i : ℕ) (x : A) → slice_get xs i ≡ Some x → f x ≡ true
-passes_at f [] e i x k = absurd cc
-passes_at f (y ∷ ys) e zero x k =
-    let is : y ≡ x = cc in
-    subst (λ z. f z ≡ true) is (and_parts (f y) (passes f ys) e).0
-passes_at f (y ∷ ys) e (suc i) x k = passes_at f ys (and_parts (f y) (passes f ys) e).1 i x k
-
 all_formed : passes (λ row. passes is_formed (lines_of row)) ROWS ≡ true
 unfolding parts exact_operator exact_row integer_row row_at table
 all_formed = refl
@@ -66,10 +62,6 @@ formed_line : OfEachLine (λ l. is_formed l ≡ true)
 formed_line i row e k l f = passes_at is_formed (lines_of row) (passes_at (λ r. passes is_formed (lines_of r)) ROWS all_formed i row e) k l f
 
 -- ---- right
-
--- a line that is right is right from right to left
-turned : (l : IntegerType → Line) → ((t : IntegerType) → IsRight (l t)) → (t : IntegerType) → IsRight (line.back l t)
-turned l k t h c us vs a e = sym (k t h c vs us a e)
 
 -- a number that changes nothing is put behind an operand
 puts : (f : Binary) (e : Number) → ((t : IntegerType) → neutral.Neutral f e t) → (t : IntegerType) → IsRight (line.back (line.drop_number f e) t)
@@ -312,14 +304,14 @@ number_rows_right =
     ▸ puts DivS (Literal 1) neutral.div_s_1
     ▸ count.test_by_popcnt integer.I32
     ▸ count.test_by_popcnt integer.I64
-    ▸ count.test_by_ctz integer.I32
-    ▸ count.test_by_ctz integer.I64
+    ▸ count.test_by_zeros Ctz count.by_ctz integer.I32
+    ▸ count.test_by_zeros Ctz count.by_ctz integer.I64
     ▸ turned line.test_by_popcnt count.test_by_popcnt integer.I32
     ▸ turned line.test_by_popcnt count.test_by_popcnt integer.I64
-    ▸ turned line.test_by_ctz count.test_by_ctz integer.I32
-    ▸ turned line.test_by_ctz count.test_by_ctz integer.I64
-    ▸ count.tests_by_ctz integer.I32
-    ▸ count.tests_by_ctz integer.I64
+    ▸ turned (line.test_by_zeros Ctz) (count.test_by_zeros Ctz count.by_ctz) integer.I32
+    ▸ turned (line.test_by_zeros Ctz) (count.test_by_zeros Ctz count.by_ctz) integer.I64
+    ▸ count.tests_by_zeros Ctz count.by_ctz integer.I32
+    ▸ count.tests_by_zeros Ctz count.by_ctz integer.I64
     ▸ count.popcnt_of_complement integer.I32
     ▸ count.popcnt_of_complement integer.I64
     ▸ turned line.popcnt_of_complement count.popcnt_of_complement integer.I32
@@ -512,6 +504,27 @@ number_rows_right =
     ▸ turned (tests.both_parts at_least greater) (test.both_parts at_least greater order.ge_parts) integer.I64
     ▸ tt
 
+-- rules that are no rows have no lines
+abbrev is_own : Widths → Bool
+is_own (Own o) = true
+is_own w = false
+
+abbrev all_own : List Entry → Bool
+all_own = passes (λ (x : Entry). is_own x.1)
+
+own_right : (es : List Entry) → all_own es ≡ true → AtRows IsRight (rows_of es)
+own_right [] e = tt
+own_right (x ∷ xs) e =
+    let (own, others) = and_parts (is_own x.1) (all_own xs) e in
+    (go x.1 (line_of (row_in x)) own, own_right xs others)
+  where
+    go : (w : Widths) (l : IntegerType → Line) → is_own w ≡ true → AtWidths IsRight w l
+    go (Own o) l e = tt
+    go Both l e = absurd cc
+    go (Only t) l e = absurd cc
+    go Any l e = absurd cc
+    go (Operands a b c) l e = absurd cc
+
 -- constant by constant, those behind it
 vector_rows_right : AtParts IsRight (drop 29 parts)
 unfolding parts
@@ -540,6 +553,20 @@ vector_rows_right =
     ▸ moves.signed_lanes_right
     ▸ moves.extended_lanes_right
     ▸ vector.decided_right
+    ▸ own_right ACCESS_BITS refl
+    ▸ own_right ACCESS_WIDTHS refl
+    ▸ own_right LOAD_SIGNS refl
+    ▸ own_right STORE_SIGNS refl
+    ▸ own_right ALIGNMENTS refl
+    ▸ own_right CONSTANTS refl
+    ▸ extension.extensions_right
+    ▸ extension.extension_masks_right
+    ▸ extension.extension_moves_right
+    ▸ sign_test.sign_tests_right
+    ▸ power_test.power_tests_right
+    ▸ count.zero_counts_right
+    ▸ half.halves_right
+    ▸ undone.undone_right
     ▸ tt
 
 -- all of them

@@ -4,11 +4,11 @@ use Rattle.wasm_types.specs.declared.types.PrimitiveTypeInfo.TheVariants as prim
 use Rattle.peephole_machine.specs.declared.integer.IntegerType.{IntegerType}
 use Rattle.peephole_machine.specs.declared.integer.IntegerType.TheVariants as integer
 use Rattle.peephole_machine.specs.declared.operation.Binary.{Binary}
-use Rattle.peephole_machine.specs.declared.operation.Binary.TheVariants.{Add, Sub, Mul, DivU, RemS, RemU, And, Or, Xor, Shl, ShrU, Rotl, Rotr}
+use Rattle.peephole_machine.specs.declared.operation.Binary.TheVariants.{Add, Sub, Mul, DivS, DivU, RemS, RemU, And, Or, Xor, Shl, ShrS, ShrU, Rotl, Rotr}
 use Rattle.peephole_machine.specs.declared.operation.Unary.{Unary}
-use Rattle.peephole_machine.specs.declared.operation.Unary.TheVariants.{Ctz, Popcnt}
+use Rattle.peephole_machine.specs.declared.operation.Unary.TheVariants.{Popcnt}
 use Rattle.peephole_machine.specs.declared.operation.Comparison.{Comparison}
-use Rattle.peephole_machine.specs.declared.operation.Comparison.TheVariants.{Eq, Ne, LtU}
+use Rattle.peephole_machine.specs.declared.operation.Comparison.TheVariants.{Eq, Ne, LtS, LtU, GeU}
 use Rattle.peephole_machine.specs.declared.operation.Operation.{Operation}
 use Rattle.peephole_machine.specs.declared.operation.Operation.TheVariants as operation
 use Rattle.peephole_machine.specs.Values.{type_of}
@@ -239,6 +239,16 @@ sum_back t = line t (two t Add (two t Sub x y) y) x
 abbrev pub difference_back : IntegerType → Line
 difference_back t = line t (two t Sub x (two t Sub x y)) y
 
+-- half a number with sign, as a shift behind its highest bit, the one at that place, was added
+abbrev pub half : IntegerType → ℕ → Line
+half t place = line t (two t DivS x (lit t 2)) (two t ShrS (two t Add x (two t ShrU x (lit t place))) (lit t 1))
+
+-- the same of an i32, behind whether it is below 0
+abbrev pub half_by_test : Line
+half_by_test =
+    line integer.I32 (two integer.I32 ShrS (two integer.I32 Add x (compared integer.I32 LtS x (lit integer.I32 0))) (lit integer.I32 1))
+    (two integer.I32 DivS x (lit integer.I32 2))
+
 -- ---- halves
 
 -- an operator on one operand
@@ -264,16 +274,16 @@ wrap_signed = line integer.I64 (one operation.WrapI64 x) (one operation.WrapI64 
 abbrev pub counted : Unary → IntegerType → Pattern → Pattern
 counted f t p = one (operation.Unary t f) p
 
--- whether a number is 0, by the bits that are set, and by how many stand below the lowest one
+-- whether a number is 0, by the bits that are set, and by how many stand below the lowest one, or above the highest one
 abbrev pub test_by_popcnt : IntegerType → Line
 test_by_popcnt t = line t (is_zero t x) (is_zero t (counted Popcnt t x))
 
-abbrev pub test_by_ctz : IntegerType → Line
-test_by_ctz t = line t (is_zero t x) (compared t Eq (counted Ctz t x) (constant t Bits))
+abbrev pub test_by_zeros : Unary → IntegerType → Line
+test_by_zeros f t = line t (is_zero t x) (compared t Eq (counted f t x) (constant t Bits))
 
 -- whether it is not 0
-abbrev pub tests_by_ctz : IntegerType → Line
-tests_by_ctz t = line t (compared t Ne (counted Ctz t x) (constant t Bits)) (is_zero integer.I32 (is_zero t x))
+abbrev pub tests_by_zeros : Unary → IntegerType → Line
+tests_by_zeros f t = line t (compared t Ne (counted f t x) (constant t Bits)) (is_zero integer.I32 (is_zero t x))
 
 -- those that are set in a test, and in a comparison
 abbrev pub counted_test : IntegerType → Line
@@ -335,6 +345,32 @@ sign_moved f g t = line t (compared t f (two t Xor x (constant t Sign)) y) (comp
 -- below 1
 abbrev pub is_below_one : IntegerType → Line
 is_below_one t = line t (compared t LtU x (lit t 1)) (is_zero t x)
+
+-- above 0
+abbrev pub above_zero : IntegerType → Line
+above_zero t = line t (compared t LtU (lit t 0) x) (compared t Ne x (lit t 0))
+
+-- below a power of two, and not below one, by what is left above its place
+abbrev pub below_power : IntegerType → Line
+below_power t = line_if t (is_power t 0) (compared t LtU x (constant t c)) (is_zero t (two t ShrU x (constant t (Place 0))))
+
+abbrev pub from_power : IntegerType → Line
+from_power t = line_if t (is_power t 0) (compared t GeU x (constant t c)) (compared t Ne (two t ShrU x (constant t (Place 0))) (lit t 0))
+
+-- the same, by the number before it
+abbrev pub power_bound : (f g : Comparison) → IntegerType → Line
+power_bound f g t = line_if t (is_power t 0) (compared t f x (constant t c)) (compared t g x (constant t (Previous 0)))
+
+-- what is left above a place, as below the power of two there, and as not below it
+abbrev pub shift_below : IntegerType → Line
+shift_below t = line_if t (is_below_width t 0) (is_zero t (two t ShrU x (constant t c))) (compared t LtU x (constant t (Power 0)))
+
+abbrev pub shift_from : IntegerType → Line
+shift_from t = line_if t (is_below_width t 0) (compared t Ne (two t ShrU x (constant t c)) (lit t 0)) (compared t GeU x (constant t (Power 0)))
+
+-- by a power of two less one, and by the power
+abbrev pub mask_bound : (f g : Comparison) → IntegerType → Line
+mask_bound f g t = line_if t (is_mask t 0) (compared t f x (constant t c)) (compared t g x (constant t (Next 0)))
 
 -- ---- selects
 

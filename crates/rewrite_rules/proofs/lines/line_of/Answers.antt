@@ -216,5 +216,61 @@ pub returns-in-52 : goal.returns-in-52
 unfolding parts
 returns-in-52 c = c.in_vector_decided.ensures ∙ ap (λ part. slice_get (part_at part) c.args.number) (sym c.in-52.is)
 
+pub returns-in-53 : goal.returns-in-53
+unfolding parts
+returns-in-53 c = c.in_access_bits.ensures ∙ ap (λ part. slice_get (part_at part) c.args.number) (sym c.in-53.is)
+
+pub returns-in-54 : goal.returns-in-54
+unfolding parts
+returns-in-54 c = c.in_access_widths.ensures ∙ ap (λ part. slice_get (part_at part) c.args.number) (sym c.in-54.is)
+
+pub returns-in-55 : goal.returns-in-55
+unfolding parts
+returns-in-55 c = c.in_load_signs.ensures ∙ ap (λ part. slice_get (part_at part) c.args.number) (sym c.in-55.is)
+
+pub returns-in-56 : goal.returns-in-56
+unfolding parts
+returns-in-56 c = c.in_store_signs.ensures ∙ ap (λ part. slice_get (part_at part) c.args.number) (sym c.in-56.is)
+
+pub returns-in-57 : goal.returns-in-57
+unfolding parts
+returns-in-57 c = c.in_alignments.ensures ∙ ap (λ part. slice_get (part_at part) c.args.number) (sym c.in-57.is)
+
+pub returns-in-58 : goal.returns-in-58
+unfolding parts
+returns-in-58 c = c.in_constants.ensures ∙ ap (λ part. slice_get (part_at part) c.args.number) (sym c.in-58.is)
+
+pub returns-in-59 : goal.returns-in-59
+unfolding parts
+returns-in-59 c = c.in_extensions.ensures ∙ ap (λ part. slice_get (part_at part) c.args.number) (sym c.in-59.is)
+
+pub returns-in-60 : goal.returns-in-60
+unfolding parts
+returns-in-60 c = c.in_extension_masks.ensures ∙ ap (λ part. slice_get (part_at part) c.args.number) (sym c.in-60.is)
+
+pub returns-in-61 : goal.returns-in-61
+unfolding parts
+returns-in-61 c = c.in_extension_moves.ensures ∙ ap (λ part. slice_get (part_at part) c.args.number) (sym c.in-61.is)
+
+pub returns-in-62 : goal.returns-in-62
+unfolding parts
+returns-in-62 c = c.in_sign_tests.ensures ∙ ap (λ part. slice_get (part_at part) c.args.number) (sym c.in-62.is)
+
+pub returns-in-63 : goal.returns-in-63
+unfolding parts
+returns-in-63 c = c.in_power_tests.ensures ∙ ap (λ part. slice_get (part_at part) c.args.number) (sym c.in-63.is)
+
+pub returns-in-64 : goal.returns-in-64
+unfolding parts
+returns-in-64 c = c.in_zero_counts.ensures ∙ ap (λ part. slice_get (part_at part) c.args.number) (sym c.in-64.is)
+
+pub returns-in-65 : goal.returns-in-65
+unfolding parts
+returns-in-65 c = c.in_halves.ensures ∙ ap (λ part. slice_get (part_at part) c.args.number) (sym c.in-65.is)
+
+pub returns-in-66 : goal.returns-in-66
+unfolding parts
+returns-in-66 c = c.in_undone.ensures ∙ ap (λ part. slice_get (part_at part) c.args.number) (sym c.in-66.is)
+
 pub returns-in_default : goal.returns-in_default
 returns-in_default c = elsewhere c.args.part c.args.number (omega arith)

@@ -42,3 +42,8 @@ pub returns-in-SetToTee : goal.returns-in-SetToTee
 returns-in-SetToTee c = λ context same trees.
     let found = c.find-in-SetToTee.ensures context in
     subst (λ own. IsSiteOf context c.args.body.now.operators.now own c.args.at c.find-in-SetToTee.result) (sym c.in-SetToTee.is) found
+
+pub returns-in-Access : goal.returns-in-Access
+returns-in-Access c = λ context same trees.
+    let found = c.find-in-Access.ensures context same in
+    subst (λ own. IsSiteOf context c.args.body.now.operators.now own c.args.at c.find-in-Access.result) (sym c.in-Access.is) found

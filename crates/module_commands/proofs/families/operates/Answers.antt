@@ -2,8 +2,8 @@
 use Rattle.std.proofs.Common.{◌∙◌}
 use Rattle.peephole_machine.specs.IntegerRow.{bare_operator}
 use Rattle.peephole_machine.specs.Operation.{operator_of}
-use Rattle.module_commands.proofs.ReachLemmas.{some_alike}
-use Rattle.module_commands.proofs.reach.operates.Goals as goal
+use Rattle.module_commands.proofs.FamiliesLemmas.{some_alike}
+use Rattle.module_commands.proofs.families.operates.Goals as goal
 
 pub returns : goal.returns
 returns c = c.is_some.ensures ∙ some_alike operator_of c.from_byte.result (bare_operator c.args.byte) c.from_byte.ensures.operator

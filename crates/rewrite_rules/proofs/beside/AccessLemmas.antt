@@ -1,0 +1,436 @@
+-- Loads and stores of as many bytes, with what is done with their values: which do the same on every stack, and are valid alike on every frame.
+use Rattle.std.proofs.Common.{◌≡◌, ℕ, ◌+◌, ◌-◌, ◌^◌, ◌<◌, ◌≤◌, Bool, true, false, List, [], ◌∷◌, ◌++◌, length, take, drop, map, Some, None, refl, sym, ap, ap₂, ◌∙◌, subst, append_assoc, length-take, length-drop, true≢false, arith, inl, inr}
+use Rattle.std.specs.Prelude.{◌⊎◌, ◌&&◌, nat_le, is_some, if◌then◌else◌, option_and_then}
+use Rattle.std.specs.List.{All}
+use Rattle.std.proofs.Math.Nat.{pow-suc}
+use Rattle.std.proofs.lemmas.Bool.{leb-true, and_parts}
+use Rattle.std.proofs.lemmas.List.{append-nil}
+use Rattle.std.proofs.lemmas.List.Elements.{All-nil, All-cons, All-head, All-tail, All-take, All-drop}
+use Rattle.wasm_code.specs.Instruction.{Instruction}
+use Rattle.wasm_code.specs.declared.immediate.Imm.TheVariants as imm
+use Rattle.wasm_code.specs.declared.immediate.MemArg.{MemArg}
+use Rattle.wasm_types.specs.Module.{Module}
+use Rattle.wasm_types.specs.declared.types.PrimitiveTypeInfo.{PrimitiveTypeInfo}
+use Rattle.peephole_machine.specs.ExactRow.{Loading, ExactRow, loads, stores, exact_row}
+use Rattle.peephole_machine.specs.OtherRow.{Operand, typed, names_in, other_type}
+use Rattle.peephole_machine.specs.Values.{of_bits, same_type, accepts, accept, results_on, other_types, Value, IsValue, IsOfType, types, Context, State, own_globals, HasTypes, Outcome, Ends, Traps, Stuck, met, Answer, Gives, IsExact, Memories, little, bytes_of, put_at, within, stored, exactly, then_run, above}
+use Rattle.peephole_machine.specs.IntegerRow.{other, operand_count, count_of, row_types, integer_row}
+use Rattle.peephole_machine.specs.Machine.{answered, only_if, effect, act, step, run}
+use Rattle.peephole_machine.specs.OutcomeLemmas.{run_append, run_one}
+use Rattle.peephole_machine.specs.ExactLemmas.{of_bits_fits}
+use Rattle.peephole_machine.specs.RowLemmas.{same_type_self, same_type_is, step_at}
+use Rattle.peephole_machine.specs.StateLemmas.{own_types_are, own_is, others_none, context_is}
+use Rattle.peephole_machine.specs.TypeLemmas.{act_at}
+use Rattle.peephole_programs.specs.control.Wider.{wider}
+use Rattle.peephole_programs.specs.validation.Algorithm.{Frame, check_code}
+use Rattle.peephole_programs.specs.validation.StaysValid.{with_types, MoreGlobalsCheckAlike}
+use Rattle.rewrite_rules.specs.declared.access.AccessSide.{AccessSide}
+use Rattle.rewrite_rules.specs.declared.access.AccessKind.TheVariants.{Load, Store}
+use Rattle.rewrite_rules.specs.declared.access.Conversion.{Conversion}
+use Rattle.rewrite_rules.specs.declared.access.Conversion.TheVariants.{Nothing}
+use Rattle.rewrite_rules.specs.Access.{code_with, conversion_code, side_code}
+use Rattle.rewrite_rules.specs.Beside.{StandsWith}
+use Rattle.rewrite_rules.proofs.beside.ConversionLemmas.{Converts}
+use Rattle.rewrite_rules.proofs.beside.FrameLemmas.{cut_last, same_turned, Takes, other_takes, taken_pushed, taken_through, pushed_by}
+use Rattle.rewrite_rules.proofs.beside.StandLemmas.{runs_alike, code_wider}
+use Rattle.rewrite_rules.proofs.CodeLemmas.{both_all}
+
+-- ---- bytes
+
+little_fits : (bs : List ℕ) → All (λ b. b < 256) bs → little bs < 256 ^ length bs
+little_fits [] h = omega arith
+little_fits (b ∷ bs) h =
+    let small = All-head (λ (b : ℕ). b < 256) b bs h in
+    let later = little_fits bs (All-tail (λ (b : ℕ). b < 256) b bs h) in
+    rw (pow-suc 256 (length bs)) (omega arith)
+
+-- what is loaded of bytes that are there is below that many bytes
+loaded_fits : (bs : List ℕ) (place count : ℕ) → All (λ b. b < 256) bs → nat_le (place + count) (length bs) ≡ true →
+    little (take count (drop place bs)) < 256 ^ count
+loaded_fits bs place count h e =
+    let l : place + count ≤ length bs = leb-true (place + count) (length bs) e in
+    let n : length (take count (drop place bs)) ≡ count = simp (length-take, length-drop) (omega arith) in
+    subst (λ k. little (take count (drop place bs)) < 256 ^ k) n
+    (little_fits (take count (drop place bs)) (All-take (λ (b : ℕ). b < 256) count (drop place bs) (All-drop (λ (b : ℕ). b < 256) place bs h)))
+
+-- ---- rows
+
+-- an address of the memory
+abbrev pub address : Module → MemArg → Operand
+address info m = typed (names_in info (imm.Mem m)).address
+
+-- What is known of a load: it reads these bytes, and leaves a value of the type.
+pub record IsLoadRow (row : ℕ) (l : Loading) (t : PrimitiveTypeInfo) : Type 0 where
+  pub is_other : (m : MemArg) → integer_row (code_with row (imm.Mem m)) ≡ other (code_with row (imm.Mem m))
+  pub has_type : (info : Module) (m : MemArg) →
+      other_type (names_in info (imm.Mem m)) (code_with row (imm.Mem m)) ≡ Some (record { operands = address info m ∷ []; results = t ∷ [] })
+  pub loads_so : (m : MemArg) → exact_row (code_with row (imm.Mem m)) ≡ Some (loads m l)
+
+-- What is known of a store: it writes so many bytes of a value of the type.
+pub record IsStoreRow (row count : ℕ) (t : PrimitiveTypeInfo) : Type 0 where
+  pub is_other : (m : MemArg) → integer_row (code_with row (imm.Mem m)) ≡ other (code_with row (imm.Mem m))
+  pub has_type : (info : Module) (m : MemArg) →
+      other_type (names_in info (imm.Mem m)) (code_with row (imm.Mem m)) ≡ Some (record { operands = address info m ∷ typed (Some t) ∷ []; results = [] })
+  pub stores_so : (m : MemArg) → exact_row (code_with row (imm.Mem m)) ≡ Some (stores m count)
+
+module _ (context : Context) (exact : context.info.exact ≡ true) where
+  -- ---- what the world answers
+
+  pub exact_world : (s : State) → HasTypes context s → IsExact s.world
+  exact_world s h = h.sound.exact (ap (λ (m : Module). m.exact) h.info_is ∙ exact)
+
+  pub exactly_acts : (i : Instruction) (row : ExactRow) (vs : List Value) (results : List PrimitiveTypeInfo) (s : State) (h : HasTypes context s) →
+      integer_row i ≡ other i → exact_row i ≡ Some row → other_types context.info i (types vs) ≡ Some results → All IsValue vs →
+      act (integer_row i) vs s
+      ≡ answered (exactly (exact_world s h).memories row results (map (λ v. v.number) vs) s.globals s.rest) [] s
+  exactly_acts i row vs results s h own is answers hv =
+      let world = exact_world s h in
+      ap (λ r. act r vs s) own
+      ∙ (act_at h (other i) vs results answers
+      ∙ ap₂ (λ (a : Answer) (more : List Value). answered a more s)
+      (ap (λ (gs : List Value). s.world.answer i vs gs s.rest) (own_is h)
+      ∙ world.follows i row results vs s.globals s.rest is
+      (ap (λ (m : Module). other_types m i (types vs)) h.info_is ∙ answers) hv (own_types_are h) h.global_values)
+      (others_none h i vs (own_globals s)))
+
+  stuck_on : (i : Instruction) (vs : List Value) (s : State) → HasTypes context s → integer_row i ≡ other i →
+      other_types context.info i (types vs) ≡ None → act (integer_row i) vs s ≡ Stuck
+  stuck_on i vs s h own e =
+      ap (λ r. act r vs s) own
+      ∙ ap (λ r. only_if (is_some r) (effect (other i) vs s)) (ap (λ (c : Context). row_types c (other i) (types vs)) (context_is h) ∙ e)
+
+  pub same_globals : (vs : List Value) (s : State) → Ends vs (record s { globals = s.globals ++ [] }) ≡ Ends vs s
+  same_globals vs s = ap (λ (gs : List Value). Ends vs (record s { globals = gs })) (append-nil s.globals)
+
+  -- ---- loads
+
+  -- what a value does that was loaded: nothing, or a conversion
+  pub record Follows (c : Conversion) (t u : PrimitiveTypeInfo) (f : ℕ → ℕ) : Type 0 where
+    pub pushes : (all : Context) (g : Frame) → check_code all (conversion_code c) (with_types (t ∷ []) g) ≡ Some (with_types (u ∷ []) g)
+    pub runs : (below : List Value) (v : Value) (s : State) → HasTypes context s → IsValue v → v.type ≡ t →
+        run (conversion_code c) (below ++ v ∷ []) s ≡ Ends (below ++ record { type = u; number = f v.number } ∷ []) s
+
+  pub nothing_follows : (t : PrimitiveTypeInfo) → Follows Nothing t t (λ n. n)
+  nothing_follows t = record {
+    pushes = λ all g. refl;
+    runs = λ below v s h i e. ap (λ (w : PrimitiveTypeInfo). Ends (below ++ record { type = w; number = v.number } ∷ []) s) e;
+  }
+
+  pub conversion_follows : (c : Conversion) (t u : PrimitiveTypeInfo) (f : ℕ → ℕ) → Converts context c t u f → Follows c t u f
+  conversion_follows c t u f is = record {
+    pushes = λ all g. pushed_by all (conversion_code c) t (u ∷ []) (is.takes_one all) g;
+    runs = is.runs;
+  }
+
+  -- where its address is in the memory's type, the value that is made of the bytes there, or a trap
+  abbrev pub loaded_by : Memories → MemArg → (count : ℕ) → PrimitiveTypeInfo → (ℕ → ℕ) → (below : List Value) → (address : ℕ) → State → Outcome
+  loaded_by w m count u f below n s =
+      let bytes = w.bytes s.rest m.memory in
+      if nat_le (n + m.offset + count) (length bytes)
+      then Ends (below ++ record { type = u; number = f (little (take count (drop (n + m.offset) bytes))) } ∷ []) s
+      else Traps (met w.outside) s.globals s.rest
+
+  module _ (side : AccessSide) (l : Loading) (t u : PrimitiveTypeInfo) (f : ℕ → ℕ) (is : IsLoadRow side.row l t) (next : Follows side.conversion t u f)
+      (m : MemArg) where
+    abbrev load : Instruction
+    load = code_with side.row (imm.Mem m)
+
+    pub load_takes : (all : Context) → Takes all (side_code Load side (imm.Mem m)) (address all.info m ∷ []) (u ∷ [])
+    load_takes all =
+        taken_pushed all (load ∷ []) (conversion_code side.conversion) (address all.info m ∷ []) (t ∷ []) (u ∷ [])
+        (other_takes all load (record { operands = address all.info m ∷ []; results = t ∷ [] }) (is.is_other m) (is.has_type all.info m)) (next.pushes all)
+
+    load_count : (info : Module) → operand_count info (integer_row load) ≡ 1
+    load_count info = ap (operand_count info) (is.is_other m) ∙ ap count_of (is.has_type info m)
+
+    load_types : (ts : List PrimitiveTypeInfo) → other_types context.info load ts ≡ (if accept (address context.info m ∷ []) ts then Some (t ∷ []) else None)
+    load_types ts = ap (option_and_then (results_on ts)) (is.has_type context.info m)
+
+    pub load_none : (s : State) → HasTypes context s → run (side_code Load side (imm.Mem m)) [] s ≡ Stuck
+    load_none s h =
+        ap (λ o. then_run o (run (conversion_code side.conversion)))
+        (ap (λ (k : ℕ). above (take (0 - k) []) (act (integer_row load) (drop (0 - k) []) s)) (load_count s.world.info)
+        ∙ ap (above []) (stuck_on load [] s h (is.is_other m) (load_types [])))
+
+    -- on one value above others
+    load_steps : (below : List Value) (v : Value) (s : State) →
+        run (side_code Load side (imm.Mem m)) (below ++ v ∷ []) s
+        ≡ then_run (above below (act (integer_row load) (v ∷ []) s)) (run (conversion_code side.conversion))
+    load_steps below v s = ap (λ o. then_run o (run (conversion_code side.conversion))) (step_at (integer_row load) below (v ∷ []) s (load_count s.world.info))
+
+    pub load_other : (below : List Value) (v : Value) (s : State) → HasTypes context s → accept (address context.info m ∷ []) (v.type ∷ []) ≡ false →
+        run (side_code Load side (imm.Mem m)) (below ++ v ∷ []) s ≡ Stuck
+    load_other below v s h e =
+        load_steps below v s
+        ∙ ap (λ o. then_run (above below o) (run (conversion_code side.conversion)))
+        (stuck_on load (v ∷ []) s h (is.is_other m) (load_types (v.type ∷ []) ∙ ap (λ b. if b then Some (t ∷ []) else None) e))
+
+    pub load_runs : (below : List Value) (v : Value) (s : State) (h : HasTypes context s) → IsValue v →
+        accept (address context.info m ∷ []) (v.type ∷ []) ≡ true →
+        run (side_code Load side (imm.Mem m)) (below ++ v ∷ []) s
+        ≡ loaded_by (exact_world s h).memories m l.count u (λ n. f (of_bits t (l.extended n))) below v.number s
+    load_runs below v s h i e =
+        let w = (exact_world s h).memories in
+        let C = run (conversion_code side.conversion) in
+        load_steps below v s
+        ∙ (ap (λ o. then_run (above below o) C)
+        (exactly_acts load (loads m l) (v ∷ []) (t ∷ []) s h (is.is_other m) (is.loads_so m)
+        (load_types (v.type ∷ []) ∙ ap (λ b. if b then Some (t ∷ []) else None) e) (All-cons IsValue v [] i (All-nil IsValue)))
+        ∙ go (nat_le (v.number + m.offset + l.count) (length (w.bytes s.rest m.memory)))
+        (little (take l.count (drop (v.number + m.offset) (w.bytes s.rest m.memory)))) w.outside)
+      where
+        go : (b : Bool) (n outside : ℕ) →
+            then_run (above below (answered (within b (Gives (record { type = t; number = of_bits t (l.extended n) } ∷ []) s.globals s.rest) outside s.globals s.rest) [] s))
+            (run (conversion_code side.conversion))
+            ≡ (if b then Ends (below ++ record { type = u; number = f (of_bits t (l.extended n)) } ∷ []) s else Traps (met outside) s.globals s.rest)
+        go true n outside =
+            let v : Value = record { type = t; number = of_bits t (l.extended n) } in
+            ap (λ o. then_run (above below o) (run (conversion_code side.conversion))) (same_globals (v ∷ []) s)
+            ∙ next.runs below v s h (of_bits_fits t (l.extended n)) refl
+        go false n outside = refl
+
+  -- two loads of as many bytes, with values that are the same of every number of so many bytes
+  module _ (wide : MoreGlobalsCheckAlike) (left right : AccessSide) (k l : Loading) (t r u : PrimitiveTypeInfo) (f g : ℕ → ℕ)
+      (is : IsLoadRow left.row k t) (next : Follows left.conversion t u f) (its : IsLoadRow right.row l r) (behind : Follows right.conversion r u g)
+      (counts : l.count ≡ k.count) (same : (n : ℕ) → n < 256 ^ k.count → f (of_bits t (k.extended n)) ≡ g (of_bits r (l.extended n)))
+      (m : MemArg) (align : ℕ) where
+    abbrev n : MemArg
+    n = record m { align = align }
+
+    got_same : (w : Memories) (below : List Value) (a : ℕ) (s : State) →
+        loaded_by w m k.count u (λ x. f (of_bits t (k.extended x))) below a s ≡ loaded_by w n l.count u (λ x. g (of_bits r (l.extended x))) below a s
+    got_same w below a s =
+        let bytes = w.bytes s.rest m.memory in
+        by_bound (nat_le (a + m.offset + k.count) (length bytes)) refl
+        ∙ ap (λ (c : ℕ). loaded_by w n c u (λ x. g (of_bits r (l.extended x))) below a s) (sym counts)
+      where
+        by_bound : (b : Bool) → nat_le (a + m.offset + k.count) (length (w.bytes s.rest m.memory)) ≡ b →
+            (if b then Ends (below ++ record { type = u; number = f (of_bits t (k.extended (little (take k.count (drop (a + m.offset) (w.bytes s.rest m.memory)))))) } ∷ []) s
+            else Traps (met w.outside) s.globals s.rest)
+            ≡ (if b then Ends (below ++ record { type = u; number = g (of_bits r (l.extended (little (take k.count (drop (a + m.offset) (w.bytes s.rest m.memory)))))) } ∷ []) s
+            else Traps (met w.outside) s.globals s.rest)
+        by_bound true e =
+            ap (λ (x : ℕ). Ends (below ++ record { type = u; number = x } ∷ []) s)
+            (same (little (take k.count (drop (a + m.offset) (w.bytes s.rest m.memory))))
+            (loaded_fits (w.bytes s.rest m.memory) (a + m.offset) k.count (w.are_bytes s.rest m.memory) e))
+        by_bound false e = refl
+
+    loads_alike : (stack : List Value) (s : State) → All IsValue stack → HasTypes context s →
+        run (side_code Load left (imm.Mem m)) stack s ≡ run (side_code Load right (imm.Mem n)) stack s
+    loads_alike stack s hs h = go (cut_last stack)
+      where
+        go : (stack ≡ []) ⊎ ((below : List Value) × (v : Value) × (stack ≡ below ++ v ∷ [])) →
+            run (side_code Load left (imm.Mem m)) stack s ≡ run (side_code Load right (imm.Mem n)) stack s
+        go (inl e) = rw e (load_none left k t u f is next m s h ∙ sym (load_none right l r u g its behind n s h))
+        go (inr (below, v, e)) = rw e (by_type (accept (address context.info m ∷ []) (v.type ∷ [])) refl)
+          where
+            by_type : (b : Bool) → accept (address context.info m ∷ []) (v.type ∷ []) ≡ b →
+                run (side_code Load left (imm.Mem m)) (below ++ v ∷ []) s ≡ run (side_code Load right (imm.Mem n)) (below ++ v ∷ []) s
+            by_type true a =
+                let i : IsValue v = All-head IsValue v [] (both_all IsValue below (v ∷ []) (subst (All IsValue) e hs)).1 in
+                load_runs left k t u f is next m below v s h i a
+                ∙ (got_same (exact_world s h).memories below v.number s ∙ sym (load_runs right l r u g its behind n below v s h i a))
+            by_type false a = load_other left k t u f is next m below v s h a ∙ sym (load_other right l r u g its behind n below v s h a)
+
+    pub loads_stand : StandsWith context [] (side_code Load left (imm.Mem m)) (side_code Load right (imm.Mem n))
+    loads_stand = record {
+      runs = λ more. runs_alike context (side_code Load left (imm.Mem m)) (side_code Load right (imm.Mem n)) (λ stack s hs h q. loads_alike stack s hs h) more;
+      checks = λ input more fr gr e.
+          let all = wider input more context in
+          load_takes right l r u g its behind n all fr
+          ∙ (sym (load_takes left k t u f is next m all fr) ∙ code_wider wide input more context (side_code Load left (imm.Mem m)) fr gr e);
+    }
+
+  -- ---- stores
+
+  -- what becomes of the memory, or a trap
+  abbrev pub stored_by : Memories → MemArg → (count : ℕ) → (below : List Value) → (address number : ℕ) → State → Outcome
+  stored_by w m count below a n s = above below (answered (stored w m.memory (a + m.offset) count n s.globals s.rest) [] s)
+
+  -- What is known of a store, and of what stands before it: of a value of the first type it stores so many bytes of the number that the function gives; where
+  -- that isn't on top, or no address below it, it is stuck.
+  pub record Stores (side : AccessSide) (count : ℕ) (t : PrimitiveTypeInfo) (f : ℕ → ℕ) : Type 0 where
+    pub takes_both : (m : MemArg) (all : Context) → Takes all (side_code Store side (imm.Mem m)) (address all.info m ∷ typed (Some t) ∷ []) []
+    pub on_none : (m : MemArg) (s : State) → HasTypes context s → run (side_code Store side (imm.Mem m)) [] s ≡ Stuck
+    pub on_one : (m : MemArg) (v : Value) (s : State) → HasTypes context s → IsValue v → run (side_code Store side (imm.Mem m)) (v ∷ []) s ≡ Stuck
+    pub on_others : (m : MemArg) (below : List Value) (a v : Value) (s : State) → HasTypes context s → IsValue v →
+        accept (address context.info m ∷ typed (Some t) ∷ []) (a.type ∷ v.type ∷ []) ≡ false →
+        run (side_code Store side (imm.Mem m)) ((below ++ a ∷ []) ++ v ∷ []) s ≡ Stuck
+    pub runs : (m : MemArg) (below : List Value) (a v : Value) (s : State) (h : HasTypes context s) → IsValue a → IsValue v →
+        accept (address context.info m ∷ typed (Some t) ∷ []) (a.type ∷ v.type ∷ []) ≡ true →
+        run (side_code Store side (imm.Mem m)) ((below ++ a ∷ []) ++ v ∷ []) s ≡ stored_by (exact_world s h).memories m count below a.number (f v.number) s
+
+  module _ (row count : ℕ) (u : PrimitiveTypeInfo) (is : IsStoreRow row count u) where
+    abbrev bare : AccessSide
+    bare = record { row = row; conversion = Nothing }
+
+    abbrev store : MemArg → Instruction
+    store m = code_with row (imm.Mem m)
+
+    store_takes : (m : MemArg) (all : Context) → Takes all (store m ∷ []) (address all.info m ∷ typed (Some u) ∷ []) []
+    store_takes m all = other_takes all (store m) (record { operands = address all.info m ∷ typed (Some u) ∷ []; results = [] }) (is.is_other m) (is.has_type all.info m)
+
+    store_count : (m : MemArg) (info : Module) → operand_count info (integer_row (store m)) ≡ 2
+    store_count m info = ap (operand_count info) (is.is_other m) ∙ ap count_of (is.has_type info m)
+
+    store_types : (m : MemArg) (ts : List PrimitiveTypeInfo) →
+        other_types context.info (store m) ts ≡ (if accept (address context.info m ∷ typed (Some u) ∷ []) ts then Some [] else None)
+    store_types m ts = ap (option_and_then (results_on ts)) (is.has_type context.info m)
+
+    -- too few operands
+    store_few : (m : MemArg) (vs : List Value) (s : State) → HasTypes context s → length vs - 2 ≡ 0 →
+        accept (address context.info m ∷ typed (Some u) ∷ []) (types vs) ≡ false → run (store m ∷ []) vs s ≡ Stuck
+    store_few m vs s h few e =
+        run_one (store m) (integer_row (store m)) vs s refl
+        ∙ (ap (λ (k : ℕ). above (take (length vs - k) vs) (act (integer_row (store m)) (drop (length vs - k) vs) s)) (store_count m s.world.info)
+        ∙ (ap (λ (k : ℕ). above (take k vs) (act (integer_row (store m)) (drop k vs) s)) few
+        ∙ ap (above []) (stuck_on (store m) vs s h (is.is_other m) (store_types m (types vs) ∙ ap (λ b. if b then Some [] else None) e))))
+
+    store_steps : (m : MemArg) (below : List Value) (a v : Value) (s : State) →
+        run (store m ∷ []) ((below ++ a ∷ []) ++ v ∷ []) s ≡ above below (act (integer_row (store m)) (a ∷ v ∷ []) s)
+    store_steps m below a v s =
+        run_one (store m) (integer_row (store m)) ((below ++ a ∷ []) ++ v ∷ []) s refl
+        ∙ (ap (λ l. step (integer_row (store m)) l s) (append_assoc below (a ∷ []) (v ∷ []))
+        ∙ step_at (integer_row (store m)) below (a ∷ v ∷ []) s (store_count m s.world.info))
+
+    one_short : (o : Bool) → (o && false) ≡ false
+    one_short true = refl
+    one_short false = refl
+
+    store_none : (m : MemArg) (s : State) → HasTypes context s → run (store m ∷ []) [] s ≡ Stuck
+    store_none m s h = store_few m [] s h refl refl
+
+    store_one : (m : MemArg) (v : Value) (s : State) → HasTypes context s → run (store m ∷ []) (v ∷ []) s ≡ Stuck
+    store_one m v s h = store_few m (v ∷ []) s h refl (one_short (accepts (address context.info m) v.type))
+
+    store_others : (m : MemArg) (below : List Value) (a v : Value) (s : State) → HasTypes context s →
+        accept (address context.info m ∷ typed (Some u) ∷ []) (a.type ∷ v.type ∷ []) ≡ false →
+        run (store m ∷ []) ((below ++ a ∷ []) ++ v ∷ []) s ≡ Stuck
+    store_others m below a v s h e =
+        store_steps m below a v s
+        ∙ ap (above below) (stuck_on (store m) (a ∷ v ∷ []) s h (is.is_other m)
+        (store_types m (a.type ∷ v.type ∷ []) ∙ ap (λ b. if b then Some [] else None) e))
+
+    store_runs : (m : MemArg) (below : List Value) (a v : Value) (s : State) (h : HasTypes context s) → IsValue a → IsValue v →
+        accept (address context.info m ∷ typed (Some u) ∷ []) (a.type ∷ v.type ∷ []) ≡ true →
+        run (store m ∷ []) ((below ++ a ∷ []) ++ v ∷ []) s ≡ stored_by (exact_world s h).memories m count below a.number v.number s
+    store_runs m below a v s h i j e =
+        store_steps m below a v s
+        ∙ ap (above below) (exactly_acts (store m) (stores m count) (a ∷ v ∷ []) [] s h (is.is_other m) (is.stores_so m)
+        (store_types m (a.type ∷ v.type ∷ []) ∙ ap (λ b. if b then Some [] else None) e) (All-cons IsValue a (v ∷ []) i (All-cons IsValue v [] j (All-nil IsValue))))
+
+    pub bare_stores : Stores bare count u (λ n. n)
+    bare_stores = record {
+      takes_both = store_takes;
+      on_none = store_none;
+      on_one = λ m v s h i. store_one m v s h;
+      on_others = λ m below a v s h i e. store_others m below a v s h e;
+      runs = store_runs;
+    }
+
+    -- with a conversion before it
+    module _ (c : Conversion) (t : PrimitiveTypeInfo) (f : ℕ → ℕ) (to : Converts context c t u f) where
+      abbrev code : List Instruction
+      code = conversion_code c
+
+      abbrev made : Value → Value
+      made v = record { type = u; number = f v.number }
+
+      after : (m : MemArg) (stack : List Value) (s : State) (o : Outcome) → run code stack s ≡ o →
+          run (code ++ store m ∷ []) stack s ≡ then_run o (run (store m ∷ []))
+      after m stack s o e = run_append code (store m ∷ []) stack s ∙ ap (λ o. then_run o (run (store m ∷ []))) e
+
+      -- the value is made first, where it has the type
+      on_value : (m : MemArg) (below : List Value) (v : Value) (s : State) → HasTypes context s → IsValue v → same_type t v.type ≡ true →
+          run (code ++ store m ∷ []) (below ++ v ∷ []) s ≡ run (store m ∷ []) (below ++ made v ∷ []) s
+      on_value m below v s h i e = after m (below ++ v ∷ []) s (Ends (below ++ made v ∷ []) s) (to.runs below v s h i (sym (same_type_is t v.type e)))
+
+      not_value : (m : MemArg) (below : List Value) (v : Value) (s : State) → same_type t v.type ≡ false → run (code ++ store m ∷ []) (below ++ v ∷ []) s ≡ Stuck
+      not_value m below v s e = after m (below ++ v ∷ []) s Stuck (to.on_other below v s (same_turned v.type t ∙ e))
+
+      fits_now : (v : Value) → IsValue v → same_type t v.type ≡ true → IsValue (made v)
+      fits_now v i e = to.fits v.number (subst (λ (w : PrimitiveTypeInfo). IsOfType w v.number) (sym (same_type_is t v.type e)) i)
+
+      pub conversion_stores : Stores (record { row = row; conversion = c }) count t f
+      conversion_stores = record {
+        takes_both = λ m all. taken_through all (store m ∷ []) (address all.info m ∷ []) u [] (store_takes m all) code t (to.takes_one all);
+        on_none = λ m s h. after m [] s Stuck (to.on_none s);
+        on_one = λ m v s h i. one m v s h i (same_type t v.type) refl;
+        on_others = λ m below a v s h i e. others m below a v s h i (same_type t v.type) refl e;
+        runs = λ m below a v s h i j e. both m below a v s h i j (same_type t v.type) refl e;
+      }
+        where
+          one : (m : MemArg) (v : Value) (s : State) → HasTypes context s → IsValue v → (b : Bool) → same_type t v.type ≡ b →
+              run (code ++ store m ∷ []) (v ∷ []) s ≡ Stuck
+          one m v s h i true e = on_value m [] v s h i e ∙ store_one m (made v) s h
+          one m v s h i false e = not_value m [] v s e
+
+          others : (m : MemArg) (below : List Value) (a v : Value) (s : State) → HasTypes context s → IsValue v → (b : Bool) → same_type t v.type ≡ b →
+              accept (address context.info m ∷ typed (Some t) ∷ []) (a.type ∷ v.type ∷ []) ≡ false →
+              run (code ++ store m ∷ []) ((below ++ a ∷ []) ++ v ∷ []) s ≡ Stuck
+          others m below a v s h i true k e =
+              on_value m (below ++ a ∷ []) v s h i k
+              ∙ store_others m below a (made v) s h
+              (ap (λ b. accepts (address context.info m) a.type && (b && true)) (same_type_self u ∙ sym k) ∙ e)
+          others m below a v s h i false k e = not_value m (below ++ a ∷ []) v s k
+
+          both : (m : MemArg) (below : List Value) (a v : Value) (s : State) (h : HasTypes context s) → IsValue a → IsValue v → (b : Bool) → same_type t v.type ≡ b →
+              accept (address context.info m ∷ typed (Some t) ∷ []) (a.type ∷ v.type ∷ []) ≡ true →
+              run (code ++ store m ∷ []) ((below ++ a ∷ []) ++ v ∷ []) s ≡ stored_by (exact_world s h).memories m count below a.number (f v.number) s
+          both m below a v s h i j true k e =
+              on_value m (below ++ a ∷ []) v s h j k
+              ∙ store_runs m below a (made v) s h i (fits_now v j k)
+              (ap (λ b. accepts (address context.info m) a.type && (b && true)) (same_type_self u ∙ sym k) ∙ e)
+          both m below a v s h i j false k e =
+              absurd (true≢false (sym e ∙ (ap (λ b. accepts (address context.info m) a.type && (b && true)) k ∙ one_short (accepts (address context.info m) a.type))))
+
+  -- two stores of the same bytes
+  module _ (wide : MoreGlobalsCheckAlike) (left right : AccessSide) (count : ℕ) (t : PrimitiveTypeInfo) (f g : ℕ → ℕ)
+      (is : Stores left count t f) (its : Stores right count t g)
+      (same : (n : ℕ) → IsOfType t n → bytes_of count (f n) ≡ bytes_of count (g n)) (m : MemArg) (align : ℕ) where
+    abbrev written : MemArg
+    written = record m { align = align }
+
+    stored_same : (w : Memories) (below : List Value) (a n : ℕ) (s : State) → IsOfType t n →
+        stored_by w m count below a (f n) s ≡ stored_by w written count below a (g n) s
+    stored_same w below a n s h =
+        ap (λ (bs : List ℕ). above below (answered (within (nat_le (a + m.offset + count) (length (w.bytes s.rest m.memory)))
+        (Gives [] s.globals (w.with_bytes s.rest m.memory (put_at (a + m.offset) bs (w.bytes s.rest m.memory)))) w.outside s.globals s.rest) [] s)) (same n h)
+
+    stores_alike : (stack : List Value) (s : State) → All IsValue stack → HasTypes context s →
+        run (side_code Store left (imm.Mem m)) stack s ≡ run (side_code Store right (imm.Mem written)) stack s
+    stores_alike stack s hs h = go (cut_last stack)
+      where
+        by_types : (below : List Value) (a v : Value) → IsValue a → IsValue v → (b : Bool) →
+            accept (address context.info m ∷ typed (Some t) ∷ []) (a.type ∷ v.type ∷ []) ≡ b →
+            run (side_code Store left (imm.Mem m)) ((below ++ a ∷ []) ++ v ∷ []) s ≡ run (side_code Store right (imm.Mem written)) ((below ++ a ∷ []) ++ v ∷ []) s
+        by_types below a v i j true e =
+            let fits : IsOfType t v.number = subst (λ (w : PrimitiveTypeInfo). IsOfType w v.number) (sym (of_type e)) j in
+            is.runs m below a v s h i j e
+            ∙ (stored_same (exact_world s h).memories below a.number v.number s fits ∙ sym (its.runs written below a v s h i j e))
+          where
+            of_type : accept (address context.info m ∷ typed (Some t) ∷ []) (a.type ∷ v.type ∷ []) ≡ true → t ≡ v.type
+            of_type e = same_type_is t v.type (and_parts (same_type t v.type) true (and_parts (accepts (address context.info m) a.type) (same_type t v.type && true) e).1).0
+        by_types below a v i j false e = is.on_others m below a v s h j e ∙ sym (its.on_others written below a v s h j e)
+
+        next : (ys : List Value) (v : Value) → IsValue v → All IsValue ys → (ys ≡ []) ⊎ ((below : List Value) × (a : Value) × (ys ≡ below ++ a ∷ [])) →
+            run (side_code Store left (imm.Mem m)) (ys ++ v ∷ []) s ≡ run (side_code Store right (imm.Mem written)) (ys ++ v ∷ []) s
+        next ys v j hy (inl e) = rw e (is.on_one m v s h j ∙ sym (its.on_one written v s h j))
+        next ys v j hy (inr (below, a, e)) =
+            let i : IsValue a = All-head IsValue a [] (both_all IsValue below (a ∷ []) (subst (All IsValue) e hy)).1 in
+            rw e (by_types below a v i j (accept (address context.info m ∷ typed (Some t) ∷ []) (a.type ∷ v.type ∷ [])) refl)
+
+        go : (stack ≡ []) ⊎ ((ys : List Value) × (v : Value) × (stack ≡ ys ++ v ∷ [])) →
+            run (side_code Store left (imm.Mem m)) stack s ≡ run (side_code Store right (imm.Mem written)) stack s
+        go (inl e) = rw e (is.on_none m s h ∙ sym (its.on_none written s h))
+        go (inr (ys, v, e)) =
+            let parts = both_all IsValue ys (v ∷ []) (subst (All IsValue) e hs) in
+            rw e (next ys v (All-head IsValue v [] parts.1) parts.0 (cut_last ys))
+
+    pub stores_stand : StandsWith context [] (side_code Store left (imm.Mem m)) (side_code Store right (imm.Mem written))
+    stores_stand = record {
+      runs = λ more. runs_alike context (side_code Store left (imm.Mem m)) (side_code Store right (imm.Mem written)) (λ stack s hs h q. stores_alike stack s hs h) more;
+      checks = λ input more fr gr e.
+          let all = wider input more context in
+          its.takes_both written all fr ∙ (sym (is.takes_both m all fr) ∙ code_wider wide input more context (side_code Store left (imm.Mem m)) fr gr e);
+    }
