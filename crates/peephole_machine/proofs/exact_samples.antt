@@ -7,3 +7,7 @@ pub mod NarrowSamples
 pub mod WideSamples
 pub mod LaneSamples
 pub mod MemorySamples
+pub mod ConversionSamples
+pub mod SaturationSamples
+pub mod FloatLaneSamples
+pub mod LaneConversionSamples

@@ -9,13 +9,13 @@ use Rattle.wasm_code.specs.declared.immediate.Imm.{Imm}
 use Rattle.wasm_code.specs.declared.immediate.Imm.TheVariants as imm
 use Rattle.wasm_code.specs.declared.immediate.MemArg.{MemArg}
 use Rattle.wasm_code.specs.declared.table.Opcode.{Opcode}
-use Rattle.wasm_code.specs.declared.table.Opcode.TheVariants.{Byte, Fd}
+use Rattle.wasm_code.specs.declared.table.Opcode.TheVariants.{Byte, Fc, Fd}
 use Rattle.wasm_code.specs.Instruction.{Instruction}
 use Rattle.wasm_code.specs.Table.{row_at, opcode_in}
 use Rattle.wasm_types.specs.Module.{Module}
 use Rattle.wasm_types.specs.declared.types.PrimitiveTypeInfo.{PrimitiveTypeInfo}
 use Rattle.wasm_types.specs.declared.types.PrimitiveTypeInfo.TheVariants as primitive
-use Rattle.peephole_machine.specs.ExactRow.{Loading, ExactRow, computes, loads, stores, find, byte_values, vector_values, lane_values, byte_loads, byte_stores, vector_loads, vector_stores, accessing, exact_by, exact_row}
+use Rattle.peephole_machine.specs.ExactRow.{Loading, ExactRow, computes, loads, stores, find, byte_values, saturating_values, vector_values, lane_values, byte_loads, byte_stores, vector_loads, vector_stores, accessing, exact_by, exact_row}
 use Rattle.peephole_machine.specs.OtherRow.{opcode_changes, opcode_fails, changes, may_trap}
 use Rattle.peephole_machine.specs.Values.{Value, IsValue, IsOfType, of_bits, types, Gives, Fails, met, IsAnswer, Memories, numbered, within, exactly}
 
@@ -105,6 +105,7 @@ allowed_by (Some (Byte byte)) (imm.Mem m) row e =
     accesses_allowed (Some (Byte byte)) m (find byte_loads byte) (find byte_stores byte) row
     (λ l f. found_is (λ b. opcode_fails (Some (Byte b))) byte_loads byte l refl f)
     (λ n f. found_is (λ b. opcode_changes (Some (Byte b))) byte_stores byte n refl f) e
+allowed_by (Some (Fc n)) imm.Nothing row e = computes_allowed (Some (Fc n)) (find saturating_values n) row e
 allowed_by (Some (Fd n)) imm.Nothing row e = computes_allowed (Some (Fd n)) (find vector_values n) row e
 allowed_by (Some (Fd n)) (imm.V128 z) row e = computing (Some (Fd n)) (n == 12) _ row e
 allowed_by (Some (Fd n)) (imm.Shuffle lanes) row e = computing (Some (Fd n)) (n == 13) _ row e

@@ -91,6 +91,10 @@ shuffled [] n m = 0
 shuffled (k ∷ ks) n m =
     shuffled ks n m * 256 + (if nat_lt k 16 then n / 256 ^ k % 256 else m / 256 ^ (k - 16) % 256)
 
+-- each byte of the second vector picks a byte of the first one, and 0 where it is beyond them (i8x16.swizzle)
+abbrev pub swizzled : ℕ → ℕ → ℕ
+swizzled n m = each_lane 8 (λ k. if nat_lt k 16 then n / 256 ^ k % 256 else 0) 16 m
+
 -- all bits of a lane, or none
 abbrev pub mask : Width → Bool → ℕ
 mask w b = if b then 2 ^ bits w - 1 else 0

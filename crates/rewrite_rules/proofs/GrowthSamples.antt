@@ -54,7 +54,12 @@ shrinking =
     codes "shift_to_wide_sign_test" ∷ codes "difference_to_sign" ∷
     codes "drop_clz_of_test" ∷
     codes "shift_to_half" ∷
-    codes "shift_to_power_test" ∷ codes "negated_sign_test_to_sign" ∷ codes "sign_test_to_half" ∷ codes "drop_extension_in_remainder" ∷ []
+    codes "shift_to_power_test" ∷ codes "negated_sign_test_to_sign" ∷ codes "sign_test_to_half" ∷ codes "drop_extension_in_remainder" ∷
+    codes "drop_complement_of_float_lanes" ∷ codes "choice_to_pseudo_bound" ∷ codes "bound_to_saturated_difference" ∷
+    codes "bound_to_saturated_sum" ∷ codes "drop_bound_of_rounded_product" ∷ codes "drop_mask_of_lane_shift_count" ∷
+    codes "drop_bound_of_narrowed_lanes" ∷ codes "truncate_one_lane" ∷ codes "convert_one_lane" ∷ codes "drop_widening_of_converted" ∷
+    codes "drop_magnitude_of_converted" ∷ codes "bits_to_replace_float_lane" ∷ codes "float_to_replace_lane" ∷
+    codes "drop_mask_of_replaced_lane" ∷ codes "drop_bound_of_swizzle" ∷ []
 
 keeping : List (List ℕ)
 keeping =
@@ -70,7 +75,7 @@ keeping =
     codes "wrap_before_extension" ∷ codes "wrap_behind_extension" ∷ codes "widen_before_extension" ∷ codes "widen_behind_extension" ∷
     codes "sign_test_to_shift" ∷ codes "shift_to_sign_test" ∷ codes "above_zero_to_unequal" ∷ codes "unequal_to_above_zero" ∷
     codes "power_test_to_previous" ∷
-    codes "previous_to_power_test" ∷ []
+    codes "previous_to_power_test" ∷ codes "turn_float_lane_test" ∷ codes "commute_saturated_lanes" ∷ []
 
 -- and all others grow
 growth : List ℕ → Growth

@@ -28,7 +28,17 @@ pub mod LaneMoveIdentities
 pub mod RowLemmas
 pub mod VectorRows
 pub mod LaneTestRows
+pub mod FloatLaneIdentities
+pub mod FloatLaneRows
+pub mod RoundedProductNumbers
+pub mod SaturationIdentities
+pub mod SaturationRows
 pub mod LaneMoveRows
+pub mod LaneCountIdentities
+pub mod SwizzleIdentities
+pub mod LaneConversionIdentities
+pub mod NarrowingIdentities
+pub mod ConversionIdentities
 pub mod ExtensionIdentities
 pub mod ExtensionRows
 pub mod SignTestIdentities

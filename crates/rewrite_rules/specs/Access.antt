@@ -1,5 +1,5 @@
 -- Instructions with an immediate as other ones: loads and stores as those of as many bytes, with an operator behind the load or before the store, and
--- constants of floats and vectors by their bits
+-- constants of floats by their bits, and of vectors by their complements
 -- (WebAssembly Core Specification 3.0, Validation, Memory Instructions, and Execution, Memory Instructions and Numeric Instructions; which these are: this
 -- project).
 use Rattle.std.specs.Prelude.{◌≡◌, ◌==◌, ℕ, ◌≤◌, nat_lt, bit_xor, Bool, true, false, List, [], ◌∷◌, ◌++◌, ⊤, Option, Some, None, option_map, slice_get, if◌then◌else◌}
@@ -106,7 +106,7 @@ access_growth a =
 
 -- ---- what is written is well formed
 
--- The natural alignment of a load or a store, by its row, as the exponent of how many bytes it reads or writes.
+-- The natural alignment of each load or store that is in an access, by its row, as the exponent of how many bytes it reads or writes.
 abbrev pub natural_alignments : List (ℕ × ℕ)
 natural_alignments =
     (11, 2) ∷ (12, 3) ∷ (13, 2) ∷ (14, 3) ∷ (15, 0) ∷ (16, 0) ∷ (17, 1) ∷ (18, 1) ∷ (19, 0) ∷ (20, 0) ∷ (21, 1) ∷ (22, 1) ∷ (23, 2) ∷ (24, 2)

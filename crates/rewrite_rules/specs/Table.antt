@@ -30,6 +30,8 @@ use Rattle.rewrite_rules.specs.declared.table.TheConstants.{LANE_BOUNDS, LANE_RE
 use Rattle.rewrite_rules.specs.declared.table.TheConstants.{ACCESS_BITS, ACCESS_WIDTHS, LOAD_SIGNS, STORE_SIGNS, ALIGNMENTS, CONSTANTS}
 use Rattle.rewrite_rules.specs.declared.table.TheConstants.{LANE_SPLATS, LANE_BITS, SPLAT_BITS, SIGNED_LANES, EXTENDED_LANES, VECTOR_DECIDED}
 use Rattle.rewrite_rules.specs.declared.table.TheConstants.{EXTENSIONS, EXTENSION_MASKS, EXTENSION_MOVES, SIGN_TESTS, POWER_TESTS, ZERO_COUNTS, HALVES, UNDONE}
+use Rattle.rewrite_rules.specs.declared.table.TheConstants.{FLOAT_LANE_ORDERS, FLOAT_LANE_OPPOSITES, FLOAT_LANE_CHOICES, SATURATED_LANES, LANE_COUNTS, NARROWED_LANES}
+use Rattle.rewrite_rules.specs.declared.table.TheConstants.{LANE_CONVERSIONS, CONVERSIONS, REPLACED_BITS, MASKED_LANES, UNMASKED_LANES, SWIZZLES, WIDE_ACCESSES}
 use Rattle.rewrite_rules.specs.Pattern.{Kind, fixed, any, operands_of, Pattern, Patterns, hole, constant, drawn, apply, none, ◌▹◌}
 use Rattle.rewrite_rules.specs.Instance.{row_number, immediate_of}
 use Rattle.rewrite_rules.specs.Parts.{parts_of}
@@ -187,7 +189,9 @@ parts =
     LANE_BOUNDS ∷ LANE_REPEATS ∷ LANE_CHOICES ∷ LANE_SHIFTS ∷ LANE_TURNS ∷ LANE_FLOATS ∷
     LANE_SPLATS ∷ LANE_BITS ∷ SPLAT_BITS ∷ SIGNED_LANES ∷ EXTENDED_LANES ∷ VECTOR_DECIDED ∷
     ACCESS_BITS ∷ ACCESS_WIDTHS ∷ LOAD_SIGNS ∷ STORE_SIGNS ∷ ALIGNMENTS ∷ CONSTANTS ∷
-    EXTENSIONS ∷ EXTENSION_MASKS ∷ EXTENSION_MOVES ∷ SIGN_TESTS ∷ POWER_TESTS ∷ ZERO_COUNTS ∷ HALVES ∷ UNDONE ∷ []
+    EXTENSIONS ∷ EXTENSION_MASKS ∷ EXTENSION_MOVES ∷ SIGN_TESTS ∷ POWER_TESTS ∷ ZERO_COUNTS ∷ HALVES ∷ UNDONE ∷
+    FLOAT_LANE_ORDERS ∷ FLOAT_LANE_OPPOSITES ∷ FLOAT_LANE_CHOICES ∷ SATURATED_LANES ∷ LANE_COUNTS ∷ NARROWED_LANES ∷
+    LANE_CONVERSIONS ∷ CONVERSIONS ∷ REPLACED_BITS ∷ MASKED_LANES ∷ UNMASKED_LANES ∷ SWIZZLES ∷ WIDE_ACCESSES ∷ []
 
 abbrev pub part_at : ℕ → List Entry
 part_at n = get_or parts n []

@@ -1,5 +1,5 @@
 //! Instructions with an immediate as other ones: loads and stores as those of as many bytes, with an operator behind the load or before
-//! the store, and constants of floats and vectors by their bits.
+//! the store, constants of floats by their bits, and of vectors by their complements.
 //!
 //! Loads and stores keep their memory and their offset; the alignment may be another one.
 
@@ -99,7 +99,7 @@ macro_rules! row {
     ((v128.load64_zero)) => { 282 };
 }
 
-// A conversion: an operator by its name, or a constant and an `and`.
+// A conversion: an operator by its name, or a constant and an operator.
 macro_rules! conversion {
     ((i32.reinterpret_f32)) => { Conversion::By(Operator::Exact(159, None)) };
     ((i64.reinterpret_f64)) => { Conversion::By(Operator::Exact(160, None)) };
@@ -110,6 +110,7 @@ macro_rules! conversion {
     ((i32x4.splat)) => { Conversion::By(Operator::Exact(206, None)) };
     ((i64x2.splat)) => { Conversion::By(Operator::Exact(207, None)) };
     ((v128.not)) => { Conversion::By(Operator::Exact(266, None)) };
+    (($n:literal i64x2.replace_lane 1)) => { Conversion::With(IntegerType::I64, $n, Operator::Exact(219, Some(1))) };
     ((i32.wrap_i64)) => { Conversion::By(Operator::Whole(Operation::WrapI64)) };
     ((i64.extend_i32_s)) => { Conversion::By(Operator::Whole(Operation::ExtendI32S)) };
     ((i64.extend_i32_u)) => { Conversion::By(Operator::Whole(Operation::ExtendI32U)) };
@@ -169,7 +170,7 @@ macro_rules! align {
 }
 
 /// All of them; rules name them by their numbers.
-pub const ACCESSES: [AccessLine; 136] = [
+pub const ACCESSES: [AccessLine; 144] = [
     // Floats by their bits.
     load!((f32.load) => (i32.load) (f32.reinterpret_i32)),
     load!((f64.load) => (i64.load) (f64.reinterpret_i64)),
@@ -187,7 +188,7 @@ pub const ACCESSES: [AccessLine; 136] = [
     store!((i64.store) => (f64.reinterpret_i64) (f64.store)),
     store!((f32.reinterpret_i32) (f32.store) => (i32.store)),
     store!((f64.reinterpret_i64) (f64.store) => (i64.store)),
-    // Loads and stores of i64 by those of i32, and of vectors by those of integers.
+    // Loads and stores of i64 by those of i32, and loads of vectors by those of integers.
     load!((i64.load8_u) => (i32.load8_u) (i64.extend_i32_u)),
     load!((i64.load16_u) => (i32.load16_u) (i64.extend_i32_u)),
     load!((i64.load32_u) => (i32.load) (i64.extend_i32_u)),
@@ -312,10 +313,19 @@ pub const ACCESSES: [AccessLine; 136] = [
     constant!((i64.const) (f64.reinterpret_i64) => (f64.const)),
     constant!((v128.const) => (v128.const) (v128.not)),
     constant!((v128.const) (v128.not) => (v128.const)),
+    // Stores of i32 by those of i64, and loads with zeros by those into each lane.
+    store!((i32.store8) => (i64.extend_i32_u) (i64.store8)),
+    store!((i32.store16) => (i64.extend_i32_u) (i64.store16)),
+    store!((i32.store) => (i64.extend_i32_u) (i64.store32)),
+    store!((i64.extend_i32_u) (i64.store8) => (i32.store8)),
+    store!((i64.extend_i32_u) (i64.store16) => (i32.store16)),
+    store!((i64.extend_i32_u) (i64.store32) => (i32.store)),
+    load!((v128.load64_zero) => (v128.load64_splat) (0 i64x2.replace_lane 1)),
+    load!((v128.load64_splat) (0 i64x2.replace_lane 1) => (v128.load64_zero)),
 ];
 
 // They stand once in memory.
-static ACCESS_LINES: [AccessLine; 136] = ACCESSES;
+static ACCESS_LINES: [AccessLine; 144] = ACCESSES;
 
 // The access with that number among these.
 fn access_among(lines: &[AccessLine], number: usize) -> Option<Access>

@@ -5,15 +5,17 @@ ghost use Rattle.rewrite_rules.specs.Lines.{shown, shown_at};
 ghost use Rattle.rewrite_rules.specs.Names.{begin_at};
 
 use crate::table::{
-    ABSORBED, ACCESS_BITS, ACCESS_WIDTHS, AGAIN, ALIGNMENTS, ALONE, BACK, CONSTANTS, COUNTED,
-    EQUALS, EXTENDED_LANES, EXTENSION_MASKS, EXTENSION_MOVES, EXTENSIONS, FLOAT_BITS, FLOAT_COPIES,
-    FLOAT_ORDERS, FLOAT_SELVES, FLOAT_SIGNS, FLOAT_TESTS, FLOAT_TURNS, FLOATS, FORMS, FRONT,
-    GROUPS, HALVES, LANE_BITS, LANE_BOUNDS, LANE_CHOICES, LANE_COMPLEMENTS, LANE_FLOATS,
-    LANE_MAGNITUDES, LANE_NEGATIVES, LANE_OPPOSITES, LANE_ORDERS, LANE_REPEATS, LANE_SHIFTS,
-    LANE_SPLATS, LANE_SUMS, LANE_TURNS, LANE_ZEROS, LOAD_SIGNS, LONGER, NEUTRAL, OPPOSITES, ORDERS,
-    PARTS, POWER_TESTS, POWERS, Row, SETTLED, SHORTER, SIGN_TESTS, SIGNED_LANES, SIGNS, SPLAT_BITS,
-    STORE_SIGNS, TESTS, TURNED, TWICE, TableLine, UNDONE, VECTOR_BITS, VECTOR_DECIDED,
-    VECTOR_FORMS, WIDE_COMPLEMENTS, WIDE_OPPOSITES, WIDE_ORDERS, ZERO_COUNTS,
+    ABSORBED, ACCESS_BITS, ACCESS_WIDTHS, AGAIN, ALIGNMENTS, ALONE, BACK, CONSTANTS, CONVERSIONS,
+    COUNTED, EQUALS, EXTENDED_LANES, EXTENSION_MASKS, EXTENSION_MOVES, EXTENSIONS, FLOAT_BITS,
+    FLOAT_COPIES, FLOAT_LANE_CHOICES, FLOAT_LANE_OPPOSITES, FLOAT_LANE_ORDERS, FLOAT_ORDERS,
+    FLOAT_SELVES, FLOAT_SIGNS, FLOAT_TESTS, FLOAT_TURNS, FLOATS, FORMS, FRONT, GROUPS, HALVES,
+    LANE_BITS, LANE_BOUNDS, LANE_CHOICES, LANE_COMPLEMENTS, LANE_CONVERSIONS, LANE_COUNTS,
+    LANE_FLOATS, LANE_MAGNITUDES, LANE_NEGATIVES, LANE_OPPOSITES, LANE_ORDERS, LANE_REPEATS,
+    LANE_SHIFTS, LANE_SPLATS, LANE_SUMS, LANE_TURNS, LANE_ZEROS, LOAD_SIGNS, LONGER, MASKED_LANES,
+    NARROWED_LANES, NEUTRAL, OPPOSITES, ORDERS, PARTS, POWER_TESTS, POWERS, REPLACED_BITS, Row,
+    SATURATED_LANES, SETTLED, SHORTER, SIGN_TESTS, SIGNED_LANES, SIGNS, SPLAT_BITS, STORE_SIGNS,
+    SWIZZLES, TESTS, TURNED, TWICE, TableLine, UNDONE, UNMASKED_LANES, VECTOR_BITS, VECTOR_DECIDED,
+    VECTOR_FORMS, WIDE_ACCESSES, WIDE_COMPLEMENTS, WIDE_OPPOSITES, WIDE_ORDERS, ZERO_COUNTS,
 };
 
 // The lines of each constant, each of which stands once in memory.
@@ -150,6 +152,32 @@ static ZERO_COUNTS_LINES: [TableLine; ZERO_COUNTS.len()] = ZERO_COUNTS;
 static HALVES_LINES: [TableLine; HALVES.len()] = HALVES;
 
 static UNDONE_LINES: [TableLine; UNDONE.len()] = UNDONE;
+
+static FLOAT_LANE_ORDERS_LINES: [TableLine; FLOAT_LANE_ORDERS.len()] = FLOAT_LANE_ORDERS;
+
+static FLOAT_LANE_OPPOSITES_LINES: [TableLine; FLOAT_LANE_OPPOSITES.len()] = FLOAT_LANE_OPPOSITES;
+
+static FLOAT_LANE_CHOICES_LINES: [TableLine; FLOAT_LANE_CHOICES.len()] = FLOAT_LANE_CHOICES;
+
+static SATURATED_LANES_LINES: [TableLine; SATURATED_LANES.len()] = SATURATED_LANES;
+
+static LANE_COUNTS_LINES: [TableLine; LANE_COUNTS.len()] = LANE_COUNTS;
+
+static NARROWED_LANES_LINES: [TableLine; NARROWED_LANES.len()] = NARROWED_LANES;
+
+static LANE_CONVERSIONS_LINES: [TableLine; LANE_CONVERSIONS.len()] = LANE_CONVERSIONS;
+
+static CONVERSIONS_LINES: [TableLine; CONVERSIONS.len()] = CONVERSIONS;
+
+static REPLACED_BITS_LINES: [TableLine; REPLACED_BITS.len()] = REPLACED_BITS;
+
+static MASKED_LANES_LINES: [TableLine; MASKED_LANES.len()] = MASKED_LANES;
+
+static UNMASKED_LANES_LINES: [TableLine; UNMASKED_LANES.len()] = UNMASKED_LANES;
+
+static SWIZZLES_LINES: [TableLine; SWIZZLES.len()] = SWIZZLES;
+
+static WIDE_ACCESSES_LINES: [TableLine; WIDE_ACCESSES.len()] = WIDE_ACCESSES;
 
 // The line with that number among these.
 fn line_in(lines: &'static [TableLine], number: usize) -> Option<&'static TableLine>
@@ -561,6 +589,84 @@ fn in_undone(number: usize) -> Option<&'static TableLine>
     line_in(&UNDONE_LINES, number)
 }
 
+fn in_float_lane_orders(number: usize) -> Option<&'static TableLine>
+    ensures { shown_at result ≡ slice_get FLOAT_LANE_ORDERS number }
+{
+    line_in(&FLOAT_LANE_ORDERS_LINES, number)
+}
+
+fn in_float_lane_opposites(number: usize) -> Option<&'static TableLine>
+    ensures { shown_at result ≡ slice_get FLOAT_LANE_OPPOSITES number }
+{
+    line_in(&FLOAT_LANE_OPPOSITES_LINES, number)
+}
+
+fn in_float_lane_choices(number: usize) -> Option<&'static TableLine>
+    ensures { shown_at result ≡ slice_get FLOAT_LANE_CHOICES number }
+{
+    line_in(&FLOAT_LANE_CHOICES_LINES, number)
+}
+
+fn in_saturated_lanes(number: usize) -> Option<&'static TableLine>
+    ensures { shown_at result ≡ slice_get SATURATED_LANES number }
+{
+    line_in(&SATURATED_LANES_LINES, number)
+}
+
+fn in_lane_counts(number: usize) -> Option<&'static TableLine>
+    ensures { shown_at result ≡ slice_get LANE_COUNTS number }
+{
+    line_in(&LANE_COUNTS_LINES, number)
+}
+
+fn in_narrowed_lanes(number: usize) -> Option<&'static TableLine>
+    ensures { shown_at result ≡ slice_get NARROWED_LANES number }
+{
+    line_in(&NARROWED_LANES_LINES, number)
+}
+
+fn in_lane_conversions(number: usize) -> Option<&'static TableLine>
+    ensures { shown_at result ≡ slice_get LANE_CONVERSIONS number }
+{
+    line_in(&LANE_CONVERSIONS_LINES, number)
+}
+
+fn in_conversions(number: usize) -> Option<&'static TableLine>
+    ensures { shown_at result ≡ slice_get CONVERSIONS number }
+{
+    line_in(&CONVERSIONS_LINES, number)
+}
+
+fn in_replaced_bits(number: usize) -> Option<&'static TableLine>
+    ensures { shown_at result ≡ slice_get REPLACED_BITS number }
+{
+    line_in(&REPLACED_BITS_LINES, number)
+}
+
+fn in_masked_lanes(number: usize) -> Option<&'static TableLine>
+    ensures { shown_at result ≡ slice_get MASKED_LANES number }
+{
+    line_in(&MASKED_LANES_LINES, number)
+}
+
+fn in_unmasked_lanes(number: usize) -> Option<&'static TableLine>
+    ensures { shown_at result ≡ slice_get UNMASKED_LANES number }
+{
+    line_in(&UNMASKED_LANES_LINES, number)
+}
+
+fn in_swizzles(number: usize) -> Option<&'static TableLine>
+    ensures { shown_at result ≡ slice_get SWIZZLES number }
+{
+    line_in(&SWIZZLES_LINES, number)
+}
+
+fn in_wide_accesses(number: usize) -> Option<&'static TableLine>
+    ensures { shown_at result ≡ slice_get WIDE_ACCESSES number }
+{
+    line_in(&WIDE_ACCESSES_LINES, number)
+}
+
 // The same, by the number of the constant.
 fn line_of(part: usize, number: usize) -> Option<&'static TableLine>
     ensures { shown_at result ≡ slice_get (part_at part) number }
@@ -633,15 +739,29 @@ fn line_of(part: usize, number: usize) -> Option<&'static TableLine>
         64 => in_zero_counts(number),
         65 => in_halves(number),
         66 => in_undone(number),
+        67 => in_float_lane_orders(number),
+        68 => in_float_lane_opposites(number),
+        69 => in_float_lane_choices(number),
+        70 => in_saturated_lanes(number),
+        71 => in_lane_counts(number),
+        72 => in_narrowed_lanes(number),
+        73 => in_lane_conversions(number),
+        74 => in_conversions(number),
+        75 => in_replaced_bits(number),
+        76 => in_masked_lanes(number),
+        77 => in_unmasked_lanes(number),
+        78 => in_swizzles(number),
+        79 => in_wide_accesses(number),
         _ => None,
     }
 }
 
 // How many lines each constant has.
-const COUNTS: [usize; 67] = [
+const COUNTS: [usize; 80] = [
     15, 10, 10, 11, 16, 8, 7, 6, 12, 10, 15, 6, 11, 11, 17, 16, 15, 16, 4, 14, 19, 20, 20, 18, 12,
     20, 12, 24, 12, 19, 18, 21, 24, 20, 16, 20, 16, 20, 16, 20, 16, 12, 24, 24, 24, 24, 20, 24, 24,
-    20, 24, 24, 14, 16, 26, 20, 20, 48, 6, 25, 20, 8, 10, 4, 6, 4, 10,
+    20, 24, 24, 14, 16, 26, 20, 20, 48, 6, 25, 20, 8, 10, 4, 6, 4, 10, 12, 8, 8, 18, 24, 8, 16, 20,
+    24, 24, 24, 2, 8,
 ];
 
 // The line with that number in the table.
@@ -679,7 +799,7 @@ pub(crate) fn name_at(number: usize) -> Option<&'static str>
 }
 
 // How many lines there are.
-const LINE_COUNT: usize = 1094;
+const LINE_COUNT: usize = 1290;
 
 /// How many rows there are.
 pub fn row_count() -> usize

@@ -1,7 +1,7 @@
 //! The rules as data: a row says how code is rewritten, its sides in postfix, operands before their operator.
 //!
 //! A rule has the lines from the one that has its name up to the next name. A new one is lines here and, in `proofs/identities/`, a lemma
-//! on numbers for each.
+//! on numbers for each. An access is a line here too, and what it writes stands in `access.rt`.
 
 ghost use Rattle.std.specs.Prelude.{◌≡◌};
 ghost use Rattle.rewrite_rules.specs.Table.{part_for, width_by};
@@ -84,7 +84,7 @@ pub fn width_by(t: PrimitiveTypeInfo) -> IntegerType
     }
 }
 
-/// A rule that stands beside the table: it is no row, since what it asks of numbers, or what it writes, is none of a row's.
+/// A rule that stands beside the table, or a line of one: it is no row, since what it asks of numbers, or what it writes, is none of a row's.
 #[derive(Clone, Copy, Debug, PartialEq, Eq)]
 pub enum Own {
     /// A constant as the sum of a drawn number and of what is left.
@@ -221,24 +221,43 @@ macro_rules! step {
     ((f64.abs)) => { Step::Exact(124, None) };
     ((f64.neg)) => { Step::Exact(125, None) };
     ((f64.copysign)) => { Step::Exact(137, None) };
+    ((f32.convert_i32_s)) => { Step::Exact(149, None) };
+    ((f32.convert_i32_u)) => { Step::Exact(150, None) };
+    ((f32.convert_i64_s)) => { Step::Exact(151, None) };
+    ((f32.convert_i64_u)) => { Step::Exact(152, None) };
+    ((f64.convert_i32_s)) => { Step::Exact(154, None) };
+    ((f64.convert_i32_u)) => { Step::Exact(155, None) };
+    ((f64.convert_i64_s)) => { Step::Exact(156, None) };
+    ((f64.convert_i64_u)) => { Step::Exact(157, None) };
     ((i32.reinterpret_f32)) => { Step::Exact(159, None) };
     ((i64.reinterpret_f64)) => { Step::Exact(160, None) };
     ((f32.reinterpret_i32)) => { Step::Exact(161, None) };
     ((f64.reinterpret_i64)) => { Step::Exact(162, None) };
+    ((i32.trunc_sat_f32_s)) => { Step::Exact(171, None) };
+    ((i32.trunc_sat_f32_u)) => { Step::Exact(172, None) };
+    ((i32.trunc_sat_f64_s)) => { Step::Exact(173, None) };
+    ((i32.trunc_sat_f64_u)) => { Step::Exact(174, None) };
+    ((i8x16.swizzle)) => { Step::Exact(203, None) };
+    ((i8x16.splat)) => { Step::Exact(204, None) };
+    ((i16x8.splat)) => { Step::Exact(205, None) };
     ((i32x4.splat)) => { Step::Exact(206, None) };
     ((i64x2.splat)) => { Step::Exact(207, None) };
     ((f32x4.splat)) => { Step::Exact(208, None) };
     ((f64x2.splat)) => { Step::Exact(209, None) };
     ((i8x16.extract_lane_s $lane:literal)) => { Step::Exact(210, Some($lane)) };
     ((i8x16.extract_lane_u $lane:literal)) => { Step::Exact(211, Some($lane)) };
+    ((i8x16.replace_lane $lane:literal)) => { Step::Exact(212, Some($lane)) };
     ((i16x8.extract_lane_s $lane:literal)) => { Step::Exact(213, Some($lane)) };
     ((i16x8.extract_lane_u $lane:literal)) => { Step::Exact(214, Some($lane)) };
+    ((i16x8.replace_lane $lane:literal)) => { Step::Exact(215, Some($lane)) };
     ((i32x4.extract_lane $lane:literal)) => { Step::Exact(216, Some($lane)) };
     ((i32x4.replace_lane $lane:literal)) => { Step::Exact(217, Some($lane)) };
     ((i64x2.extract_lane $lane:literal)) => { Step::Exact(218, Some($lane)) };
     ((i64x2.replace_lane $lane:literal)) => { Step::Exact(219, Some($lane)) };
     ((f32x4.extract_lane $lane:literal)) => { Step::Exact(220, Some($lane)) };
+    ((f32x4.replace_lane $lane:literal)) => { Step::Exact(221, Some($lane)) };
     ((f64x2.extract_lane $lane:literal)) => { Step::Exact(222, Some($lane)) };
+    ((f64x2.replace_lane $lane:literal)) => { Step::Exact(223, Some($lane)) };
     ((i8x16.eq)) => { Step::Exact(224, None) };
     ((i8x16.ne)) => { Step::Exact(225, None) };
     ((i8x16.lt_s)) => { Step::Exact(226, None) };
@@ -269,6 +288,18 @@ macro_rules! step {
     ((i32x4.le_u)) => { Step::Exact(251, None) };
     ((i32x4.ge_s)) => { Step::Exact(252, None) };
     ((i32x4.ge_u)) => { Step::Exact(253, None) };
+    ((f32x4.eq)) => { Step::Exact(254, None) };
+    ((f32x4.ne)) => { Step::Exact(255, None) };
+    ((f32x4.lt)) => { Step::Exact(256, None) };
+    ((f32x4.gt)) => { Step::Exact(257, None) };
+    ((f32x4.le)) => { Step::Exact(258, None) };
+    ((f32x4.ge)) => { Step::Exact(259, None) };
+    ((f64x2.eq)) => { Step::Exact(260, None) };
+    ((f64x2.ne)) => { Step::Exact(261, None) };
+    ((f64x2.lt)) => { Step::Exact(262, None) };
+    ((f64x2.gt)) => { Step::Exact(263, None) };
+    ((f64x2.le)) => { Step::Exact(264, None) };
+    ((f64x2.ge)) => { Step::Exact(265, None) };
     ((v128.not)) => { Step::Exact(266, None) };
     ((v128.and)) => { Step::Exact(267, None) };
     ((v128.andnot)) => { Step::Exact(268, None) };
@@ -277,27 +308,40 @@ macro_rules! step {
     ((v128.bitselect)) => { Step::Exact(271, None) };
     ((i8x16.abs)) => { Step::Exact(285, None) };
     ((i8x16.neg)) => { Step::Exact(286, None) };
+    ((i8x16.narrow_i16x8_s)) => { Step::Exact(290, None) };
+    ((i8x16.narrow_i16x8_u)) => { Step::Exact(291, None) };
     ((i8x16.shl)) => { Step::Exact(296, None) };
     ((i8x16.shr_s)) => { Step::Exact(297, None) };
     ((i8x16.shr_u)) => { Step::Exact(298, None) };
     ((i8x16.add)) => { Step::Exact(299, None) };
+    ((i8x16.add_sat_s)) => { Step::Exact(300, None) };
+    ((i8x16.add_sat_u)) => { Step::Exact(301, None) };
     ((i8x16.sub)) => { Step::Exact(302, None) };
+    ((i8x16.sub_sat_u)) => { Step::Exact(304, None) };
     ((i8x16.min_s)) => { Step::Exact(307, None) };
     ((i8x16.min_u)) => { Step::Exact(308, None) };
     ((i8x16.max_s)) => { Step::Exact(309, None) };
     ((i8x16.max_u)) => { Step::Exact(310, None) };
+    ((i8x16.avgr_u)) => { Step::Exact(312, None) };
     ((i16x8.abs)) => { Step::Exact(317, None) };
     ((i16x8.neg)) => { Step::Exact(318, None) };
+    ((i16x8.q15mulr_sat_s)) => { Step::Exact(319, None) };
+    ((i16x8.narrow_i32x4_s)) => { Step::Exact(322, None) };
+    ((i16x8.narrow_i32x4_u)) => { Step::Exact(323, None) };
     ((i16x8.shl)) => { Step::Exact(328, None) };
     ((i16x8.shr_s)) => { Step::Exact(329, None) };
     ((i16x8.shr_u)) => { Step::Exact(330, None) };
     ((i16x8.add)) => { Step::Exact(331, None) };
+    ((i16x8.add_sat_s)) => { Step::Exact(332, None) };
+    ((i16x8.add_sat_u)) => { Step::Exact(333, None) };
     ((i16x8.sub)) => { Step::Exact(334, None) };
+    ((i16x8.sub_sat_u)) => { Step::Exact(336, None) };
     ((i16x8.mul)) => { Step::Exact(338, None) };
     ((i16x8.min_s)) => { Step::Exact(339, None) };
     ((i16x8.min_u)) => { Step::Exact(340, None) };
     ((i16x8.max_s)) => { Step::Exact(341, None) };
     ((i16x8.max_u)) => { Step::Exact(342, None) };
+    ((i16x8.avgr_u)) => { Step::Exact(343, None) };
     ((i32x4.abs)) => { Step::Exact(348, None) };
     ((i32x4.neg)) => { Step::Exact(349, None) };
     ((i32x4.shl)) => { Step::Exact(356, None) };
@@ -310,6 +354,7 @@ macro_rules! step {
     ((i32x4.min_u)) => { Step::Exact(363, None) };
     ((i32x4.max_s)) => { Step::Exact(364, None) };
     ((i32x4.max_u)) => { Step::Exact(365, None) };
+    ((i32x4.dot_i16x8_s)) => { Step::Exact(366, None) };
     ((i64x2.abs)) => { Step::Exact(371, None) };
     ((i64x2.neg)) => { Step::Exact(372, None) };
     ((i64x2.shl)) => { Step::Exact(379, None) };
@@ -326,8 +371,20 @@ macro_rules! step {
     ((i64x2.ge_s)) => { Step::Exact(390, None) };
     ((f32x4.abs)) => { Step::Exact(395, None) };
     ((f32x4.neg)) => { Step::Exact(396, None) };
+    ((f32x4.pmin)) => { Step::Exact(404, None) };
+    ((f32x4.pmax)) => { Step::Exact(405, None) };
     ((f64x2.abs)) => { Step::Exact(406, None) };
     ((f64x2.neg)) => { Step::Exact(407, None) };
+    ((f64x2.pmin)) => { Step::Exact(415, None) };
+    ((f64x2.pmax)) => { Step::Exact(416, None) };
+    ((i32x4.trunc_sat_f32x4_s)) => { Step::Exact(417, None) };
+    ((i32x4.trunc_sat_f32x4_u)) => { Step::Exact(418, None) };
+    ((f32x4.convert_i32x4_s)) => { Step::Exact(419, None) };
+    ((f32x4.convert_i32x4_u)) => { Step::Exact(420, None) };
+    ((i32x4.trunc_sat_f64x2_s_zero)) => { Step::Exact(421, None) };
+    ((i32x4.trunc_sat_f64x2_u_zero)) => { Step::Exact(422, None) };
+    ((f64x2.convert_low_i32x4_s)) => { Step::Exact(423, None) };
+    ((f64x2.convert_low_i32x4_u)) => { Step::Exact(424, None) };
 }
 
 // A side of seven steps, behind which is nothing but `end`.
@@ -1761,4 +1818,252 @@ pub const UNDONE: [TableLine; 10] = [
     row!(for I32: [x (i32.extend16_s) 0x10000 rem_u] => [x 0x10000 rem_u]),
     row!(for I64: [x (i64.extend8_s) 0x100 rem_u] => [x 0x100 rem_u]),
     row!(for I64: [x (i64.extend16_s) 0x10000 rem_u] => [x 0x10000 rem_u]),
+];
+
+/// Tests of floats in lanes, of operands in the other order.
+pub const FLOAT_LANE_ORDERS: [TableLine; 12] = [
+    row!("turn_float_lane_test" for (V128): [x y (f32x4.eq)] => [y x (f32x4.eq)]),
+    row!(for (V128): [x y (f32x4.ne)] => [y x (f32x4.ne)]),
+    row!(for (V128): [x y (f32x4.lt)] => [y x (f32x4.gt)]),
+    row!(for (V128): [x y (f32x4.gt)] => [y x (f32x4.lt)]),
+    row!(for (V128): [x y (f32x4.le)] => [y x (f32x4.ge)]),
+    row!(for (V128): [x y (f32x4.ge)] => [y x (f32x4.le)]),
+    row!(for (V128): [x y (f64x2.eq)] => [y x (f64x2.eq)]),
+    row!(for (V128): [x y (f64x2.ne)] => [y x (f64x2.ne)]),
+    row!(for (V128): [x y (f64x2.lt)] => [y x (f64x2.gt)]),
+    row!(for (V128): [x y (f64x2.gt)] => [y x (f64x2.lt)]),
+    row!(for (V128): [x y (f64x2.le)] => [y x (f64x2.ge)]),
+    row!(for (V128): [x y (f64x2.ge)] => [y x (f64x2.le)]),
+];
+
+/// Whether floats in lanes are equal as the complement of whether they are not.
+pub const FLOAT_LANE_OPPOSITES: [TableLine; 8] = [
+    row!("complement_float_lane_equality" for (V128): [x y (f32x4.eq)] => [x y (f32x4.ne) (v128.not)]),
+    row!(for (V128): [x y (f32x4.ne)] => [x y (f32x4.eq) (v128.not)]),
+    row!(for (V128): [x y (f64x2.eq)] => [x y (f64x2.ne) (v128.not)]),
+    row!(for (V128): [x y (f64x2.ne)] => [x y (f64x2.eq) (v128.not)]),
+    row!("drop_complement_of_float_lanes" for (V128): [x y (f32x4.ne) (v128.not)] => [x y (f32x4.eq)]),
+    row!(for (V128): [x y (f32x4.eq) (v128.not)] => [x y (f32x4.ne)]),
+    row!(for (V128): [x y (f64x2.ne) (v128.not)] => [x y (f64x2.eq)]),
+    row!(for (V128): [x y (f64x2.eq) (v128.not)] => [x y (f64x2.ne)]),
+];
+
+/// The pseudo-minimum and the pseudo-maximum of floats in lanes as a selection by a test.
+pub const FLOAT_LANE_CHOICES: [TableLine; 8] = [
+    row!("pseudo_bound_to_choice" for (V128): [x y (f32x4.pmin)] => [y x y x (f32x4.lt) (v128.bitselect)]),
+    row!(for (V128): [x y (f64x2.pmin)] => [y x y x (f64x2.lt) (v128.bitselect)]),
+    row!(for (V128): [x y (f32x4.pmax)] => [y x x y (f32x4.lt) (v128.bitselect)]),
+    row!(for (V128): [x y (f64x2.pmax)] => [y x x y (f64x2.lt) (v128.bitselect)]),
+    row!("choice_to_pseudo_bound" for (V128): [y x y x (f32x4.lt) (v128.bitselect)] => [x y (f32x4.pmin)]),
+    row!(for (V128): [y x y x (f64x2.lt) (v128.bitselect)] => [x y (f64x2.pmin)]),
+    row!(for (V128): [y x x y (f32x4.lt) (v128.bitselect)] => [x y (f32x4.pmax)]),
+    row!(for (V128): [y x x y (f64x2.lt) (v128.bitselect)] => [x y (f64x2.pmax)]),
+];
+
+/// Sums, differences, means and products of lanes that saturate or are rounded.
+pub const SATURATED_LANES: [TableLine; 18] = [
+    row!("commute_saturated_lanes" for (V128): [x y (i8x16.add_sat_s)] => [y x (i8x16.add_sat_s)]),
+    row!(for (V128): [x y (i16x8.add_sat_s)] => [y x (i16x8.add_sat_s)]),
+    row!(for (V128): [x y (i8x16.add_sat_u)] => [y x (i8x16.add_sat_u)]),
+    row!(for (V128): [x y (i16x8.add_sat_u)] => [y x (i16x8.add_sat_u)]),
+    row!(for (V128): [x y (i8x16.avgr_u)] => [y x (i8x16.avgr_u)]),
+    row!(for (V128): [x y (i16x8.avgr_u)] => [y x (i16x8.avgr_u)]),
+    row!(for (V128): [x y (i16x8.q15mulr_sat_s)] => [y x (i16x8.q15mulr_sat_s)]),
+    row!(for (V128): [x y (i32x4.dot_i16x8_s)] => [y x (i32x4.dot_i16x8_s)]),
+    row!("saturated_difference_to_bound" for (V128): [x y (i8x16.sub_sat_u)] => [x y (i8x16.max_u) y (i8x16.sub)]),
+    row!(for (V128): [x y (i16x8.sub_sat_u)] => [x y (i16x8.max_u) y (i16x8.sub)]),
+    row!("bound_to_saturated_difference" for (V128): [x y (i8x16.max_u) y (i8x16.sub)] => [x y (i8x16.sub_sat_u)]),
+    row!(for (V128): [x y (i16x8.max_u) y (i16x8.sub)] => [x y (i16x8.sub_sat_u)]),
+    row!("saturated_sum_to_bound" for (V128): [x y (i8x16.add_sat_u)] => [x y (v128.not) (i8x16.min_u) y (i8x16.add)]),
+    row!(for (V128): [x y (i16x8.add_sat_u)] => [x y (v128.not) (i16x8.min_u) y (i16x8.add)]),
+    row!("bound_to_saturated_sum" for (V128): [x y (v128.not) (i8x16.min_u) y (i8x16.add)] => [x y (i8x16.add_sat_u)]),
+    row!(for (V128): [x y (v128.not) (i16x8.min_u) y (i16x8.add)] => [x y (i16x8.add_sat_u)]),
+    row!("bound_rounded_product" for (V128): [x y (i16x8.q15mulr_sat_s)] => [x y (i16x8.q15mulr_sat_s) 0x8001 (i16x8.splat) (i16x8.max_s)]),
+    row!("drop_bound_of_rounded_product" for (V128): [x y (i16x8.q15mulr_sat_s) 0x8001 (i16x8.splat) (i16x8.max_s)] => [x y (i16x8.q15mulr_sat_s)]),
+];
+
+/// The count of places that lanes are shifted by, cut to those of a lane.
+pub const LANE_COUNTS: [TableLine; 24] = [
+    row!("mask_lane_shift_count" for (V128 I32): [x y (i8x16.shl)] => [x y 7 (i32.and) (i8x16.shl)]),
+    row!(for (V128 I32): [x y (i8x16.shr_s)] => [x y 7 (i32.and) (i8x16.shr_s)]),
+    row!(for (V128 I32): [x y (i8x16.shr_u)] => [x y 7 (i32.and) (i8x16.shr_u)]),
+    row!(for (V128 I32): [x y (i16x8.shl)] => [x y 15 (i32.and) (i16x8.shl)]),
+    row!(for (V128 I32): [x y (i16x8.shr_s)] => [x y 15 (i32.and) (i16x8.shr_s)]),
+    row!(for (V128 I32): [x y (i16x8.shr_u)] => [x y 15 (i32.and) (i16x8.shr_u)]),
+    row!(for (V128 I32): [x y (i32x4.shl)] => [x y 31 (i32.and) (i32x4.shl)]),
+    row!(for (V128 I32): [x y (i32x4.shr_s)] => [x y 31 (i32.and) (i32x4.shr_s)]),
+    row!(for (V128 I32): [x y (i32x4.shr_u)] => [x y 31 (i32.and) (i32x4.shr_u)]),
+    row!(for (V128 I32): [x y (i64x2.shl)] => [x y 63 (i32.and) (i64x2.shl)]),
+    row!(for (V128 I32): [x y (i64x2.shr_s)] => [x y 63 (i32.and) (i64x2.shr_s)]),
+    row!(for (V128 I32): [x y (i64x2.shr_u)] => [x y 63 (i32.and) (i64x2.shr_u)]),
+    row!("drop_mask_of_lane_shift_count" for (V128 I32): [x y 7 (i32.and) (i8x16.shl)] => [x y (i8x16.shl)]),
+    row!(for (V128 I32): [x y 7 (i32.and) (i8x16.shr_s)] => [x y (i8x16.shr_s)]),
+    row!(for (V128 I32): [x y 7 (i32.and) (i8x16.shr_u)] => [x y (i8x16.shr_u)]),
+    row!(for (V128 I32): [x y 15 (i32.and) (i16x8.shl)] => [x y (i16x8.shl)]),
+    row!(for (V128 I32): [x y 15 (i32.and) (i16x8.shr_s)] => [x y (i16x8.shr_s)]),
+    row!(for (V128 I32): [x y 15 (i32.and) (i16x8.shr_u)] => [x y (i16x8.shr_u)]),
+    row!(for (V128 I32): [x y 31 (i32.and) (i32x4.shl)] => [x y (i32x4.shl)]),
+    row!(for (V128 I32): [x y 31 (i32.and) (i32x4.shr_s)] => [x y (i32x4.shr_s)]),
+    row!(for (V128 I32): [x y 31 (i32.and) (i32x4.shr_u)] => [x y (i32x4.shr_u)]),
+    row!(for (V128 I32): [x y 63 (i32.and) (i64x2.shl)] => [x y (i64x2.shl)]),
+    row!(for (V128 I32): [x y 63 (i32.and) (i64x2.shr_s)] => [x y (i64x2.shr_s)]),
+    row!(for (V128 I32): [x y 63 (i32.and) (i64x2.shr_u)] => [x y (i64x2.shr_u)]),
+];
+
+/// Lanes brought nearer to the range of those that they are narrowed to.
+pub const NARROWED_LANES: [TableLine; 8] = [
+    row!("bound_narrowed_lanes" for (V128): [x y (i8x16.narrow_i16x8_s)] => [x 0x7f (i16x8.splat) (i16x8.min_s) y (i8x16.narrow_i16x8_s)]),
+    row!(for (V128): [x y (i16x8.narrow_i32x4_s)] => [x 0x7fff (i32x4.splat) (i32x4.min_s) y (i16x8.narrow_i32x4_s)]),
+    row!(for (V128): [x y (i8x16.narrow_i16x8_u)] => [x 0 (i32x4.splat) (i16x8.max_s) y (i8x16.narrow_i16x8_u)]),
+    row!(for (V128): [x y (i16x8.narrow_i32x4_u)] => [x 0 (i32x4.splat) (i32x4.max_s) y (i16x8.narrow_i32x4_u)]),
+    row!("drop_bound_of_narrowed_lanes" for (V128): [x 0x7f (i16x8.splat) (i16x8.min_s) y (i8x16.narrow_i16x8_s)] => [x y (i8x16.narrow_i16x8_s)]),
+    row!(for (V128): [x 0x7fff (i32x4.splat) (i32x4.min_s) y (i16x8.narrow_i32x4_s)] => [x y (i16x8.narrow_i32x4_s)]),
+    row!(for (V128): [x 0 (i32x4.splat) (i16x8.max_s) y (i8x16.narrow_i16x8_u)] => [x y (i8x16.narrow_i16x8_u)]),
+    row!(for (V128): [x 0 (i32x4.splat) (i32x4.max_s) y (i16x8.narrow_i32x4_u)] => [x y (i16x8.narrow_i32x4_u)]),
+];
+
+/// Conversions between integers and floats by those of lanes.
+pub const LANE_CONVERSIONS: [TableLine; 16] = [
+    row!("truncate_in_lanes" for (F32): [x (i32.trunc_sat_f32_s)] => [x (f32x4.splat) (i32x4.trunc_sat_f32x4_s) (i32x4.extract_lane 0)]),
+    row!(for (F32): [x (i32.trunc_sat_f32_u)] => [x (f32x4.splat) (i32x4.trunc_sat_f32x4_u) (i32x4.extract_lane 0)]),
+    row!(for (F64): [x (i32.trunc_sat_f64_s)] => [x (f64x2.splat) (i32x4.trunc_sat_f64x2_s_zero) (i32x4.extract_lane 0)]),
+    row!(for (F64): [x (i32.trunc_sat_f64_u)] => [x (f64x2.splat) (i32x4.trunc_sat_f64x2_u_zero) (i32x4.extract_lane 0)]),
+    row!("truncate_one_lane" for (F32): [x (f32x4.splat) (i32x4.trunc_sat_f32x4_s) (i32x4.extract_lane 0)] => [x (i32.trunc_sat_f32_s)]),
+    row!(for (F32): [x (f32x4.splat) (i32x4.trunc_sat_f32x4_u) (i32x4.extract_lane 0)] => [x (i32.trunc_sat_f32_u)]),
+    row!(for (F64): [x (f64x2.splat) (i32x4.trunc_sat_f64x2_s_zero) (i32x4.extract_lane 0)] => [x (i32.trunc_sat_f64_s)]),
+    row!(for (F64): [x (f64x2.splat) (i32x4.trunc_sat_f64x2_u_zero) (i32x4.extract_lane 0)] => [x (i32.trunc_sat_f64_u)]),
+    row!("convert_in_lanes" for (I32): [x (f32.convert_i32_s)] => [x (i32x4.splat) (f32x4.convert_i32x4_s) (f32x4.extract_lane 0)]),
+    row!(for (I32): [x (f32.convert_i32_u)] => [x (i32x4.splat) (f32x4.convert_i32x4_u) (f32x4.extract_lane 0)]),
+    row!(for (I32): [x (f64.convert_i32_s)] => [x (i32x4.splat) (f64x2.convert_low_i32x4_s) (f64x2.extract_lane 0)]),
+    row!(for (I32): [x (f64.convert_i32_u)] => [x (i32x4.splat) (f64x2.convert_low_i32x4_u) (f64x2.extract_lane 0)]),
+    row!("convert_one_lane" for (I32): [x (i32x4.splat) (f32x4.convert_i32x4_s) (f32x4.extract_lane 0)] => [x (f32.convert_i32_s)]),
+    row!(for (I32): [x (i32x4.splat) (f32x4.convert_i32x4_u) (f32x4.extract_lane 0)] => [x (f32.convert_i32_u)]),
+    row!(for (I32): [x (i32x4.splat) (f64x2.convert_low_i32x4_s) (f64x2.extract_lane 0)] => [x (f64.convert_i32_s)]),
+    row!(for (I32): [x (i32x4.splat) (f64x2.convert_low_i32x4_u) (f64x2.extract_lane 0)] => [x (f64.convert_i32_u)]),
+];
+
+/// Conversions of integers to floats by those of wider ones, and what is without a sign.
+pub const CONVERSIONS: [TableLine; 20] = [
+    row!("widen_converted" for (I32): [x (f32.convert_i32_s)] => [x (i64.extend_i32_s) (f32.convert_i64_s)]),
+    row!(for (I32): [x (f32.convert_i32_u)] => [x (i64.extend_i32_u) (f32.convert_i64_s)]),
+    row!(for (I32): [x (f32.convert_i32_u)] => [x (i64.extend_i32_u) (f32.convert_i64_u)]),
+    row!(for (I32): [x (f64.convert_i32_s)] => [x (i64.extend_i32_s) (f64.convert_i64_s)]),
+    row!(for (I32): [x (f64.convert_i32_u)] => [x (i64.extend_i32_u) (f64.convert_i64_s)]),
+    row!(for (I32): [x (f64.convert_i32_u)] => [x (i64.extend_i32_u) (f64.convert_i64_u)]),
+    row!("drop_widening_of_converted" for (I32): [x (i64.extend_i32_s) (f32.convert_i64_s)] => [x (f32.convert_i32_s)]),
+    row!(for (I32): [x (i64.extend_i32_u) (f32.convert_i64_s)] => [x (f32.convert_i32_u)]),
+    row!(for (I32): [x (i64.extend_i32_u) (f32.convert_i64_u)] => [x (f32.convert_i32_u)]),
+    row!(for (I32): [x (i64.extend_i32_s) (f64.convert_i64_s)] => [x (f64.convert_i32_s)]),
+    row!(for (I32): [x (i64.extend_i32_u) (f64.convert_i64_s)] => [x (f64.convert_i32_u)]),
+    row!(for (I32): [x (i64.extend_i32_u) (f64.convert_i64_u)] => [x (f64.convert_i32_u)]),
+    row!("magnitude_of_converted" for (I32): [x (f32.convert_i32_u)] => [x (f32.convert_i32_u) (f32.abs)]),
+    row!(for (I64): [x (f32.convert_i64_u)] => [x (f32.convert_i64_u) (f32.abs)]),
+    row!(for (I32): [x (f64.convert_i32_u)] => [x (f64.convert_i32_u) (f64.abs)]),
+    row!(for (I64): [x (f64.convert_i64_u)] => [x (f64.convert_i64_u) (f64.abs)]),
+    row!("drop_magnitude_of_converted" for (I32): [x (f32.convert_i32_u) (f32.abs)] => [x (f32.convert_i32_u)]),
+    row!(for (I64): [x (f32.convert_i64_u) (f32.abs)] => [x (f32.convert_i64_u)]),
+    row!(for (I32): [x (f64.convert_i32_u) (f64.abs)] => [x (f64.convert_i32_u)]),
+    row!(for (I64): [x (f64.convert_i64_u) (f64.abs)] => [x (f64.convert_i64_u)]),
+];
+
+/// A float put into a lane as the number that has its bits, and a number as a float.
+pub const REPLACED_BITS: [TableLine; 24] = [
+    row!("replace_float_lane_to_bits" for (V128 F32): [x y (f32x4.replace_lane 0)] => [x y (i32.reinterpret_f32) (i32x4.replace_lane 0)]),
+    row!(for (V128 F32): [x y (f32x4.replace_lane 1)] => [x y (i32.reinterpret_f32) (i32x4.replace_lane 1)]),
+    row!(for (V128 F32): [x y (f32x4.replace_lane 2)] => [x y (i32.reinterpret_f32) (i32x4.replace_lane 2)]),
+    row!(for (V128 F32): [x y (f32x4.replace_lane 3)] => [x y (i32.reinterpret_f32) (i32x4.replace_lane 3)]),
+    row!(for (V128 F64): [x y (f64x2.replace_lane 0)] => [x y (i64.reinterpret_f64) (i64x2.replace_lane 0)]),
+    row!(for (V128 F64): [x y (f64x2.replace_lane 1)] => [x y (i64.reinterpret_f64) (i64x2.replace_lane 1)]),
+    row!("bits_to_replace_float_lane" for (V128 F32): [x y (i32.reinterpret_f32) (i32x4.replace_lane 0)] => [x y (f32x4.replace_lane 0)]),
+    row!(for (V128 F32): [x y (i32.reinterpret_f32) (i32x4.replace_lane 1)] => [x y (f32x4.replace_lane 1)]),
+    row!(for (V128 F32): [x y (i32.reinterpret_f32) (i32x4.replace_lane 2)] => [x y (f32x4.replace_lane 2)]),
+    row!(for (V128 F32): [x y (i32.reinterpret_f32) (i32x4.replace_lane 3)] => [x y (f32x4.replace_lane 3)]),
+    row!(for (V128 F64): [x y (i64.reinterpret_f64) (i64x2.replace_lane 0)] => [x y (f64x2.replace_lane 0)]),
+    row!(for (V128 F64): [x y (i64.reinterpret_f64) (i64x2.replace_lane 1)] => [x y (f64x2.replace_lane 1)]),
+    row!("replace_lane_to_float" for (V128 I32): [x y (i32x4.replace_lane 0)] => [x y (f32.reinterpret_i32) (f32x4.replace_lane 0)]),
+    row!(for (V128 I32): [x y (i32x4.replace_lane 1)] => [x y (f32.reinterpret_i32) (f32x4.replace_lane 1)]),
+    row!(for (V128 I32): [x y (i32x4.replace_lane 2)] => [x y (f32.reinterpret_i32) (f32x4.replace_lane 2)]),
+    row!(for (V128 I32): [x y (i32x4.replace_lane 3)] => [x y (f32.reinterpret_i32) (f32x4.replace_lane 3)]),
+    row!(for (V128 I64): [x y (i64x2.replace_lane 0)] => [x y (f64.reinterpret_i64) (f64x2.replace_lane 0)]),
+    row!(for (V128 I64): [x y (i64x2.replace_lane 1)] => [x y (f64.reinterpret_i64) (f64x2.replace_lane 1)]),
+    row!("float_to_replace_lane" for (V128 I32): [x y (f32.reinterpret_i32) (f32x4.replace_lane 0)] => [x y (i32x4.replace_lane 0)]),
+    row!(for (V128 I32): [x y (f32.reinterpret_i32) (f32x4.replace_lane 1)] => [x y (i32x4.replace_lane 1)]),
+    row!(for (V128 I32): [x y (f32.reinterpret_i32) (f32x4.replace_lane 2)] => [x y (i32x4.replace_lane 2)]),
+    row!(for (V128 I32): [x y (f32.reinterpret_i32) (f32x4.replace_lane 3)] => [x y (i32x4.replace_lane 3)]),
+    row!(for (V128 I64): [x y (f64.reinterpret_i64) (f64x2.replace_lane 0)] => [x y (i64x2.replace_lane 0)]),
+    row!(for (V128 I64): [x y (f64.reinterpret_i64) (f64x2.replace_lane 1)] => [x y (i64x2.replace_lane 1)]),
+];
+
+/// A number put into a lane, cut to the bits of a lane.
+pub const MASKED_LANES: [TableLine; 24] = [
+    row!("mask_replaced_lane" for (V128 I32): [x y (i8x16.replace_lane 0)] => [x y 0xff (i32.and) (i8x16.replace_lane 0)]),
+    row!(for (V128 I32): [x y (i8x16.replace_lane 1)] => [x y 0xff (i32.and) (i8x16.replace_lane 1)]),
+    row!(for (V128 I32): [x y (i8x16.replace_lane 2)] => [x y 0xff (i32.and) (i8x16.replace_lane 2)]),
+    row!(for (V128 I32): [x y (i8x16.replace_lane 3)] => [x y 0xff (i32.and) (i8x16.replace_lane 3)]),
+    row!(for (V128 I32): [x y (i8x16.replace_lane 4)] => [x y 0xff (i32.and) (i8x16.replace_lane 4)]),
+    row!(for (V128 I32): [x y (i8x16.replace_lane 5)] => [x y 0xff (i32.and) (i8x16.replace_lane 5)]),
+    row!(for (V128 I32): [x y (i8x16.replace_lane 6)] => [x y 0xff (i32.and) (i8x16.replace_lane 6)]),
+    row!(for (V128 I32): [x y (i8x16.replace_lane 7)] => [x y 0xff (i32.and) (i8x16.replace_lane 7)]),
+    row!(for (V128 I32): [x y (i8x16.replace_lane 8)] => [x y 0xff (i32.and) (i8x16.replace_lane 8)]),
+    row!(for (V128 I32): [x y (i8x16.replace_lane 9)] => [x y 0xff (i32.and) (i8x16.replace_lane 9)]),
+    row!(for (V128 I32): [x y (i8x16.replace_lane 10)] => [x y 0xff (i32.and) (i8x16.replace_lane 10)]),
+    row!(for (V128 I32): [x y (i8x16.replace_lane 11)] => [x y 0xff (i32.and) (i8x16.replace_lane 11)]),
+    row!(for (V128 I32): [x y (i8x16.replace_lane 12)] => [x y 0xff (i32.and) (i8x16.replace_lane 12)]),
+    row!(for (V128 I32): [x y (i8x16.replace_lane 13)] => [x y 0xff (i32.and) (i8x16.replace_lane 13)]),
+    row!(for (V128 I32): [x y (i8x16.replace_lane 14)] => [x y 0xff (i32.and) (i8x16.replace_lane 14)]),
+    row!(for (V128 I32): [x y (i8x16.replace_lane 15)] => [x y 0xff (i32.and) (i8x16.replace_lane 15)]),
+    row!(for (V128 I32): [x y (i16x8.replace_lane 0)] => [x y 0xffff (i32.and) (i16x8.replace_lane 0)]),
+    row!(for (V128 I32): [x y (i16x8.replace_lane 1)] => [x y 0xffff (i32.and) (i16x8.replace_lane 1)]),
+    row!(for (V128 I32): [x y (i16x8.replace_lane 2)] => [x y 0xffff (i32.and) (i16x8.replace_lane 2)]),
+    row!(for (V128 I32): [x y (i16x8.replace_lane 3)] => [x y 0xffff (i32.and) (i16x8.replace_lane 3)]),
+    row!(for (V128 I32): [x y (i16x8.replace_lane 4)] => [x y 0xffff (i32.and) (i16x8.replace_lane 4)]),
+    row!(for (V128 I32): [x y (i16x8.replace_lane 5)] => [x y 0xffff (i32.and) (i16x8.replace_lane 5)]),
+    row!(for (V128 I32): [x y (i16x8.replace_lane 6)] => [x y 0xffff (i32.and) (i16x8.replace_lane 6)]),
+    row!(for (V128 I32): [x y (i16x8.replace_lane 7)] => [x y 0xffff (i32.and) (i16x8.replace_lane 7)]),
+];
+
+/// The same, with what cuts it left out.
+pub const UNMASKED_LANES: [TableLine; 24] = [
+    row!("drop_mask_of_replaced_lane" for (V128 I32): [x y 0xff (i32.and) (i8x16.replace_lane 0)] => [x y (i8x16.replace_lane 0)]),
+    row!(for (V128 I32): [x y 0xff (i32.and) (i8x16.replace_lane 1)] => [x y (i8x16.replace_lane 1)]),
+    row!(for (V128 I32): [x y 0xff (i32.and) (i8x16.replace_lane 2)] => [x y (i8x16.replace_lane 2)]),
+    row!(for (V128 I32): [x y 0xff (i32.and) (i8x16.replace_lane 3)] => [x y (i8x16.replace_lane 3)]),
+    row!(for (V128 I32): [x y 0xff (i32.and) (i8x16.replace_lane 4)] => [x y (i8x16.replace_lane 4)]),
+    row!(for (V128 I32): [x y 0xff (i32.and) (i8x16.replace_lane 5)] => [x y (i8x16.replace_lane 5)]),
+    row!(for (V128 I32): [x y 0xff (i32.and) (i8x16.replace_lane 6)] => [x y (i8x16.replace_lane 6)]),
+    row!(for (V128 I32): [x y 0xff (i32.and) (i8x16.replace_lane 7)] => [x y (i8x16.replace_lane 7)]),
+    row!(for (V128 I32): [x y 0xff (i32.and) (i8x16.replace_lane 8)] => [x y (i8x16.replace_lane 8)]),
+    row!(for (V128 I32): [x y 0xff (i32.and) (i8x16.replace_lane 9)] => [x y (i8x16.replace_lane 9)]),
+    row!(for (V128 I32): [x y 0xff (i32.and) (i8x16.replace_lane 10)] => [x y (i8x16.replace_lane 10)]),
+    row!(for (V128 I32): [x y 0xff (i32.and) (i8x16.replace_lane 11)] => [x y (i8x16.replace_lane 11)]),
+    row!(for (V128 I32): [x y 0xff (i32.and) (i8x16.replace_lane 12)] => [x y (i8x16.replace_lane 12)]),
+    row!(for (V128 I32): [x y 0xff (i32.and) (i8x16.replace_lane 13)] => [x y (i8x16.replace_lane 13)]),
+    row!(for (V128 I32): [x y 0xff (i32.and) (i8x16.replace_lane 14)] => [x y (i8x16.replace_lane 14)]),
+    row!(for (V128 I32): [x y 0xff (i32.and) (i8x16.replace_lane 15)] => [x y (i8x16.replace_lane 15)]),
+    row!(for (V128 I32): [x y 0xffff (i32.and) (i16x8.replace_lane 0)] => [x y (i16x8.replace_lane 0)]),
+    row!(for (V128 I32): [x y 0xffff (i32.and) (i16x8.replace_lane 1)] => [x y (i16x8.replace_lane 1)]),
+    row!(for (V128 I32): [x y 0xffff (i32.and) (i16x8.replace_lane 2)] => [x y (i16x8.replace_lane 2)]),
+    row!(for (V128 I32): [x y 0xffff (i32.and) (i16x8.replace_lane 3)] => [x y (i16x8.replace_lane 3)]),
+    row!(for (V128 I32): [x y 0xffff (i32.and) (i16x8.replace_lane 4)] => [x y (i16x8.replace_lane 4)]),
+    row!(for (V128 I32): [x y 0xffff (i32.and) (i16x8.replace_lane 5)] => [x y (i16x8.replace_lane 5)]),
+    row!(for (V128 I32): [x y 0xffff (i32.and) (i16x8.replace_lane 6)] => [x y (i16x8.replace_lane 6)]),
+    row!(for (V128 I32): [x y 0xffff (i32.and) (i16x8.replace_lane 7)] => [x y (i16x8.replace_lane 7)]),
+];
+
+/// Bytes picked by bytes, of which those beyond the vector are all one number.
+pub const SWIZZLES: [TableLine; 2] = [
+    row!("bound_swizzle" for (V128): [x y (i8x16.swizzle)] => [x y 16 (i8x16.splat) (i8x16.min_u) (i8x16.swizzle)]),
+    row!("drop_bound_of_swizzle" for (V128): [x y 16 (i8x16.splat) (i8x16.min_u) (i8x16.swizzle)] => [x y (i8x16.swizzle)]),
+];
+
+/// Stores of i32 by those of i64, loads of half a vector by those into both halves, and back.
+pub const WIDE_ACCESSES: [TableLine; 8] = [
+    own!("store_wide": Access 136),
+    own!(Access 137),
+    own!(Access 138),
+    own!("drop_widening_of_stored": Access 139),
+    own!(Access 140),
+    own!(Access 141),
+    own!("load_zero_by_splat": Access 142),
+    own!("splat_to_load_zero": Access 143),
 ];

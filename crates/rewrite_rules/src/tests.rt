@@ -10,7 +10,7 @@ use std::test::Fail;
 use wasm_code::{Imm, MemArg};
 
 /// Names of rules, and their numbers, as callers in C have them.
-const NAMES: [(&str, usize); 36] = [
+const NAMES: [(&str, usize); 43] = [
     ("commute", 0),
     ("turn_comparison", 1),
     ("associate_left", 2),
@@ -47,6 +47,13 @@ const NAMES: [(&str, usize); 36] = [
     ("power_test_to_previous", 304),
     ("shift_to_half", 308),
     ("drop_extension_in_remainder", 313),
+    ("turn_float_lane_test", 314),
+    ("bound_rounded_product", 324),
+    ("widen_converted", 334),
+    ("drop_mask_of_replaced_lane", 343),
+    ("bound_swizzle", 344),
+    ("store_wide", 346),
+    ("splat_to_load_zero", 349),
 ];
 
 #[test]
@@ -57,10 +64,10 @@ fn tells_rules_by_their_names(rt: HostRuntime) -> Result<(), Fail> {
         assert!(rt; rule.name() == name);
         assert!(rt; Rule::from_number(number) == Some(rule));
     }
-    assert!(rt; rule_count() == 314);
+    assert!(rt; rule_count() == 350);
     assert!(rt; all_rules(rt.alloc())?.get(256).copied() == Rule::from_number(256));
     assert!(rt; rule_names(rt.alloc())?.get(76).copied() == Some("join_sums"));
-    assert!(rt; Rule::from_number(314).is_none());
+    assert!(rt; Rule::from_number(350).is_none());
     assert!(rt; "no_rule".parse::<Rule>().is_err());
     Ok(())
 }
@@ -68,7 +75,7 @@ fn tells_rules_by_their_names(rt: HostRuntime) -> Result<(), Fail> {
 #[test]
 fn tells_of_which_rule_a_row_is(rt: HostRuntime) -> Result<(), Fail> {
     let rules = rules_of_rows(rt.alloc())?;
-    assert!(rt; row_count() == 1094);
+    assert!(rt; row_count() == 1290);
     assert!(rt; rules.len() == row_count());
     assert!(rt; rules.get(6).copied() == Some(0));
     assert!(rt; rules.get(7).copied() == Some(1));
@@ -195,7 +202,7 @@ const BY_EIGHT: Imm = Imm::Mem(MemArg {
 });
 
 /// Numbers of accesses, an immediate that stands there, and the one that is written, where one is.
-const WRITTEN: [(u8, Imm, Option<Imm>); 11] = [
+const WRITTEN: [(u8, Imm, Option<Imm>); 12] = [
     (0, BY_FOUR, Some(BY_FOUR)),
     (0, Imm::F32(1), None),
     (82, BY_FOUR, Some(BY_BYTE)),
@@ -207,6 +214,7 @@ const WRITTEN: [(u8, Imm, Option<Imm>); 11] = [
     (133, Imm::I64(-2), Some(Imm::F64(0xffff_ffff_ffff_fffe))),
     (134, Imm::V128(5), Some(Imm::V128(-6))),
     (135, BY_FOUR, None),
+    (137, BY_BYTE, Some(BY_BYTE)),
 ];
 
 #[test]
@@ -215,6 +223,6 @@ fn tells_what_accesses_write(rt: HostRuntime) -> Result<(), Fail> {
         let access = access_at(number).expect(&rt, "it is an access's number");
         assert!(rt; access.written(immediate) == expected, "access {number}");
     }
-    assert!(rt; access_at(136).is_none());
+    assert!(rt; access_at(144).is_none());
     Ok(())
 }

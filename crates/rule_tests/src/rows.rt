@@ -2,7 +2,9 @@
 
 mod accesses;
 mod bits;
+mod conversions;
 mod extensions;
+mod float_lane_tests;
 mod float_signs;
 mod float_tests;
 mod floats;
@@ -15,6 +17,7 @@ mod lane_tests;
 mod lanes;
 mod operands;
 mod orders;
+mod saturation;
 mod shorter;
 mod vector_masks;
 mod vectors;
@@ -44,7 +47,7 @@ pub(crate) const ROWS: [&str; 7] = [
 ];
 
 /// The same of rules that need an exact module: these rows are of such a module, and in any other one the rules make nothing.
-pub(crate) const EXACT_ROWS: [&str; 11] = [
+pub(crate) const EXACT_ROWS: [&str; 14] = [
     floats::ROWS,
     float_signs::ROWS,
     float_tests::ROWS,
@@ -55,5 +58,8 @@ pub(crate) const EXACT_ROWS: [&str; 11] = [
     lane_bounds::ROWS,
     lane_floats::ROWS,
     lane_moves::ROWS,
+    float_lane_tests::ROWS,
+    saturation::ROWS,
+    conversions::ROWS,
     accesses::ROWS,
 ];

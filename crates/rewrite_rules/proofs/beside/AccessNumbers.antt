@@ -7,7 +7,9 @@ use Rattle.std.proofs.lemmas.Nat.{pow_pos, and_mask, mod-mul-add, field_of, mod-
 use Rattle.std.proofs.Math.Nat.{mod-eq_of_lt, mod-lt, mod-mod, pow-le-pow_right}
 use mir.Val.{sel}
 use Rattle.peephole_machine.specs.Values.{bytes_of}
+use Rattle.peephole_machine.specs.ExactRow.{doubles_wide}
 use Rattle.peephole_machine.specs.Integer.{signed_into}
+use Rattle.peephole_machine.specs.Lanes.{each_lane, splat, with_lane}
 
 -- ---- small numbers
 
@@ -130,3 +132,10 @@ again_8 n l = ap (λ z. cast_unsigned w64 z % 2 ^ 64) (sym (again (2 ^ 8) n l (o
 
 pub again_16 : (n : ℕ) → n < 2 ^ 16 → cast_unsigned w64 (cast_signed w16 n) % 2 ^ 64 ≡ signed_into w32 w64 (cast_unsigned w32 (cast_signed w16 n) % 2 ^ 32) % 2 ^ 64
 again_16 n l = ap (λ z. cast_unsigned w64 z % 2 ^ 64) (sym (again (2 ^ 16) n l (omega arith) (nat_lt n (2 ^ 15))))
+
+-- ---- halves
+
+-- a number in both halves of a vector, of which the upper one is cleared
+pub upper_cleared : (n : ℕ) → n < 2 ^ 64 → n % 2 ^ 128 ≡ with_lane doubles_wide 1 (splat doubles_wide n % 2 ^ 128) 0 % 2 ^ 128
+unfolding each_lane
+upper_cleared n l = omega arith

@@ -16,10 +16,10 @@ use Rattle.peephole_machine.specs.declared.integer.IntegerType.TheVariants as in
 use Rattle.peephole_machine.specs.declared.operation.Binary.TheVariants.{And}
 use Rattle.peephole_machine.specs.declared.operation.Operation.TheVariants.{WrapI64, ExtendI32S, ExtendI32U, Extend8S, Extend16S, Extend32S, Binary}
 use Rattle.peephole_machine.specs.ExactLemmas.{of_bits_fits}
-use Rattle.peephole_machine.specs.ExactRow.{Loading, one_to, ones, plainly, with_the_sign, bytes_wide, halves_wide, words_wide, doubles_wide, exact_row}
+use Rattle.peephole_machine.specs.ExactRow.{Loading, one_to, two_to, ones, plainly, with_the_sign, bytes_wide, halves_wide, words_wide, doubles_wide, exact_row}
 use Rattle.peephole_machine.specs.IntegerRow.{integer_row}
 use Rattle.peephole_machine.specs.Integer.{signed_into}
-use Rattle.peephole_machine.specs.Lanes.{splat}
+use Rattle.peephole_machine.specs.Lanes.{splat, with_lane}
 use Rattle.peephole_machine.specs.OtherRow.{other_type}
 use Rattle.peephole_machine.specs.Values.{type_of, width_of, of_bits, IsOfType, Context, bytes_of}
 use Rattle.peephole_programs.specs.validation.Algorithm.{Frame, check_code}
@@ -44,7 +44,7 @@ use Rattle.rewrite_rules.proofs.beside.FrameLemmas.{constant_pushes}
 use Rattle.rewrite_rules.proofs.beside.ConversionLemmas.{whole, exactly_one, Converts, by_operator, with_constant}
 use Rattle.rewrite_rules.proofs.beside.AccessLemmas.{IsLoadRow, IsStoreRow, Follows, nothing_follows, conversion_follows, Stores, bare_stores, conversion_stores}
 use Rattle.rewrite_rules.proofs.beside.ConstantLemmas.{Leaves, leave_alike, whole_leaves, bits_leave, then_leaves, same_bits_32, same_bits_64, other_back, other_bits_are, vector_fits}
-use Rattle.rewrite_rules.proofs.beside.AccessNumbers.{wide_enough, low_kept, masked_kept, low_bytes_of, masked_bytes, extended_8, extended_16, extended_8_wide, extended_16_wide, extended_32_wide, again_8, again_16}
+use Rattle.rewrite_rules.proofs.beside.AccessNumbers.{wide_enough, low_kept, masked_kept, low_bytes_of, masked_bytes, extended_8, extended_16, extended_8_wide, extended_16_wide, extended_32_wide, again_8, again_16, upper_cleared}
 use Rattle.rewrite_rules.proofs.identities.RowLemmas.{◌▸◌}
 
 -- ---- rows
@@ -284,6 +284,15 @@ mask t k context exact =
     with_constant context exact (Whole (Binary t And)) (type_of t) (type_of t) (masked t k) (λ n h. low_fits t (bit_and n (low t k))) t k (whole (Binary t And))
     (λ n h. refl) (low_fits t k) (pushes t k)
 
+-- the upper half by zeros
+upper_zero : ConvertsAlways (With integer.I64 0 (Exact 219 (Some 1))) V128 V128 (λ n. with_lane doubles_wide 1 n 0 % 2 ^ 128)
+unfolding exact_operator exact_row integer_row row_at table
+upper_zero context exact =
+    with_constant context exact (Exact 219 (Some 1)) V128 V128 (λ n. with_lane doubles_wide 1 n 0 % 2 ^ 128) (λ n h. of_bits_fits V128 (with_lane doubles_wide 1 n 0))
+    integer.I64 0
+    (exactly_one 219 (Some 1) (record { operands = V128 ∷ I64 ∷ []; result = V128; value = λ ns. of_bits V128 (two_to (with_lane doubles_wide 1) ns) }) refl)
+    (λ n h. refl) (low_fits integer.I64 0) (pushes integer.I64 0)
+
 -- ---- pairs
 
 -- What two loads have in common: as many bytes, and the value that is made of them.
@@ -460,6 +469,15 @@ i64_store16_by_i32 = converted_store i64_store16 i32_store16 wrap (λ n h. low_b
 i64_store32_by_i32 : StorePair (bare 33) (record { row = 25; conversion = By (Whole WrapI64) })
 i64_store32_by_i32 = converted_store i64_store32 i32_store wrap (λ n h. low_bytes_of 4 32 n (omega arith))
 
+i32_store8_by_i64 : StorePair (bare 29) (record { row = 31; conversion = By (Whole ExtendI32U) })
+i32_store8_by_i64 = converted_store i32_store8 i64_store8 extend_u (λ n h. low_bytes_of 1 64 n (omega arith))
+
+i32_store16_by_i64 : StorePair (bare 30) (record { row = 32; conversion = By (Whole ExtendI32U) })
+i32_store16_by_i64 = converted_store i32_store16 i64_store16 extend_u (λ n h. low_bytes_of 2 64 n (omega arith))
+
+i32_store_by_i64 : StorePair (bare 25) (record { row = 33; conversion = By (Whole ExtendI32U) })
+i32_store_by_i64 = converted_store i32_store i64_store32 extend_u (λ n h. low_bytes_of 4 64 n (omega arith))
+
 load8_splat_by_i32 : LoadPair (bare 196) (record { row = 16; conversion = By (Exact 204 None) })
 unfolding exact_operator exact_row integer_row row_at table
 load8_splat_by_i32 = converted_load v128_load8_splat i32_load8_u bytes_splat refl (λ n h. ap (λ x. splat bytes_wide x % 2 ^ 128) (sym (mod-eq_of_lt (wide_enough 8 32 n h (omega arith)))))
@@ -475,6 +493,10 @@ load32_splat_by_i32 = converted_load v128_load32_splat i32_load words_splat refl
 load64_splat_by_i64 : LoadPair (bare 199) (record { row = 12; conversion = By (Exact 207 None) })
 unfolding exact_operator exact_row integer_row row_at table
 load64_splat_by_i64 = converted_load v128_load64_splat i64_load doubles_splat refl (λ n h. ap (λ x. splat doubles_wide x % 2 ^ 128) (sym (mod-eq_of_lt h)))
+
+load64_zero_by_splat : LoadPair (bare 282) (record { row = 199; conversion = With integer.I64 0 (Exact 219 (Some 1)) })
+unfolding exact_operator exact_row integer_row row_at table
+load64_zero_by_splat = converted_load v128_load64_zero v128_load64_splat upper_zero refl (λ n h. upper_cleared n h)
 
 -- ---- signs
 
@@ -819,6 +841,14 @@ all_alike =
     ▸ f64_constant_of_bits
     ▸ vector_by_others
     ▸ vector_of_others
+    ▸ i32_store8_by_i64
+    ▸ i32_store16_by_i64
+    ▸ i32_store_by_i64
+    ▸ turned_stores i32_store8_by_i64
+    ▸ turned_stores i32_store16_by_i64
+    ▸ turned_stores i32_store_by_i64
+    ▸ load64_zero_by_splat
+    ▸ turned_loads load64_zero_by_splat
     ▸ tt
 
 pub pair_at : (n : ℕ) (a : Access) → access_at n ≡ Some a → AreAlike a

@@ -81,7 +81,7 @@ abs_is t n = let l = magnitude_lt t n in stays t (magnitude (width_of t) n) (ome
 pub abs_lt : (t : IntegerType) (n : ℕ) → abs t n < sign t
 abs_lt t n = subst (λ m. m < sign t) (sym (abs_is t n)) (magnitude_lt t n)
 
-abs_off : (t : IntegerType) (n : ℕ) → n < sign t → abs t n ≡ n
+pub abs_off : (t : IntegerType) (n : ℕ) → n < sign t → abs t n ≡ n
 abs_off t n l = abs_is t n ∙ (and_mask n (place t) ∙ mod-eq_of_lt l)
 
 abs_on : (t : IntegerType) (n : ℕ) → n < sign t → abs t (n + sign t) ≡ n

@@ -52,13 +52,13 @@ back w s = by_lanes (bits w.shape.width) w.shape.count w.fills (s w).right (s w)
 
 -- ---- operators
 
-abbrev add : Laned → Laned → Laned
+abbrev pub add : Laned → Laned → Laned
 add p q = cut (pair (λ n m. n + m) p q)
 
 abbrev mul : Laned → Laned → Laned
 mul p q = cut (pair (λ n m. n * m) p q)
 
-abbrev sub : Whole → Laned → Laned → Laned
+abbrev pub sub : Whole → Laned → Laned → Laned
 sub w p q = cut (pair (λ n m. n + (bound w - m)) p q)
 
 abbrev neg : Whole → Laned → Laned

@@ -1,9 +1,9 @@
 -- Numbers put into lanes and taken out of them.
-use Rattle.std.proofs.Common.{◌≡◌, ℕ, zero, suc, ◌+◌, ◌*◌, ◌/◌, ◌%◌, ◌^◌, ◌<◌, ◌≤◌, true, List, [], ◌∷◌, refl, sym, ap, ap₂, ◌∙◌, subst, arith, add_comm, add_assoc, mul_comm, mul_assoc, add-mul}
-use Rattle.std.specs.Prelude.{nat_lt}
+use Rattle.std.proofs.Common.{◌≡◌, ℕ, zero, suc, ◌+◌, ◌-◌, ◌*◌, ◌/◌, ◌%◌, ◌^◌, ◌<◌, ◌≤◌, true, List, [], ◌∷◌, refl, sym, ap, ap₂, ◌∙◌, subst, arith, add_comm, add_assoc, mul_comm, mul_assoc, add-mul}
+use Rattle.std.specs.Prelude.{nat_lt, bit_and}
 use Rattle.std.specs.Int.{w32, cast_signed, cast_unsigned}
 use Rattle.std.proofs.lemmas.Bool.{ltb-true}
-use Rattle.std.proofs.lemmas.Nat.{pow_pos, pow-add, shr-shr, div-mul-add, mod-mul-add, div-add-mod'}
+use Rattle.std.proofs.lemmas.Nat.{pow_pos, pow-add, and_mask, shr-shr, div-mul-add, mod-mul-add, div-add-mod'}
 use Rattle.std.proofs.Math.Nat.{mod-eq_of_lt, mod-lt, mod-mod, div-one, mul-zero, mul-suc}
 use mir.Val.{bits}
 use Rattle.wasm_types.specs.declared.types.PrimitiveTypeInfo.{PrimitiveTypeInfo}
@@ -35,6 +35,24 @@ onward t m h c us vs a e = ap ok (m.same (h 0) (a 0))
 pub homeward : (t : PrimitiveTypeInfo) (m : Moves t) (h c : ℕ → ℕ) (us vs : List ℕ) → ((n : ℕ) → IsOfKind (kind_of (of_one_type t) n) (h n)) → true ≡ true →
     ok (m.right (h 0)) ≡ ok (m.left (h 0))
 homeward t m h c us vs a e = sym (ap ok (m.same (h 0) (a 0)))
+
+-- two vectors made of a vector and of a number that are the same
+pub record Puts : Type 0 where
+  pub left : ℕ → ℕ → ℕ
+  pub right : ℕ → ℕ → ℕ
+  pub same : (n m : ℕ) → left n m ≡ right n m
+
+-- the line from left to right, whose operands are a vector and one of the type, and the one from right to left
+abbrev pub of_vector_and : PrimitiveTypeInfo → List Kind
+of_vector_and t = fixed V128 ∷ fixed t ∷ fixed t ∷ []
+
+pub onto : (t : PrimitiveTypeInfo) (p : Puts) (h c : ℕ → ℕ) (us vs : List ℕ) → ((n : ℕ) → IsOfKind (kind_of (of_vector_and t) n) (h n)) → true ≡ true →
+    ok (p.left (h 0) (h 1)) ≡ ok (p.right (h 0) (h 1))
+onto t p h c us vs a e = ap ok (p.same (h 0) (h 1))
+
+pub off : (t : PrimitiveTypeInfo) (p : Puts) (h c : ℕ → ℕ) (us vs : List ℕ) → ((n : ℕ) → IsOfKind (kind_of (of_vector_and t) n) (h n)) → true ≡ true →
+    ok (p.right (h 0) (h 1)) ≡ ok (p.left (h 0) (h 1))
+off t p h c us vs a e = sym (ap ok (p.same (h 0) (h 1)))
 
 -- numbers of the type are those of a lane
 pub record Lane (t : PrimitiveTypeInfo) : Type 0 where
@@ -154,4 +172,31 @@ replaced w lane = record {
   left = λ n. n;
   right = λ n. with_lane w.shape lane n (lane_at w.shape lane n % bound w) % 2 ^ 128;
   same = λ n l. sym (ap (λ m. m % 2 ^ 128) (put_back w lane n) ∙ mod-eq_of_lt l);
+}
+
+-- ---- a number put into a lane
+
+-- the vector with a lane's number in the lane
+abbrev pub put : (w : Whole) (lane n k : ℕ) → ℕ
+put w lane n k =
+    n / 2 ^ (bits w.shape.width * (lane + 1)) * 2 ^ (bits w.shape.width * (lane + 1))
+    + (k * 2 ^ (bits w.shape.width * lane) + n % 2 ^ (bits w.shape.width * lane))
+
+-- as the bits of a float, or of the number that has them
+abbrev pub put_bits : (w : Whole) (lane : ℕ) → Puts
+put_bits w lane = record {
+  left = λ n m. with_lane w.shape lane n m % 2 ^ 128;
+  right = λ n m. with_lane w.shape lane n (m % bound w) % 2 ^ 128;
+  same = λ n m. sym (ap (λ k. put w lane n k % 2 ^ 128) (mod-mod m (bound w)));
+}
+
+pub masked_low : (w : Whole) → bound w ≤ 2 ^ 32 → (m : ℕ) → m % bound w ≡ bit_and m (bound w - 1) % 2 ^ 32 % bound w
+masked_low w l m = low_kept w m l ∙ ap (λ k. k % 2 ^ 32 % bound w) (sym (and_mask m (bits w.shape.width)))
+
+-- cut to the bits of the lane
+abbrev pub put_masked : (w : Whole) → bound w ≤ 2 ^ 32 → (lane : ℕ) → Puts
+put_masked w l lane = record {
+  left = λ n m. with_lane w.shape lane n m % 2 ^ 128;
+  right = λ n m. with_lane w.shape lane n (bit_and m (bound w - 1) % 2 ^ 32) % 2 ^ 128;
+  same = λ n m. ap (λ k. put w lane n k % 2 ^ 128) (masked_low w l m);
 }

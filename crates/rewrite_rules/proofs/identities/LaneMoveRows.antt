@@ -4,14 +4,14 @@ use Rattle.wasm_code.specs.Table.{table, row_at}
 use Rattle.peephole_machine.specs.ExactRow.{exact_row}
 use Rattle.peephole_machine.specs.IntegerRow.{integer_row}
 use Rattle.peephole_machine.specs.Lanes.{each_lane, each_pair}
-use Rattle.rewrite_rules.specs.declared.table.TheConstants.{LANE_SPLATS, LANE_BITS, SPLAT_BITS, SIGNED_LANES, EXTENDED_LANES}
+use Rattle.rewrite_rules.specs.declared.table.TheConstants.{LANE_SPLATS, LANE_BITS, SPLAT_BITS, SIGNED_LANES, EXTENDED_LANES, REPLACED_BITS, MASKED_LANES, UNMASKED_LANES}
 use Rattle.rewrite_rules.specs.Exact.{exact_operator}
 use Rattle.rewrite_rules.specs.Line.{IsRight}
 use Rattle.rewrite_rules.specs.Table.{rows_of}
 use Rattle.rewrite_rules.proofs.identities.RowLemmas.{AtRows, ◌▸◌}
 use Rattle.rewrite_rules.proofs.identities.LaneIdentities.{bytes, halves, words, doubles}
 use Rattle.rewrite_rules.proofs.identities.LaneMoveIdentities as moved
-use Rattle.rewrite_rules.proofs.identities.LaneMoveIdentities.{i32, i64, f32, f64, onward, homeward}
+use Rattle.rewrite_rules.proofs.identities.LaneMoveIdentities.{i32, i64, f32, f64, onward, homeward, onto, off}
 use Rattle.wasm_types.specs.declared.types.PrimitiveTypeInfo.TheVariants.{I32, I64, F32, F64, V128}
 
 pub splats_right : AtRows IsRight (rows_of LANE_SPLATS)
@@ -93,4 +93,41 @@ extended_lanes_right =
     ▸ homeward V128 (moved.signed_lane halves (lit≤ tt) 2) ▸ homeward V128 (moved.signed_lane halves (lit≤ tt) 3)
     ▸ homeward V128 (moved.signed_lane halves (lit≤ tt) 4) ▸ homeward V128 (moved.signed_lane halves (lit≤ tt) 5)
     ▸ homeward V128 (moved.signed_lane halves (lit≤ tt) 6) ▸ homeward V128 (moved.signed_lane halves (lit≤ tt) 7)
+    ▸ tt
+
+pub replaced_bits_right : AtRows IsRight (rows_of REPLACED_BITS)
+unfolding exact_operator exact_row integer_row row_at table each_lane each_pair
+replaced_bits_right =
+    onto F32 (moved.put_bits words 0) ▸ onto F32 (moved.put_bits words 1) ▸ onto F32 (moved.put_bits words 2) ▸ onto F32 (moved.put_bits words 3)
+    ▸ onto F64 (moved.put_bits doubles 0) ▸ onto F64 (moved.put_bits doubles 1) ▸ off F32 (moved.put_bits words 0) ▸ off F32 (moved.put_bits words 1)
+    ▸ off F32 (moved.put_bits words 2) ▸ off F32 (moved.put_bits words 3) ▸ off F64 (moved.put_bits doubles 0) ▸ off F64 (moved.put_bits doubles 1)
+    ▸ onto I32 (moved.put_bits words 0) ▸ onto I32 (moved.put_bits words 1) ▸ onto I32 (moved.put_bits words 2) ▸ onto I32 (moved.put_bits words 3)
+    ▸ onto I64 (moved.put_bits doubles 0) ▸ onto I64 (moved.put_bits doubles 1) ▸ off I32 (moved.put_bits words 0) ▸ off I32 (moved.put_bits words 1)
+    ▸ off I32 (moved.put_bits words 2) ▸ off I32 (moved.put_bits words 3) ▸ off I64 (moved.put_bits doubles 0) ▸ off I64 (moved.put_bits doubles 1)
+    ▸ tt
+
+pub masked_lanes_right : AtRows IsRight (rows_of MASKED_LANES)
+unfolding exact_operator exact_row integer_row row_at table each_lane each_pair
+masked_lanes_right =
+    onto I32 (moved.put_masked bytes (lit≤ tt) 0) ▸ onto I32 (moved.put_masked bytes (lit≤ tt) 1) ▸ onto I32 (moved.put_masked bytes (lit≤ tt) 2)
+    ▸ onto I32 (moved.put_masked bytes (lit≤ tt) 3) ▸ onto I32 (moved.put_masked bytes (lit≤ tt) 4) ▸ onto I32 (moved.put_masked bytes (lit≤ tt) 5)
+    ▸ onto I32 (moved.put_masked bytes (lit≤ tt) 6) ▸ onto I32 (moved.put_masked bytes (lit≤ tt) 7) ▸ onto I32 (moved.put_masked bytes (lit≤ tt) 8)
+    ▸ onto I32 (moved.put_masked bytes (lit≤ tt) 9) ▸ onto I32 (moved.put_masked bytes (lit≤ tt) 10) ▸ onto I32 (moved.put_masked bytes (lit≤ tt) 11)
+    ▸ onto I32 (moved.put_masked bytes (lit≤ tt) 12) ▸ onto I32 (moved.put_masked bytes (lit≤ tt) 13) ▸ onto I32 (moved.put_masked bytes (lit≤ tt) 14)
+    ▸ onto I32 (moved.put_masked bytes (lit≤ tt) 15) ▸ onto I32 (moved.put_masked halves (lit≤ tt) 0) ▸ onto I32 (moved.put_masked halves (lit≤ tt) 1)
+    ▸ onto I32 (moved.put_masked halves (lit≤ tt) 2) ▸ onto I32 (moved.put_masked halves (lit≤ tt) 3) ▸ onto I32 (moved.put_masked halves (lit≤ tt) 4)
+    ▸ onto I32 (moved.put_masked halves (lit≤ tt) 5) ▸ onto I32 (moved.put_masked halves (lit≤ tt) 6) ▸ onto I32 (moved.put_masked halves (lit≤ tt) 7)
+    ▸ tt
+
+pub unmasked_lanes_right : AtRows IsRight (rows_of UNMASKED_LANES)
+unfolding exact_operator exact_row integer_row row_at table each_lane each_pair
+unmasked_lanes_right =
+    off I32 (moved.put_masked bytes (lit≤ tt) 0) ▸ off I32 (moved.put_masked bytes (lit≤ tt) 1) ▸ off I32 (moved.put_masked bytes (lit≤ tt) 2)
+    ▸ off I32 (moved.put_masked bytes (lit≤ tt) 3) ▸ off I32 (moved.put_masked bytes (lit≤ tt) 4) ▸ off I32 (moved.put_masked bytes (lit≤ tt) 5)
+    ▸ off I32 (moved.put_masked bytes (lit≤ tt) 6) ▸ off I32 (moved.put_masked bytes (lit≤ tt) 7) ▸ off I32 (moved.put_masked bytes (lit≤ tt) 8)
+    ▸ off I32 (moved.put_masked bytes (lit≤ tt) 9) ▸ off I32 (moved.put_masked bytes (lit≤ tt) 10) ▸ off I32 (moved.put_masked bytes (lit≤ tt) 11)
+    ▸ off I32 (moved.put_masked bytes (lit≤ tt) 12) ▸ off I32 (moved.put_masked bytes (lit≤ tt) 13) ▸ off I32 (moved.put_masked bytes (lit≤ tt) 14)
+    ▸ off I32 (moved.put_masked bytes (lit≤ tt) 15) ▸ off I32 (moved.put_masked halves (lit≤ tt) 0) ▸ off I32 (moved.put_masked halves (lit≤ tt) 1)
+    ▸ off I32 (moved.put_masked halves (lit≤ tt) 2) ▸ off I32 (moved.put_masked halves (lit≤ tt) 3) ▸ off I32 (moved.put_masked halves (lit≤ tt) 4)
+    ▸ off I32 (moved.put_masked halves (lit≤ tt) 5) ▸ off I32 (moved.put_masked halves (lit≤ tt) 6) ▸ off I32 (moved.put_masked halves (lit≤ tt) 7)
     ▸ tt

@@ -77,7 +77,7 @@ module _ (b : ℕ) where
   lanes_fit f zero n = pow_pos (b * zero)
   lanes_fit f (suc c) n = one_more c (each_lane b f c (n / 2 ^ b)) (f (n % 2 ^ b) % 2 ^ b) (lanes_fit f c (n / 2 ^ b)) (lane_fits (f (n % 2 ^ b)))
 
-  pairs_fit : (f : ℕ → ℕ → ℕ) (c n m : ℕ) → each_pair b f c n m < 2 ^ (b * c)
+  pub pairs_fit : (f : ℕ → ℕ → ℕ) (c n m : ℕ) → each_pair b f c n m < 2 ^ (b * c)
   unfolding each_pair
   pairs_fit f zero n m = pow_pos (b * zero)
   pairs_fit f (suc c) n m =

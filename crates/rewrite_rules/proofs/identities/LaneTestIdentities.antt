@@ -53,13 +53,13 @@ abbrev pub ge_u : Test
 ge_u s n m = nat_le m n
 
 -- lanes of ones where it holds
-abbrev tested : Test → Whole → Laned → Laned → Laned
+abbrev pub tested : Test → Whole → Laned → Laned → Laned
 tested f w p q = cut (pair (λ n m. mask w.shape.width (f w.shape n m)) p q)
 
 abbrev full : Whole → Laned
 full w = all (bound w - 1)
 
-abbrev no : Whole → Laned → Laned
+abbrev pub no : Whole → Laned → Laned
 no w p = cut (differ (full w) p)
 
 -- ---- turned
@@ -120,11 +120,11 @@ opposite f g k w = record {
 -- ---- the smaller and the greater one
 
 -- the first where the test holds, else the second
-abbrev picked : Test → Whole → Laned → Laned → Laned
+abbrev pub picked : Test → Whole → Laned → Laned → Laned
 picked f w p q = cut (pair (λ n m. if f w.shape n m then n else m) p q)
 
 -- the other way round
-abbrev passed : Test → Whole → Laned → Laned → Laned
+abbrev pub passed : Test → Whole → Laned → Laned → Laned
 passed f w p q = cut (pair (λ n m. if f w.shape n m then m else n) p q)
 
 -- numbers are the same where both are below the other, and where neither is
@@ -200,7 +200,7 @@ greater_of_same f w = record {
 
 -- ---- as a selection by the lanes of a test
 
-abbrev chosen : Whole → Laned → Laned → Laned → Laned
+abbrev pub chosen : Whole → Laned → Laned → Laned → Laned
 chosen w p q r = cut (either (both p r) (both q (differ (full w) r)))
 
 in_full : (w : Whole) (n : ℕ) → bit_and n ((bound w - 1) % bound w) ≡ n % bound w

@@ -21,7 +21,7 @@ use Rattle.rewrite_rules.specs.declared.table.Widths.TheVariants.{Both, Only, An
 use Rattle.rewrite_rules.specs.declared.table.Row.{Row}
 use Rattle.rewrite_rules.specs.Exact.{exact_operator}
 use Rattle.rewrite_rules.specs.Line.{Line, is_formed, IsRight}
-use Rattle.rewrite_rules.specs.declared.table.TheConstants.{ACCESS_BITS, ACCESS_WIDTHS, LOAD_SIGNS, STORE_SIGNS, ALIGNMENTS, CONSTANTS}
+use Rattle.rewrite_rules.specs.declared.table.TheConstants.{ACCESS_BITS, ACCESS_WIDTHS, LOAD_SIGNS, STORE_SIGNS, ALIGNMENTS, CONSTANTS, WIDE_ACCESSES}
 use Rattle.rewrite_rules.specs.Table.{Entry, row_in, parts, rows_of, joined, ROWS, width_by, line_of, widths_in, lines_of, OfEachLine}
 use Rattle.rewrite_rules.specs.Laws.{LinesKeepCode, TableIsRight}
 use Rattle.rewrite_rules.proofs.PassLemmas.{passes, passes_at}
@@ -35,6 +35,13 @@ use Rattle.rewrite_rules.proofs.identities.ExtensionRows as extension
 use Rattle.rewrite_rules.proofs.identities.SignTestIdentities as sign_test
 use Rattle.rewrite_rules.proofs.identities.UndoneRows as undone
 use Rattle.rewrite_rules.proofs.identities.HalfIdentities as half
+use Rattle.rewrite_rules.proofs.identities.FloatLaneRows as float_lane
+use Rattle.rewrite_rules.proofs.identities.SaturationRows as saturation
+use Rattle.rewrite_rules.proofs.identities.LaneCountIdentities as lane_count
+use Rattle.rewrite_rules.proofs.identities.SwizzleIdentities as swizzle
+use Rattle.rewrite_rules.proofs.identities.NarrowingIdentities as narrowing
+use Rattle.rewrite_rules.proofs.identities.LaneConversionIdentities as lane_conversion
+use Rattle.rewrite_rules.proofs.identities.ConversionIdentities as conversion
 use Rattle.rewrite_rules.proofs.identities.PowerTestIdentities as power_test
 use Rattle.rewrite_rules.proofs.identities.ComparisonNumbers as opposite
 use Rattle.rewrite_rules.proofs.identities.SignNumbers as sign
@@ -567,6 +574,19 @@ vector_rows_right =
     ▸ count.zero_counts_right
     ▸ half.halves_right
     ▸ undone.undone_right
+    ▸ float_lane.orders_right
+    ▸ float_lane.opposites_right
+    ▸ float_lane.choices_right
+    ▸ saturation.saturated_right
+    ▸ lane_count.lane_counts_right
+    ▸ narrowing.narrowed_right
+    ▸ lane_conversion.lane_conversions_right
+    ▸ conversion.conversions_right
+    ▸ moves.replaced_bits_right
+    ▸ moves.masked_lanes_right
+    ▸ moves.unmasked_lanes_right
+    ▸ swizzle.swizzles_right
+    ▸ own_right WIDE_ACCESSES refl
     ▸ tt
 
 -- all of them

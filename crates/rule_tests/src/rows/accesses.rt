@@ -187,4 +187,26 @@ drop_complement_of_constant | v128.const 5; v128.not | 1 | i32 | v128.const -6
 drop_complement_of_constant | v128.const 0; v128.not; drop | 1 | i32 | v128.const -1; drop
 drop_complement_of_constant | v128.const 5 | 0 | i32 | -
 drop_complement_of_constant | local.get 6; v128.not | 1 | i32 | -
+# store_wide, drop_widening_of_stored: the bytes that are stored are those below.
+store_wide | local.get 0; local.get 1; i32.store8 0 | 2 | i32 | local.get 0; local.get 1; i64.extend_i32_u; i64.store8 0
+store_wide | local.get 0; local.get 1; i32.store16 1 3; nop | 2 | i32 | local.get 0; local.get 1; i64.extend_i32_u; i64.store16 1 3; nop
+store_wide | local.get 0; i32.const 7; local.tee 1; i32.store 2 9 | 3 | i32 | local.get 0; i32.const 7; local.tee 1; i64.extend_i32_u; i64.store32 2 9
+store_wide | local.get 0; local.get 2; i64.store32 | 2 | i32 | -
+store_wide | local.get 0; local.get X; F.store | 2 | i32 | -
+store_wide | local.get 0; i32.load | 1 | i32 | -
+drop_widening_of_stored | local.get 0; local.get 1; i64.extend_i32_u; i64.store8 0 | 3 | i32 | local.get 0; local.get 1; i32.store8 0
+drop_widening_of_stored | local.get 0; local.get 1; i64.extend_i32_u; i64.store16 1 3; nop | 3 | i32 | local.get 0; local.get 1; i32.store16 1 3; nop
+drop_widening_of_stored | local.get 0; local.get 1; i64.extend_i32_u; i64.store32 2 9 | 3 | i32 | local.get 0; local.get 1; i32.store 2 9
+drop_widening_of_stored | local.get 0; local.get 1; i64.extend_i32_s; i64.store32 | 3 | i32 | -
+drop_widening_of_stored | local.get 0; local.get 1; i64.extend_i32_u; i64.store 3 | 3 | i32 | -
+drop_widening_of_stored | local.get 0; local.get 2; i64.store8 0 | 2 | i32 | -
+# load_zero_by_splat, splat_to_load_zero: the upper half is put to zero.
+load_zero_by_splat | local.get 0; v128.load64_zero 3 5 | 1 | i32 | local.get 0; v128.load64_splat 3 5; i64.const 0; i64x2.replace_lane 1
+load_zero_by_splat | local.get 0; v128.load32_zero | 1 | i32 | -
+load_zero_by_splat | local.get 0; v128.load64_splat 3 | 1 | i32 | -
+splat_to_load_zero | local.get 0; v128.load64_splat 0 8; i64.const 0; i64x2.replace_lane 1; drop | 3 | i32 | local.get 0; v128.load64_zero 0 8; drop
+splat_to_load_zero | local.get 0; v128.load64_splat; i64.const 1; i64x2.replace_lane 1 | 3 | i32 | -
+splat_to_load_zero | local.get 0; v128.load64_splat; i64.const 0; i64x2.replace_lane 0 | 3 | i32 | -
+splat_to_load_zero | local.get 0; v128.load64_splat; nop; i64.const 0; i64x2.replace_lane 1 | 4 | i32 | -
+splat_to_load_zero | local.get 0; v128.load32_splat; i64.const 0; i64x2.replace_lane 1 | 3 | i32 | -
 ";

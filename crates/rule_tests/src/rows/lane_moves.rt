@@ -99,4 +99,34 @@ extract_signed_lane | v128.const 7; i8x16.extract_lane_s 3; i32.extend8_s | 2 | 
 extract_signed_lane | v128.const 7; i16x8.extract_lane_s 3; i32.extend16_s | 2 | i32 | -
 extract_signed_lane | v128.const 7; i32x4.extract_lane 3; i32.extend16_s | 2 | i32 | -
 extract_signed_lane | v128.const 7; i64x2.extract_lane 1; i64.extend8_s | 2 | i32 | -
+# replace_float_lane_to_bits, replace_lane_to_float: both operands may do anything.
+replace_float_lane_to_bits | local.get 6; local.get 4; f32x4.replace_lane C | 2 | i32 | local.get 6; local.get 4; i32.reinterpret_f32; i32x4.replace_lane C
+replace_float_lane_to_bits | local.get 6; local.get 5; f64x2.replace_lane D | 2 | i32 | local.get 6; local.get 5; i64.reinterpret_f64; i64x2.replace_lane D
+replace_float_lane_to_bits | local.get 9; local.tee 6; local.get X; G.replace_lane D | 3 | i32 | local.get 9; local.tee 6; local.get X; T.reinterpret_F; H.replace_lane D
+replace_float_lane_to_bits | local.get 6; local.get 0; i32x4.replace_lane C | 2 | i32 | -
+replace_lane_to_float | local.get 6; local.get 0; i32x4.replace_lane C | 2 | i32 | local.get 6; local.get 0; f32.reinterpret_i32; f32x4.replace_lane C
+replace_lane_to_float | local.get 6; local.get 2; i64x2.replace_lane D | 2 | i32 | local.get 6; local.get 2; f64.reinterpret_i64; f64x2.replace_lane D
+replace_lane_to_float | local.get 6; local.get 0; call 0; i32x4.replace_lane 3 | 3 | i32 | local.get 6; local.get 0; call 0; f32.reinterpret_i32; f32x4.replace_lane 3
+replace_lane_to_float | local.get 6; local.get 0; i16x8.replace_lane B | 2 | i32 | -
+replace_lane_to_float | local.get 6; local.get X; G.replace_lane D | 2 | i32 | -
+# bits_to_replace_float_lane, float_to_replace_lane
+bits_to_replace_float_lane | local.get 6; local.get 4; i32.reinterpret_f32; i32x4.replace_lane C | 3 | i32 | local.get 6; local.get 4; f32x4.replace_lane C
+bits_to_replace_float_lane | local.get 6; local.get 5; i64.reinterpret_f64; i64x2.replace_lane D | 3 | i32 | local.get 6; local.get 5; f64x2.replace_lane D
+bits_to_replace_float_lane | local.get 6; local.get 4; i32.trunc_sat_f32_s; i32x4.replace_lane C | 3 | i32 | -
+bits_to_replace_float_lane | local.get 6; local.get 4; i32.reinterpret_f32; i16x8.replace_lane B | 3 | i32 | -
+float_to_replace_lane | local.get 6; local.get 0; f32.reinterpret_i32; f32x4.replace_lane C | 3 | i32 | local.get 6; local.get 0; i32x4.replace_lane C
+float_to_replace_lane | local.get 6; local.get 2; f64.reinterpret_i64; f64x2.replace_lane D | 3 | i32 | local.get 6; local.get 2; i64x2.replace_lane D
+float_to_replace_lane | local.get 6; local.get 0; f32.convert_i32_s; f32x4.replace_lane C | 3 | i32 | -
+float_to_replace_lane | local.get 6; local.get X; G.replace_lane D | 2 | i32 | -
+# mask_replaced_lane, drop_mask_of_replaced_lane: both operands may do anything.
+mask_replaced_lane | local.get 6; local.get 0; i8x16.replace_lane A | 2 | i32 | local.get 6; local.get 0; i32.const 255; i32.and; i8x16.replace_lane A
+mask_replaced_lane | local.get 6; local.get 0; i16x8.replace_lane B | 2 | i32 | local.get 6; local.get 0; i32.const 65535; i32.and; i16x8.replace_lane B
+mask_replaced_lane | local.get 6; local.get 0; call 0; i8x16.replace_lane 9 | 3 | i32 | local.get 6; local.get 0; call 0; i32.const 255; i32.and; i8x16.replace_lane 9
+mask_replaced_lane | local.get 6; local.get 0; i32x4.replace_lane C | 2 | i32 | -
+mask_replaced_lane | local.get 6; i8x16.extract_lane_U 3 | 1 | i32 | -
+drop_mask_of_replaced_lane | local.get 6; local.get 0; i32.const 255; i32.and; i8x16.replace_lane A | 4 | i32 | local.get 6; local.get 0; i8x16.replace_lane A
+drop_mask_of_replaced_lane | local.get 6; local.get 0; i32.const 65535; i32.and; i16x8.replace_lane B | 4 | i32 | local.get 6; local.get 0; i16x8.replace_lane B
+drop_mask_of_replaced_lane | local.get 6; local.get 0; i32.const 254; i32.and; i8x16.replace_lane 3 | 4 | i32 | -
+drop_mask_of_replaced_lane | local.get 6; local.get 0; i32.const 255; i32.and; i16x8.replace_lane 3 | 4 | i32 | -
+drop_mask_of_replaced_lane | local.get 6; local.get 0; i32.const 255; i32.or; i8x16.replace_lane 3 | 4 | i32 | -
 ";

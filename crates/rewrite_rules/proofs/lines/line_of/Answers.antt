@@ -272,5 +272,57 @@ pub returns-in-66 : goal.returns-in-66
 unfolding parts
 returns-in-66 c = c.in_undone.ensures ∙ ap (λ part. slice_get (part_at part) c.args.number) (sym c.in-66.is)
 
+pub returns-in-67 : goal.returns-in-67
+unfolding parts
+returns-in-67 c = c.in_float_lane_orders.ensures ∙ ap (λ part. slice_get (part_at part) c.args.number) (sym c.in-67.is)
+
+pub returns-in-68 : goal.returns-in-68
+unfolding parts
+returns-in-68 c = c.in_float_lane_opposites.ensures ∙ ap (λ part. slice_get (part_at part) c.args.number) (sym c.in-68.is)
+
+pub returns-in-69 : goal.returns-in-69
+unfolding parts
+returns-in-69 c = c.in_float_lane_choices.ensures ∙ ap (λ part. slice_get (part_at part) c.args.number) (sym c.in-69.is)
+
+pub returns-in-70 : goal.returns-in-70
+unfolding parts
+returns-in-70 c = c.in_saturated_lanes.ensures ∙ ap (λ part. slice_get (part_at part) c.args.number) (sym c.in-70.is)
+
+pub returns-in-71 : goal.returns-in-71
+unfolding parts
+returns-in-71 c = c.in_lane_counts.ensures ∙ ap (λ part. slice_get (part_at part) c.args.number) (sym c.in-71.is)
+
+pub returns-in-72 : goal.returns-in-72
+unfolding parts
+returns-in-72 c = c.in_narrowed_lanes.ensures ∙ ap (λ part. slice_get (part_at part) c.args.number) (sym c.in-72.is)
+
+pub returns-in-73 : goal.returns-in-73
+unfolding parts
+returns-in-73 c = c.in_lane_conversions.ensures ∙ ap (λ part. slice_get (part_at part) c.args.number) (sym c.in-73.is)
+
+pub returns-in-74 : goal.returns-in-74
+unfolding parts
+returns-in-74 c = c.in_conversions.ensures ∙ ap (λ part. slice_get (part_at part) c.args.number) (sym c.in-74.is)
+
+pub returns-in-75 : goal.returns-in-75
+unfolding parts
+returns-in-75 c = c.in_replaced_bits.ensures ∙ ap (λ part. slice_get (part_at part) c.args.number) (sym c.in-75.is)
+
+pub returns-in-76 : goal.returns-in-76
+unfolding parts
+returns-in-76 c = c.in_masked_lanes.ensures ∙ ap (λ part. slice_get (part_at part) c.args.number) (sym c.in-76.is)
+
+pub returns-in-77 : goal.returns-in-77
+unfolding parts
+returns-in-77 c = c.in_unmasked_lanes.ensures ∙ ap (λ part. slice_get (part_at part) c.args.number) (sym c.in-77.is)
+
+pub returns-in-78 : goal.returns-in-78
+unfolding parts
+returns-in-78 c = c.in_swizzles.ensures ∙ ap (λ part. slice_get (part_at part) c.args.number) (sym c.in-78.is)
+
+pub returns-in-79 : goal.returns-in-79
+unfolding parts
+returns-in-79 c = c.in_wide_accesses.ensures ∙ ap (λ part. slice_get (part_at part) c.args.number) (sym c.in-79.is)
+
 pub returns-in_default : goal.returns-in_default
 returns-in_default c = elsewhere c.args.part c.args.number (omega arith)
