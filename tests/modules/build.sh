@@ -37,6 +37,7 @@ outside:
 shared:
 patterns:
 forms:
+undone:
 floats:
 vectors:
 newer/tails:
