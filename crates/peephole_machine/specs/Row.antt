@@ -119,9 +119,13 @@ abbrev pub count_in : Option (List Operand) → ℕ
 count_in None = 0
 count_in (Some os) = length os
 
+-- how many operands an instruction takes, by its operand column
+abbrev pub column_count : Module → Instruction → ℕ
+column_count info i = count_in (operands_in (names_in info i.imm) (column_in (row_at i.row)))
+
 -- how many operands a row takes, of another instruction by its operand column
 abbrev pub count_by : Module → IntegerRow → ℕ
-count_by info (other i) = count_in (operands_in (names_in info i.imm) (column_in (row_at i.row)))
+count_by info (other i) = column_count info i
 count_by info row = operand_count info row
 
 -- how many operands an instruction takes, of a module with what it names

@@ -1,12 +1,11 @@
 //! What the instructions take and give that are no integer rows.
 ghost use Rattle.std.specs.Prelude.{◌≡◌, Some, option_map, option_and_then, option_copied};
-ghost use Rattle.wasm_code.specs.Table.{row_at};
 ghost use Rattle.wasm_types.specs.Module.{merged};
 ghost use Rattle.peephole_machine.specs.declared.operand.OperandColumn.{OperandColumn};
 ghost use Rattle.peephole_machine.specs.declared.operand.OperandColumn.TheVariants as column;
-ghost use Rattle.peephole_machine.specs.OtherRow.{address_in, address_type, column_in, element_type, first_index, index_in, named_type, names_in, operand_by, operands_in, parameters, reference_type, results_by, returned, second_index, smaller, typed, value_type};
+ghost use Rattle.peephole_machine.specs.OtherRow.{address_in, address_type, element_type, first_index, index_in, named_type, names_in, operand_by, operands_in, parameters, reference_type, results_by, returned, second_index, smaller, typed, value_type};
 ghost use Rattle.peephole_machine.specs.Values.{accepts, is_reference, other_types};
-ghost use Rattle.peephole_machine.specs.Row.{accept_in, accept_parameters, at_most_one, count_in, element_in};
+ghost use Rattle.peephole_machine.specs.Row.{accept_in, accept_parameters, at_most_one, column_count, count_in, element_in};
 
 use crate::operand::{OperandColumn, OperandKind, operand_column};
 use crate::row::{same_type, same_types};
@@ -363,8 +362,7 @@ fn column_count(info: &ModuleInfo<'_>, imm: Imm, column: OperandColumn) -> usize
 /// How many operands an instruction takes that is no integer row: on any other number of them it has no types. 0 of one that has
 /// no types on any operands.
 pub(crate) fn other_count(info: &ModuleInfo<'_>, instr: &Instr) -> usize
-    ensures { result
-        ≡ count_in (operands_in (names_in info.now instr.now.imm) (column_in (row_at instr.now.row))) }
+    ensures { result ≡ column_count info.now instr.now }
 {
     column_count(info, instr.imm(), operand_column(instr.row()))
 }
