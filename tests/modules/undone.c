@@ -92,6 +92,7 @@ uint64_t lanes(uint32_t x, uint64_t y)
     digest = taken(digest, equal.all);
     digest = taken(digest, smaller.all);
     digest = taken(digest, smaller.all);
+    digest = taken(digest, smaller.all);
     digest = taken(digest, difference.all);
     digest = taken(digest, sum.all);
     digest = taken(digest, product.all);

@@ -72,6 +72,7 @@
     (call $taken_v128 (f32x4.eq (local.get $a) (local.get $b)))
     (call $taken_v128 (f32x4.pmin (local.get $a) (local.get $b)))
     (call $taken_v128 (v128.bitselect (local.get $b) (local.get $a) (f32x4.lt (local.get $b) (local.get $a))))
+    (call $taken_v128 (f32x4.neg (f32x4.pmax (f32x4.neg (local.get $a)) (f32x4.neg (local.get $b)))))
     (call $taken_v128 (i8x16.sub (i8x16.max_u (local.get $a) (local.get $b)) (local.get $b)))
     (call $taken_v128 (i8x16.add (i8x16.min_u (local.get $a) (v128.not (local.get $b))) (local.get $b)))
     (call $taken_v128 (i16x8.max_s (i16x8.q15mulr_sat_s (local.get $a) (local.get $b)) (i16x8.splat (i32.const 32769))))

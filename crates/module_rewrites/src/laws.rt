@@ -102,7 +102,8 @@ pub fn rewrites_go_on()
         → ChoosesTimes scope between middle second new stopped
         → ChoosesTimes scope bytes stream (first ++ second) new stopped }
     ensures front { (scope : Scope) (bytes new : List ℕ) (stream after : Stream)
-        (first second : List MadeRewrite) → ChoosesEach scope bytes stream (first ++ second) new after
+        (first second : List MadeRewrite)
+        → ChoosesEach scope bytes stream (first ++ second) new after
         → (between : List ℕ) × (middle : Stream)
         × ChoosesEach scope bytes stream first between middle
         × ChoosesEach scope between middle second new after }

@@ -122,7 +122,8 @@ pub fn rewrite_module<R: Rng, W: Watch>(
     ensures mutated { IfOk result (λ m.
         Mutates scope.now count bytes.now m.made.items m.bytes.items m.stopped) }
     // It is valid where the old one was, and its functions do what they did, in every sound embedder, or in every exact one.
-    ensures does_as_before { IfOk result (λ m. DoesAsBefore scope.now.exact bytes.now m.bytes.items) }
+    ensures does_as_before { IfOk result (λ m.
+        DoesAsBefore scope.now.exact bytes.now m.bytes.items) }
     // Each rewrite is the one that the generator's words choose from where the last one left it.
     ensures chosen { IfOk result (λ m. ChoosesTimes scope.now bytes.now
         (R.stream generator.old) m.made.items m.bytes.items m.stopped) }

@@ -22,7 +22,7 @@ none_past [] part n l = refl
 none_past (es ∷ lists) zero n l = absurd (omega arith)
 none_past (es ∷ lists) (suc part) n l = none_past lists part n (omega arith)
 
-pub elsewhere : (part n : ℕ) → 80 ≤ part → None ≡ slice_get (part_at part) n
+pub elsewhere : (part n : ℕ) → 81 ≤ part → None ≡ slice_get (part_at part) n
 unfolding parts
 elsewhere part n l = none_past parts part n l
 
@@ -61,6 +61,6 @@ behind_part part n l =
     let e : suc part ≡ part + 1 = omega arith in
     behind parts part n l ∙ ap (λ m. slice_get (joined (drop m parts)) (n - length (part_at part))) e
 
-pub behind_all : (part n : ℕ) → 80 ≤ part → slice_get (joined (drop part parts)) n ≡ None
+pub behind_all : (part n : ℕ) → 81 ≤ part → slice_get (joined (drop part parts)) n ≡ None
 unfolding parts
 behind_all part n l = ap (λ lists. slice_get (joined lists) n) (drop_all part parts l)

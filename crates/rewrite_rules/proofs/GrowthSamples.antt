@@ -59,7 +59,7 @@ shrinking =
     codes "bound_to_saturated_sum" ∷ codes "drop_bound_of_rounded_product" ∷ codes "drop_mask_of_lane_shift_count" ∷
     codes "drop_bound_of_narrowed_lanes" ∷ codes "truncate_one_lane" ∷ codes "convert_one_lane" ∷ codes "drop_widening_of_converted" ∷
     codes "drop_magnitude_of_converted" ∷ codes "bits_to_replace_float_lane" ∷ codes "float_to_replace_lane" ∷
-    codes "drop_mask_of_replaced_lane" ∷ codes "drop_bound_of_swizzle" ∷ []
+    codes "drop_mask_of_replaced_lane" ∷ codes "drop_bound_of_swizzle" ∷ codes "drop_negatives_of_pseudo_bound" ∷ []
 
 keeping : List (List ℕ)
 keeping =

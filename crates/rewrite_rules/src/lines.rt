@@ -7,15 +7,16 @@ ghost use Rattle.rewrite_rules.specs.Names.{begin_at};
 use crate::table::{
     ABSORBED, ACCESS_BITS, ACCESS_WIDTHS, AGAIN, ALIGNMENTS, ALONE, BACK, CONSTANTS, CONVERSIONS,
     COUNTED, EQUALS, EXTENDED_LANES, EXTENSION_MASKS, EXTENSION_MOVES, EXTENSIONS, FLOAT_BITS,
-    FLOAT_COPIES, FLOAT_LANE_CHOICES, FLOAT_LANE_OPPOSITES, FLOAT_LANE_ORDERS, FLOAT_ORDERS,
-    FLOAT_SELVES, FLOAT_SIGNS, FLOAT_TESTS, FLOAT_TURNS, FLOATS, FORMS, FRONT, GROUPS, HALVES,
-    LANE_BITS, LANE_BOUNDS, LANE_CHOICES, LANE_COMPLEMENTS, LANE_CONVERSIONS, LANE_COUNTS,
-    LANE_FLOATS, LANE_MAGNITUDES, LANE_NEGATIVES, LANE_OPPOSITES, LANE_ORDERS, LANE_REPEATS,
-    LANE_SHIFTS, LANE_SPLATS, LANE_SUMS, LANE_TURNS, LANE_ZEROS, LOAD_SIGNS, LONGER, MASKED_LANES,
-    NARROWED_LANES, NEUTRAL, OPPOSITES, ORDERS, PARTS, POWER_TESTS, POWERS, REPLACED_BITS, Row,
-    SATURATED_LANES, SETTLED, SHORTER, SIGN_TESTS, SIGNED_LANES, SIGNS, SPLAT_BITS, STORE_SIGNS,
-    SWIZZLES, TESTS, TURNED, TWICE, TableLine, UNDONE, UNMASKED_LANES, VECTOR_BITS, VECTOR_DECIDED,
-    VECTOR_FORMS, WIDE_ACCESSES, WIDE_COMPLEMENTS, WIDE_OPPOSITES, WIDE_ORDERS, ZERO_COUNTS,
+    FLOAT_COPIES, FLOAT_LANE_BOUNDS, FLOAT_LANE_CHOICES, FLOAT_LANE_OPPOSITES, FLOAT_LANE_ORDERS,
+    FLOAT_ORDERS, FLOAT_SELVES, FLOAT_SIGNS, FLOAT_TESTS, FLOAT_TURNS, FLOATS, FORMS, FRONT,
+    GROUPS, HALVES, LANE_BITS, LANE_BOUNDS, LANE_CHOICES, LANE_COMPLEMENTS, LANE_CONVERSIONS,
+    LANE_COUNTS, LANE_FLOATS, LANE_MAGNITUDES, LANE_NEGATIVES, LANE_OPPOSITES, LANE_ORDERS,
+    LANE_REPEATS, LANE_SHIFTS, LANE_SPLATS, LANE_SUMS, LANE_TURNS, LANE_ZEROS, LOAD_SIGNS, LONGER,
+    MASKED_LANES, NARROWED_LANES, NEUTRAL, OPPOSITES, ORDERS, PARTS, POWER_TESTS, POWERS,
+    REPLACED_BITS, Row, SATURATED_LANES, SETTLED, SHORTER, SIGN_TESTS, SIGNED_LANES, SIGNS,
+    SPLAT_BITS, STORE_SIGNS, SWIZZLES, TESTS, TURNED, TWICE, TableLine, UNDONE, UNMASKED_LANES,
+    VECTOR_BITS, VECTOR_DECIDED, VECTOR_FORMS, WIDE_ACCESSES, WIDE_COMPLEMENTS, WIDE_OPPOSITES,
+    WIDE_ORDERS, ZERO_COUNTS,
 };
 
 // The lines of each constant, each of which stands once in memory.
@@ -178,6 +179,8 @@ static UNMASKED_LANES_LINES: [TableLine; UNMASKED_LANES.len()] = UNMASKED_LANES;
 static SWIZZLES_LINES: [TableLine; SWIZZLES.len()] = SWIZZLES;
 
 static WIDE_ACCESSES_LINES: [TableLine; WIDE_ACCESSES.len()] = WIDE_ACCESSES;
+
+static FLOAT_LANE_BOUNDS_LINES: [TableLine; FLOAT_LANE_BOUNDS.len()] = FLOAT_LANE_BOUNDS;
 
 // The line with that number among these.
 fn line_in(lines: &'static [TableLine], number: usize) -> Option<&'static TableLine>
@@ -667,6 +670,12 @@ fn in_wide_accesses(number: usize) -> Option<&'static TableLine>
     line_in(&WIDE_ACCESSES_LINES, number)
 }
 
+fn in_float_lane_bounds(number: usize) -> Option<&'static TableLine>
+    ensures { shown_at result ≡ slice_get FLOAT_LANE_BOUNDS number }
+{
+    line_in(&FLOAT_LANE_BOUNDS_LINES, number)
+}
+
 // The same, by the number of the constant.
 fn line_of(part: usize, number: usize) -> Option<&'static TableLine>
     ensures { shown_at result ≡ slice_get (part_at part) number }
@@ -752,16 +761,17 @@ fn line_of(part: usize, number: usize) -> Option<&'static TableLine>
         77 => in_unmasked_lanes(number),
         78 => in_swizzles(number),
         79 => in_wide_accesses(number),
+        80 => in_float_lane_bounds(number),
         _ => None,
     }
 }
 
 // How many lines each constant has.
-const COUNTS: [usize; 80] = [
+const COUNTS: [usize; 81] = [
     15, 10, 10, 11, 16, 8, 7, 6, 12, 10, 15, 6, 11, 11, 17, 16, 15, 16, 4, 14, 19, 20, 20, 18, 12,
     20, 12, 24, 12, 19, 18, 21, 24, 20, 16, 20, 16, 20, 16, 20, 16, 12, 24, 24, 24, 24, 20, 24, 24,
     20, 24, 24, 14, 16, 26, 20, 20, 48, 6, 25, 20, 8, 10, 4, 6, 4, 10, 12, 8, 8, 18, 24, 8, 16, 20,
-    24, 24, 24, 2, 8,
+    24, 24, 24, 2, 8, 8,
 ];
 
 // The line with that number in the table.
@@ -799,7 +809,7 @@ pub(crate) fn name_at(number: usize) -> Option<&'static str>
 }
 
 // How many lines there are.
-const LINE_COUNT: usize = 1290;
+const LINE_COUNT: usize = 1298;
 
 /// How many rows there are.
 pub fn row_count() -> usize

@@ -2067,3 +2067,15 @@ pub const WIDE_ACCESSES: [TableLine; 8] = [
     own!("load_zero_by_splat": Access 142),
     own!("splat_to_load_zero": Access 143),
 ];
+
+/// The pseudo-minimum and the pseudo-maximum of floats in lanes, each as the other one of negatives.
+pub const FLOAT_LANE_BOUNDS: [TableLine; 8] = [
+    row!("pseudo_bound_by_negatives" for (V128): [x y (f32x4.pmin)] => [x (f32x4.neg) y (f32x4.neg) (f32x4.pmax) (f32x4.neg)]),
+    row!(for (V128): [x y (f64x2.pmin)] => [x (f64x2.neg) y (f64x2.neg) (f64x2.pmax) (f64x2.neg)]),
+    row!(for (V128): [x y (f32x4.pmax)] => [x (f32x4.neg) y (f32x4.neg) (f32x4.pmin) (f32x4.neg)]),
+    row!(for (V128): [x y (f64x2.pmax)] => [x (f64x2.neg) y (f64x2.neg) (f64x2.pmin) (f64x2.neg)]),
+    row!("drop_negatives_of_pseudo_bound" for (V128): [x (f32x4.neg) y (f32x4.neg) (f32x4.pmax) (f32x4.neg)] => [x y (f32x4.pmin)]),
+    row!(for (V128): [x (f64x2.neg) y (f64x2.neg) (f64x2.pmax) (f64x2.neg)] => [x y (f64x2.pmin)]),
+    row!(for (V128): [x (f32x4.neg) y (f32x4.neg) (f32x4.pmin) (f32x4.neg)] => [x y (f32x4.pmax)]),
+    row!(for (V128): [x (f64x2.neg) y (f64x2.neg) (f64x2.pmin) (f64x2.neg)] => [x y (f64x2.pmax)]),
+];

@@ -10,7 +10,7 @@ use std::test::Fail;
 use wasm_code::{Imm, MemArg};
 
 /// Names of rules, and their numbers, as callers in C have them.
-const NAMES: [(&str, usize); 43] = [
+const NAMES: [(&str, usize); 44] = [
     ("commute", 0),
     ("turn_comparison", 1),
     ("associate_left", 2),
@@ -54,6 +54,7 @@ const NAMES: [(&str, usize); 43] = [
     ("bound_swizzle", 344),
     ("store_wide", 346),
     ("splat_to_load_zero", 349),
+    ("drop_negatives_of_pseudo_bound", 351),
 ];
 
 #[test]
@@ -64,10 +65,10 @@ fn tells_rules_by_their_names(rt: HostRuntime) -> Result<(), Fail> {
         assert!(rt; rule.name() == name);
         assert!(rt; Rule::from_number(number) == Some(rule));
     }
-    assert!(rt; rule_count() == 350);
+    assert!(rt; rule_count() == 352);
     assert!(rt; all_rules(rt.alloc())?.get(256).copied() == Rule::from_number(256));
     assert!(rt; rule_names(rt.alloc())?.get(76).copied() == Some("join_sums"));
-    assert!(rt; Rule::from_number(350).is_none());
+    assert!(rt; Rule::from_number(352).is_none());
     assert!(rt; "no_rule".parse::<Rule>().is_err());
     Ok(())
 }
@@ -75,7 +76,7 @@ fn tells_rules_by_their_names(rt: HostRuntime) -> Result<(), Fail> {
 #[test]
 fn tells_of_which_rule_a_row_is(rt: HostRuntime) -> Result<(), Fail> {
     let rules = rules_of_rows(rt.alloc())?;
-    assert!(rt; row_count() == 1290);
+    assert!(rt; row_count() == 1298);
     assert!(rt; rules.len() == row_count());
     assert!(rt; rules.get(6).copied() == Some(0));
     assert!(rt; rules.get(7).copied() == Some(1));

@@ -4,7 +4,7 @@ use Rattle.wasm_code.specs.Table.{table, row_at}
 use Rattle.peephole_machine.specs.ExactRow.{exact_row}
 use Rattle.peephole_machine.specs.IntegerRow.{integer_row}
 use Rattle.peephole_machine.specs.Lanes.{each_lane, each_pair}
-use Rattle.rewrite_rules.specs.declared.table.TheConstants.{FLOAT_LANE_ORDERS, FLOAT_LANE_OPPOSITES, FLOAT_LANE_CHOICES}
+use Rattle.rewrite_rules.specs.declared.table.TheConstants.{FLOAT_LANE_ORDERS, FLOAT_LANE_OPPOSITES, FLOAT_LANE_CHOICES, FLOAT_LANE_BOUNDS}
 use Rattle.rewrite_rules.specs.Exact.{exact_operator}
 use Rattle.rewrite_rules.specs.Line.{IsRight}
 use Rattle.rewrite_rules.specs.Table.{rows_of}
@@ -12,7 +12,7 @@ use Rattle.rewrite_rules.proofs.identities.RowLemmas.{AtRows, ◌▸◌}
 use Rattle.rewrite_rules.proofs.identities.LaneIdentities.{words, doubles, forth, back}
 use Rattle.rewrite_rules.proofs.identities.LaneTestIdentities as test
 use Rattle.rewrite_rules.proofs.identities.FloatLaneIdentities as float
-use Rattle.rewrite_rules.proofs.identities.FloatLaneIdentities.{eq, ne, lt, gt, le, ge}
+use Rattle.rewrite_rules.proofs.identities.FloatLaneIdentities.{eq, ne, lt, gt, le, ge, of_words, of_doubles}
 
 pub orders_right : AtRows IsRight (rows_of FLOAT_LANE_ORDERS)
 unfolding exact_operator exact_row integer_row row_at table each_lane each_pair
@@ -41,4 +41,13 @@ choices_right =
     ▸ forth words float.maximum_is_chosen ▸ forth doubles float.maximum_is_chosen
     ▸ back words float.minimum_is_chosen ▸ back doubles float.minimum_is_chosen
     ▸ back words float.maximum_is_chosen ▸ back doubles float.maximum_is_chosen
+    ▸ tt
+
+pub bounds_right : AtRows IsRight (rows_of FLOAT_LANE_BOUNDS)
+unfolding exact_operator exact_row integer_row row_at table each_lane each_pair
+bounds_right =
+    float.minimum_of_negatives of_words ▸ float.minimum_of_negatives of_doubles
+    ▸ float.maximum_of_negatives of_words ▸ float.maximum_of_negatives of_doubles
+    ▸ float.drop_negatives_of_maximum of_words ▸ float.drop_negatives_of_maximum of_doubles
+    ▸ float.drop_negatives_of_minimum of_words ▸ float.drop_negatives_of_minimum of_doubles
     ▸ tt

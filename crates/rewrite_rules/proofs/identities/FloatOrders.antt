@@ -96,7 +96,7 @@ module _ (t : IntegerType) (n m : ℕ) (k : n < 2 ^ bits (width_of t)) (l : m < 
       let w = width_of t in
       ap₂ (λ x y. nat_le x (infinity w) && nat_le y (infinity w)) (magnitude_of_neg t n k) (magnitude_of_neg t m l) ∙ ordered_turned t n m
 
-  lt_of_neg : float_lt (width_of t) (neg t n) (neg t m) ≡ float_lt (width_of t) m n
+  pub lt_of_neg : float_lt (width_of t) (neg t n) (neg t m) ≡ float_lt (width_of t) m n
   lt_of_neg =
       ap₂ (λ o p. o && p) ordered_of_neg
       (ap₂ int_lt (rank_of_neg t n k) (rank_of_neg t m l) ∙ int_lt_neg (rank (width_of t) n) (rank (width_of t) m))

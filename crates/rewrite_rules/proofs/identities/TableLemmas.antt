@@ -587,6 +587,7 @@ vector_rows_right =
     ▸ moves.unmasked_lanes_right
     ▸ swizzle.swizzles_right
     ▸ own_right WIDE_ACCESSES refl
+    ▸ float_lane.bounds_right
     ▸ tt
 
 -- all of them

@@ -324,5 +324,9 @@ pub returns-in-79 : goal.returns-in-79
 unfolding parts
 returns-in-79 c = c.in_wide_accesses.ensures ∙ ap (λ part. slice_get (part_at part) c.args.number) (sym c.in-79.is)
 
+pub returns-in-80 : goal.returns-in-80
+unfolding parts
+returns-in-80 c = c.in_float_lane_bounds.ensures ∙ ap (λ part. slice_get (part_at part) c.args.number) (sym c.in-80.is)
+
 pub returns-in_default : goal.returns-in_default
 returns-in_default c = elsewhere c.args.part c.args.number (omega arith)
