@@ -11,6 +11,7 @@ from __future__ import annotations
 
 import json
 import os
+import shlex
 import shutil
 import signal
 import subprocess
@@ -26,6 +27,7 @@ sys.dont_write_bytecode = True
 
 from teddertempo_diff.engines import Plan, engine_of  # noqa: E402
 from teddertempo_diff.interface import ModuleReader, read_interface  # noqa: E402
+from teddertempo_diff.mutator import Choice  # noqa: E402
 from teddertempo_diff.outcomes import Kind, difference_of  # noqa: E402
 from teddertempo_diff.running import Runner  # noqa: E402
 from teddertempo_diff.shim import number, section, signed, text, type_of  # noqa: E402
@@ -91,6 +93,9 @@ ROWS = (
     Row("status", 0),
     Row("value", 0, None, ("--not-rule", "through_global")),
     Row("value", 64, None, ("--rule", "no_such_rule")),
+    Row("value", 1, "value", (*RULES, "--swarm", "3")),
+    Row("value", 1, "value", (*RULES, "--swarm", "50")),
+    Row("value", 64, None, ("--rule", "no_such_rule", "--swarm", "2")),
 )
 
 
@@ -207,6 +212,24 @@ class Test:
         self.tally.judge("a fault is kept once", len(self.findings(output)) == 1)
         _, output = self.run_mode("value", *RULES, "--all")
         self.tally.judge("--all keeps each", len(self.findings(output)) > 1)
+
+    def test_swarm(self) -> None:
+        """Among as many seeds as there are parts each rule is in one part; the command of a finding has the rules of its mutant."""
+        names = [f"rule_{place}" for place in range(23)]
+        choice = Choice(without=("rule_4",), parts=5)
+        parts = [choice.part(names, seed)[1::2] for seed in range(10)]
+        for first in (0, 5):
+            dealt = sorted(name for part in parts[first : first + 5] for name in part)
+            self.tally.judge("each rule is dealt once", dealt == sorted({*names} - {"rule_4"}), parts)
+        self.tally.judge("they are dealt anew", parts[:5] != parts[5:] and {len(part) for part in parts} == {4, 5}, parts)
+        self.tally.judge("one part is all", Choice(("a", "b"), ("c",)).part(names, 3) == ["--rule", "a", "--rule", "b", "--not-rule", "c"])
+        _, output = self.run_mode("value", *RULES, "--swarm", "3")
+        folder = next(output.glob("0001-*"))
+        mutate = shlex.split(json.loads((folder / "finding.json").read_text())["mutate"])
+        rules = [word for before, word in zip(mutate, mutate[1:]) if before == "--rule"]
+        subprocess.run([str(PROGRAM), *mutate[1:]], cwd=self.folder)
+        same = (self.folder / "bad.wasm").read_bytes() == (folder / "bad.wasm").read_bytes()
+        self.tally.judge("the command of a part makes it again", rules == ["through_global"] and same, mutate)
 
     def test_json(self) -> None:
         done, _ = self.run_mode("value", *RULES, "--json")
@@ -326,8 +349,8 @@ def main() -> int:
         return 1
     with tempfile.TemporaryDirectory(prefix="diff ") as folder:
         test = Test(Path(folder))
-        for part in (test.test_rows, test.test_finding, test.test_once, test.test_json, test.test_stop, test.test_two, test.test_calls,
-                     test.test_traps, test.test_wrong_engines):
+        for part in (test.test_rows, test.test_finding, test.test_once, test.test_swarm, test.test_json, test.test_stop, test.test_two,
+                     test.test_calls, test.test_traps, test.test_wrong_engines):
             part()
         for engine in ENGINES_ASKED:
             if shutil.which(engine[0]):

@@ -361,7 +361,7 @@ class Account:
         final = self.campaign.store.folder / self.finding.name()
         commands = [shlex.join(command) for module in ("good.wasm", "bad.wasm")
                     for command in self.campaign.engine.lay_out(made, final, module, self.subject.plan)]
-        words = self.campaign.mutator.words(made / "original.wasm")
+        words = self.campaign.mutator.words_by(made / "original.wasm", self.finding.seed)
         mutate = self.campaign.mutator.command(words, self.finding.seed, self.finding.count, str(final / "original.wasm"), "bad.wasm")
         version = self.campaign.mutator.version()
         texts = {"bad.txt": bad.text, "rewrite.txt": self.rewrite.text}

@@ -13,7 +13,7 @@ from pathlib import Path
 
 from .campaign import Campaign, Settings, Summary, find_modules
 from .engines import ENGINES, engine_of
-from .mutator import Dose, Mutator, MutatorFailure, MutatorMisuse, find_program
+from .mutator import Choice, Dose, Mutator, MutatorFailure, MutatorMisuse, find_program
 from .report import Reporter
 from .running import Runner
 from .store import Store, StoreRefusal
@@ -91,6 +91,8 @@ def parser() -> Parser:
     made.add_argument("--continue", dest="goes_on", action="store_true", help="goes on with the run in FOLDER")
     made.add_argument("--rule", action="append", default=[], metavar="NAME", help="uses only this rule (again for more)")
     made.add_argument("--not-rule", action="append", default=[], metavar="NAME", help="uses all rules but this (again for more)")
+    made.add_argument("--swarm", type=positive, default=1, metavar="N",
+                      help="makes each mutant by an Nth of the rules, of N seeds each by another one (1: by all)")
     made.add_argument("--max-size", type=positive, metavar="BYTES", help="makes no mutant larger than that")
     made.add_argument("--teddertempo", metavar="PROGRAM", help="the program that rewrites")
     made.add_argument("--json", action="store_true", help="tells findings and summary as JSON, an object a line")
@@ -105,11 +107,13 @@ def split_engine(words: list[str]) -> tuple[list[str], list[str]]:
     return words[:place], words[place + 1 :]
 
 
+def choice_of(options: argparse.Namespace) -> Choice:
+    return Choice(tuple(options.rule), tuple(options.not_rule), options.swarm)
+
+
 def options_of(options: argparse.Namespace) -> list[str]:
-    """The options for teddertempo itself."""
-    words = [word for rule in options.rule for word in ("--rule", rule)]
-    words += [word for rule in options.not_rule for word in ("--not-rule", rule)]
-    return words + (["--max-size", str(options.max_size)] if options.max_size else [])
+    """Further options for teddertempo itself."""
+    return ["--max-size", str(options.max_size)] if options.max_size else []
 
 
 def settings_of(options: argparse.Namespace) -> Settings:
@@ -120,7 +124,7 @@ def settings_of(options: argparse.Namespace) -> Settings:
 def lasting(options: argparse.Namespace, engine: list[str], version: str) -> dict:
     """What has to be as it was for a run to go on."""
     return {"version": version, "engine": engine, "as": options.engine, "dose": str(options.dose), "calls": options.calls,
-            "options": options_of(options), "strict": options.strict, "all": options.all}
+            "options": [*choice_of(options).words(), *options_of(options)], "swarm": options.swarm, "strict": options.strict, "all": options.all}
 
 
 def stop_on_signals(runner: Runner) -> None:
@@ -141,7 +145,7 @@ def status_of(summary: Summary, store: Store) -> int:
 def run(options: argparse.Namespace, engine: list[str]) -> int:
     """Runs what the options ask for, and answers the status."""
     runner = Runner(options.timeout)
-    mutator = Mutator(find_program(options.teddertempo), options_of(options), runner)
+    mutator = Mutator(find_program(options.teddertempo), choice_of(options), options_of(options), runner)
     version = mutator.version()
     if options.version:
         print(version.replace("teddertempo", "teddertempo-diff", 1))

@@ -8,6 +8,7 @@ import re
 import shutil
 from dataclasses import dataclass
 from pathlib import Path
+from typing import Iterable
 
 from .running import Finished, Runner
 
@@ -37,6 +38,34 @@ class Rewrite:
 
 
 @dataclass(frozen=True)
+class Choice:
+    """Which rules mutants may use: only some, or all but some; and of how many parts each mutant has one."""
+
+    only: tuple[str, ...] = ()
+    without: tuple[str, ...] = ()
+    parts: int = 1
+
+    def words(self) -> list[str]:
+        """The options for all of them."""
+        return [*words_of("--rule", self.only), *words_of("--not-rule", self.without)]
+
+    def part(self, names: list[str], seed: int) -> list[str]:
+        """The options for those of a seed, of all names: among as many seeds as there are parts, each rule is one seed's, dealt anew for
+        the next ones."""
+        chosen = [name for name in self.only or names if name not in self.without]
+        parts = min(self.parts, len(chosen))
+        if parts < 2:
+            return self.words()
+        dealt = sorted(chosen, key=lambda name: hashlib.sha256(f"{seed // parts} {name}".encode()).digest())
+        part = set(dealt[seed % parts :: parts])
+        return words_of("--rule", (name for name in chosen if name in part))
+
+
+def words_of(option: str, names: Iterable[str]) -> list[str]:
+    return [word for name in names for word in (option, name)]
+
+
+@dataclass(frozen=True)
 class Dose:
     """How many rewrites a mutant has: a number of them, or so many for each hundred operators that a rule may rewrite."""
 
@@ -62,13 +91,15 @@ def find_program(named: str | None) -> str:
 
 
 class Mutator:
-    """The program, with the options that choose among rewrites."""
+    """The program, with the rules that it may use, and further options."""
 
-    def __init__(self, program: str, options: list[str], runner: Runner):
+    def __init__(self, program: str, choice: Choice, options: list[str], runner: Runner):
         self.program = program
+        self.choice = choice
         self.options = options
         self.runner = runner
         self.exact: dict[bytes, bool] = {}
+        self.names: list[str] = []
 
     def run_plainly(self, arguments: list[str]) -> Finished:
         try:
@@ -93,16 +124,27 @@ class Mutator:
         finished = self.run_plainly(["--exact", "--list", "--rule", "drop_nop", str(module)])
         return SHARED not in finished.errors.decode("utf-8", "replace")
 
-    def words(self, module: Path) -> list[str]:
-        """The options for the module: those rules are used but where threads share one of its memories, which no engine is exact on."""
+    def rules(self) -> list[str]:
+        """The names of all rules."""
+        if not self.names:
+            self.names = [json.loads(line)["name"] for line in self.run(["--list-rules=json"]).output.decode().splitlines()]
+        return self.names
+
+    def words(self, module: Path, choice: list[str]) -> list[str]:
+        """The options for the module, with those for rules: rules that need an exact engine are used but where threads share one of its
+        memories, which no engine is exact on."""
         digest = hashlib.sha256(module.read_bytes()).digest()
         if digest not in self.exact:
             self.exact[digest] = self.takes_exact(module)
-        return (["--exact"] if self.exact[digest] else []) + self.options
+        return [*(["--exact"] if self.exact[digest] else []), *choice, *self.options]
+
+    def words_by(self, module: Path, seed: int) -> list[str]:
+        """The options for a mutant."""
+        return self.words(module, self.choice.part(self.rules(), seed) if self.choice.parts > 1 else self.choice.words())
 
     def rewritable(self, module: Path) -> int:
         """How many operators of the module a rule may rewrite."""
-        errors = self.run([*self.words(module), "--reach", "--json", str(module), "-o", "/dev/null"]).errors
+        errors = self.run([*self.words(module, self.choice.words()), "--reach", "--json", str(module), "-o", "/dev/null"]).errors
         for line in errors.decode().splitlines():
             report = json.loads(line) if line.startswith("{") else {}
             if report.get("of") == "operators":
@@ -111,12 +153,12 @@ class Mutator:
 
     def rewrite(self, module: Path, seed: int, count: int, new: Path) -> bool:
         """Writes the module rewritten; answers whether there was something to rewrite."""
-        arguments = [*self.words(module), "--seed", str(seed), "--count", str(count), str(module), "-o", str(new)]
+        arguments = [*self.words_by(module, seed), "--seed", str(seed), "--count", str(count), str(module), "-o", str(new)]
         return self.run(arguments).status == 0
 
     def shown(self, module: Path, seed: int, count: int) -> Rewrite:
         """The last of so many rewrites."""
-        arguments = [*self.words(module), "--seed", str(seed), "--count", str(count), "--show", str(module), "-o", "/dev/null"]
+        arguments = [*self.words_by(module, seed), "--seed", str(seed), "--count", str(count), "--show", str(module), "-o", "/dev/null"]
         text = self.run(arguments).errors.decode("utf-8", "replace")
         parts = re.split(r"^(?=function \d+ operator \d+ rule \w+$)", text, flags=re.M)
         last = parts[-1]

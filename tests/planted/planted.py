@@ -28,7 +28,7 @@ from teddertempo_diff.campaign import Campaign, Listener, Settings, Subject, fin
 from teddertempo_diff.command import dose  # noqa: E402
 from teddertempo_diff.engines import Spectest  # noqa: E402
 from teddertempo_diff.interface import Interface  # noqa: E402
-from teddertempo_diff.mutator import Mutator  # noqa: E402
+from teddertempo_diff.mutator import Choice, Mutator  # noqa: E402
 from teddertempo_diff.outcomes import Answer, difference_of  # noqa: E402
 from teddertempo_diff.running import Runner  # noqa: E402
 from teddertempo_diff.store import Store  # noqa: E402
@@ -77,9 +77,9 @@ def put(file: Path, content: bytes) -> None:
 class Remembering(Mutator):
     """The program, which makes each mutant once: the same ones are run with each fault."""
 
-    def __init__(self, program: str, runner: Runner, folder: Path):
-        super().__init__(program, [], runner)
-        self.folder = folder / f"mutants-{digest_of(Path(program))}"
+    def __init__(self, program: str, choice: Choice, runner: Runner, folder: Path):
+        super().__init__(program, choice, [], runner)
+        self.folder = folder / f"mutants-{digest_of(Path(program))}-{choice.parts}"
         self.folder.mkdir(parents=True, exist_ok=True)
 
     def kept(self, module: Path, *words: object) -> Path:
@@ -115,7 +115,7 @@ class Bench:
         settings = Settings(range(self.options.seeds), dose(amount), jobs, every=not first, first=first)
         with tempfile.TemporaryDirectory() as folder:
             store = Store(Path(folder), {}, False)
-            mutator = Remembering(self.options.teddertempo, runner, self.folder)
+            mutator = Remembering(self.options.teddertempo, Choice(parts=self.options.swarm), runner, self.folder)
             made = Campaign(settings, self.engine, mutator, runner, store, Listener())
             made.run(modules)
             store.close()
@@ -221,6 +221,7 @@ def options_of() -> argparse.Namespace:
     parser.add_argument("--optimizer", required=True, help="the optimizer whose pipelines mutate")
     parser.add_argument("--doses", nargs="+", default=["50", "400"])
     parser.add_argument("--seeds", type=int, default=10)
+    parser.add_argument("--swarm", type=int, default=1, help="of how many parts of the rules each mutant has one")
     parser.add_argument("--jobs", type=int, default=len(os.sched_getaffinity(0)))
     parser.add_argument("--timeout", type=float, default=5.0)
     parser.add_argument("--engine", nargs="+", required=True)
