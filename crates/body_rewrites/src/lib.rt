@@ -22,8 +22,6 @@ mod making;
 mod matching;
 mod own;
 pub mod own_laws;
-#[cfg(test)]
-mod own_tests;
 mod parts;
 mod places;
 mod random;
@@ -32,8 +30,6 @@ mod rewrite;
 mod rewriting;
 mod root;
 mod roots;
-#[cfg(test)]
-mod tests;
 mod trees;
 mod writing;
 

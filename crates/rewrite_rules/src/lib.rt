@@ -17,10 +17,6 @@ mod pattern;
 mod rule;
 mod standing;
 mod table;
-#[cfg(test)]
-mod tests;
-#[cfg(test)]
-mod text_tests;
 mod texts;
 
 pub use access::{Access, AccessKind, AccessSide, Conversion, access_at};

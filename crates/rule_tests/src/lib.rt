@@ -1,7 +1,9 @@
-//! Tests of rules by examples worked by hand: what each one makes of bodies, and where it makes nothing; every rewrite of a body, and
-//! what is chosen; and memory that runs out.
+//! Tests of `rewrite_rules` and `body_rewrites` by examples worked by hand: the calls on rows of the table, and their texts; what each
+//! rule makes of bodies, and where it makes nothing; every rewrite of a body, and what is chosen; and memory that runs out.
 #![tactic(auto)]
 
+#[cfg(test)]
+mod bodies;
 #[cfg(test)]
 mod lists;
 #[cfg(test)]
@@ -9,8 +11,14 @@ mod memory;
 #[cfg(test)]
 mod notation;
 #[cfg(test)]
+mod own;
+#[cfg(test)]
 mod refused_bodies;
 #[cfg(test)]
 mod rows;
 #[cfg(test)]
 mod rules;
+#[cfg(test)]
+mod table;
+#[cfg(test)]
+mod texts;

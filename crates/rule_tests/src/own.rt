@@ -1,6 +1,6 @@
 //! What rules beside the table make of small bodies.
 
-use crate::{Body, Growth, own_code, own_growth, trees_of};
+use body_rewrites::{Body, Growth, own_code, own_growth, trees_of};
 use body_splices::Piece;
 use rewrite_rules::Own;
 use std::alloc::Global;

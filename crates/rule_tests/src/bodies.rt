@@ -1,6 +1,6 @@
 //! The trees of a small body, and what rewrites by rows of the table make of small bodies.
 
-use crate::{Body, Rewrite, Tree, rewrite_body, trees_of};
+use body_rewrites::{Body, Rewrite, Tree, rewrite_body, trees_of};
 use peephole_machine::IntegerType;
 use std::test::Fail;
 use wasm_code::{Function, read_body};

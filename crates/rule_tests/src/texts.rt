@@ -1,7 +1,7 @@
 //! The texts of rows, and what they do to the number of instructions.
 
-use crate::{Growth, Number, Row, Step, TableRow, Widths, row_at};
 use peephole_machine::{Binary, IntegerType, Operation};
+use rewrite_rules::{Growth, Number, Row, Step, TableRow, Widths, row_at, row_count};
 use std::test::Fail;
 use wasm_types::PrimitiveTypeInfo;
 
@@ -212,7 +212,7 @@ fn prints_exact_rows(rt: HostRuntime) -> Result<(), Fail> {
 /// The rows on whole numbers have no such operator, nor do accesses, and all others have one.
 #[test]
 fn tells_which_rows_need_exact_rows(rt: HostRuntime) -> Result<(), Fail> {
-    for number in 0..crate::row_count() {
+    for number in 0..row_count() {
         let row = TableRow::numbered(number).expect(&rt, "it is a row's number");
         assert!(rt;
             row.needs_exact() == ((249..871).contains(&number) || (1094..1282).contains(&number)),

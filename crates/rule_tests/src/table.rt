@@ -1,11 +1,11 @@
 //! Each public call on rows of the table: names and numbers of rules, values of numbers, conditions, moves, whether rows apply, and
 //! accesses.
 
-use crate::{
+use peephole_machine::IntegerType;
+use rewrite_rules::{
     Condition, Effects, Number, Rule, access_at, all_rules, may_move, row_at, row_count,
     rule_count, rule_names, rules_of_rows,
 };
-use peephole_machine::IntegerType;
 use std::test::Fail;
 use wasm_code::{Imm, MemArg};
 
