@@ -50,7 +50,7 @@ pseudo_bound_by_negatives | local.get 6; local.get 9; G.pmin | 2 | i32 | local.g
 pseudo_bound_by_negatives | local.get 6; local.get 9; G.pmax | 2 | i32 | local.get 6; G.neg; local.get 9; G.neg; G.pmin; G.neg
 pseudo_bound_by_negatives | local.get 9; local.tee 6; local.get 0; call 0; i32x4.splat; G.pmax | 5 | i32 | local.get 9; local.tee 6; G.neg; local.get 0; call 0; i32x4.splat; G.neg; G.pmin; G.neg
 pseudo_bound_by_negatives | local.get 6; local.get 9; G.min | 2 | i32 | -
-pseudo_bound_by_negatives | local.get 6; local.get 9; S.min_s | 2 | i32 | -
+pseudo_bound_by_negatives | local.get 6; local.get 9; Q.min_s | 2 | i32 | -
 drop_negatives_of_pseudo_bound | local.get 6; G.neg; local.get 9; G.neg; G.pmax; G.neg | 5 | i32 | local.get 6; local.get 9; G.pmin
 drop_negatives_of_pseudo_bound | local.get 6; G.neg; local.get 9; G.neg; G.pmin; G.neg | 5 | i32 | local.get 6; local.get 9; G.pmax
 drop_negatives_of_pseudo_bound | local.get 6; G.neg; local.get 9; G.pmin; G.neg | 4 | i32 | -
