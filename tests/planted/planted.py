@@ -33,7 +33,7 @@ from teddertempo_diff.outcomes import Answer, difference_of  # noqa: E402
 from teddertempo_diff.running import Runner  # noqa: E402
 from teddertempo_diff.store import Store  # noqa: E402
 
-CALLS = 6
+CALLS = 12
 PIPELINES = ("-O1", "-O2", "-O3", "-Oz")
 ROW = re.compile(r'^\s*(?:\{|WRONG\()"(?P<name>\w+)", "(?P<group>[^"]+)", (?:Kind::(?P<kind>\w+), )?"(?P<sentence>[^"]+)"', re.M)
 

@@ -120,7 +120,7 @@ fn lists_rules_as_text(rt: HostRuntime) -> Result<(), Fail> {
     let mut output = Vec::new(rt.alloc());
     write_rules(rt.alloc(), &mut output, Form::Text)?;
     let text = str::from_utf8(&output)?;
-    assert!(rt; text.lines().count() == 1640);
+    assert!(rt; text.lines().count() == 1650);
     for (number, line) in LINES {
         assert!(rt; text.lines().nth(number) == Some(line), "line {number}");
     }
@@ -144,7 +144,7 @@ fn lists_rules_as_a_table(rt: HostRuntime) -> Result<(), Fail> {
     let mut output = Vec::new(rt.alloc());
     write_rules(rt.alloc(), &mut output, Form::Markdown)?;
     let text = str::from_utf8(&output)?;
-    assert!(rt; text.lines().count() == 1292);
+    assert!(rt; text.lines().count() == 1300);
     for (number, line) in ROWS {
         assert!(rt; text.lines().nth(number) == Some(line), "line {number}");
     }
