@@ -1,0 +1,14 @@
+mod PlaceLemmas
+mod RunLemmas
+mod HandlerLemmas
+mod MovedLemmas
+mod TableLemmas
+mod WrapLemmas
+mod CheckLemmas
+mod DoesLemmas
+mod PushLemmas
+mod WayLemmas
+mod PlaceOfLemmas
+mod BlockLemmas
+mod Examples
+mod PureLemmas
