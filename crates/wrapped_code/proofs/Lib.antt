@@ -11,4 +11,5 @@ mod WayLemmas
 mod PlaceOfLemmas
 mod BlockLemmas
 mod Examples
+mod HandlerExamples
 mod PureLemmas

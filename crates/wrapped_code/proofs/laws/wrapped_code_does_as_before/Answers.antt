@@ -1,4 +1,3 @@
-use Rattle.wrapped_code.specs.Laws.{WrappedCodeDoes}
 use Rattle.wrapped_code.proofs.DoesLemmas.{wrapped_does, wrapped_more, wrapped_stays}
 use Rattle.wrapped_code.proofs.laws.wrapped_code_does_as_before.Goals as goal
 
