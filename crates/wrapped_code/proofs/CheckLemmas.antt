@@ -1,27 +1,26 @@
 -- Wrapped code in a body that is valid: the body stays valid.
-use Rattle.std.proofs.Common.{◌≡◌, ℕ, suc, ◌+◌, ◌<◌, ◌≤◌, List, [], ◌∷◌, ◌++◌, length, drop, Option, Some, None, refl, sym, ap, ap₂, ◌∙◌, arith}
-use Rattle.std.specs.Prelude.{map, slice_get, option_map, option_and_then, if◌then◌else◌}
+use Rattle.std.proofs.Common.{◌≡◌, ℕ, suc, ◌+◌, ◌<◌, ◌≤◌, List, [], ◌∷◌, ◌++◌, length, drop, Option, Some, refl, sym, ap, ◌∙◌, arith}
+use Rattle.std.specs.Prelude.{map, slice_get, option_map, option_and_then}
 use Rattle.wasm_code.specs.Instruction.{Instruction}
 use Rattle.wasm_code.specs.declared.operator.Operator.{Operator}
 use Rattle.wasm_code.specs.declared.operator.Operator.TheVariants as op
-use Rattle.wasm_code.specs.declared.other.Other.{Other}
-use Rattle.wasm_types.specs.Module.{Module}
 use Rattle.wasm_types.specs.declared.types.PrimitiveTypeInfo.{PrimitiveTypeInfo}
 use Rattle.wasm_types.specs.declared.types.PrimitiveTypeInfo.TheVariants as primitive
 use Rattle.peephole_machine.specs.Values.{Context}
 use Rattle.peephole_machine.specs.IntegerRow.{integer_row}
 use Rattle.peephole_machine.specs.RowLemmas.{and_then_some, map_some}
 use Rattle.peephole_programs.specs.control.Function.{structural}
-use Rattle.peephole_programs.specs.control.Blocks.{Arity, arity_of, has_arity, Role, handles, tries, catches, delegates, does, role_of}
-use Rattle.peephole_programs.specs.control.Standard.{Beyond, asked_before, by_asked, left_types, handler_arity}
+use Rattle.peephole_programs.specs.control.Blocks.{arity_of, has_arity}
+use Rattle.peephole_programs.specs.control.Standard.{Beyond, asked_before, by_asked}
 use Rattle.peephole_programs.specs.control.Wider.{wider}
 use Rattle.peephole_programs.specs.validation.Algorithm.{Frame, check_row, check_code, Structural, on_innermost, check}
-use Rattle.peephole_programs.specs.validation.StandardSteps.{pop, push, cut_off, label_types, body_frame, open_frame, close_frame, other_frame, can_jump_all, can_branch, are_labels, catch_frame, other_step, only_where, by_step, standard_steps, left as left_by}
+use Rattle.peephole_programs.specs.validation.StandardSteps.{pop, push, cut_off, label_types, body_frame, open_frame, close_frame, other_frame, only_where, by_step, standard_steps}
 use Rattle.peephole_programs.specs.validation.Sound.{IsValid}
-use Rattle.peephole_programs.proofs.validation.ValidLemmas.{step_same, coded_check, innermost_wider}
+use Rattle.peephole_programs.specs.validation.StaysValid.{MoreGlobalsCheckAlike}
 use Rattle.wrapped_code.specs.Wrapped.{Wrapped, plain, both, block, loop, choice, leaving, exits, once, trap, written, check_wrapped, WrappedChecksAs}
 use Rattle.wrapped_code.proofs.PlaceLemmas.{bones, past, coded_structure, written_structure, bones_append, past_adds, past_counts, dropped, count, front_structure}
 use Rattle.wrapped_code.proofs.MovedLemmas.{moved, moved_before, moved_behind, get_moved}
+use Rattle.wrapped_code.proofs.StepLemmas.{step_numbers, step_wider, innermost_wider, coded_check}
 use Rattle.wrapped_code.proofs.TableLemmas.{no_tables, tables_moved}
 
 -- ---- the code itself
@@ -72,7 +71,7 @@ module _ (context : Context) (results : List PrimitiveTypeInfo) (structure : Lis
   wrapped_checks (plain code) n back [] next d e = absurd cc
   wrapped_checks (plain code) n back (f ∷ fs) next d e =
       let (g, a, b) = map_some (λ (g : Frame). g ∷ fs) (check_code context code f) next e in
-      coded_check [] [] context steps context code back n f fs ∙
+      coded_check context steps code back n f fs ∙
       (ap (option_and_then (λ (g : Frame). check context steps n back (g ∷ fs))) a ∙ ap (check context steps n back) b)
   wrapped_checks (both a b) n back frames next d e =
       let (f, x, y) = and_then_some (check_wrapped context b) (check_wrapped context a frames) next e in
@@ -176,49 +175,7 @@ module _ (context : Context) (results : List PrimitiveTypeInfo) (structure : Lis
 
 -- ---- the body around it
 
--- what another operator does to the frames, by what it takes, leaves and may branch to
-abbrev stepped : (takes : List PrimitiveTypeInfo) → (leaves : Option (List PrimitiveTypeInfo)) → (label : Option (ℕ × List PrimitiveTypeInfo)) →
-    List Frame → Option (List Frame)
-stepped takes leaves label fs =
-    on_innermost (λ (g : Frame). option_and_then (λ (d : Frame). if can_branch fs d label then Some (left_by leaves d) else None) (pop takes g)) fs
-
--- the standard's steps by other numbers
-module _ (m : Module) (results : List PrimitiveTypeInfo) (beyond other : Beyond) (k j : ℕ) (ls : beyond.labels k ≡ other.labels j)
-    (d : beyond.default k ≡ other.default j) (takes : beyond.takes k ≡ other.takes j) (leaves : beyond.leaves k ≡ other.leaves j)
-    (label : beyond.label k ≡ other.label j) (clauses : beyond.clauses k ≡ other.clauses j) where
-  arity_numbers : handler_arity beyond k ≡ handler_arity other j
-  arity_numbers =
-      ap₂ (λ (ts : List PrimitiveTypeInfo) (us : Option (List PrimitiveTypeInfo)). record { starts = ts; ends = left_types us }) takes leaves
-
-  other_numbers : (o : Other) (role : Role) (fs : List Frame) → other_step o role beyond k fs ≡ other_step o role other j fs
-  other_numbers o handles fs =
-      ap₂ (λ (cs : List (ℕ × List PrimitiveTypeInfo)) (a : Arity). only_where (are_labels fs cs) (open_frame (op.Other o) a fs)) clauses arity_numbers
-  other_numbers o tries fs = ap (λ (a : Arity). open_frame (op.Other o) a fs) arity_numbers
-  other_numbers o catches fs = ap (λ (a : Arity). catch_frame (op.Other o) a fs) arity_numbers
-  other_numbers o delegates fs = refl
-  other_numbers o does fs =
-      ap (λ ts. stepped ts (beyond.leaves k) (beyond.label k) fs) takes ∙
-      (ap (λ ts. stepped (other.takes j) ts (beyond.label k) fs) leaves ∙ ap (λ l. stepped (other.takes j) (other.leaves j) l fs) label)
-
-  pub step_numbers : (o : Option Operator) (fs : List Frame) → by_step m results beyond o k fs ≡ by_step m results other o j fs
-  step_numbers (Some (op.Block t)) fs = refl
-  step_numbers (Some (op.Loop t)) fs = refl
-  step_numbers (Some (op.If t)) fs = refl
-  step_numbers (Some op.Else) fs = refl
-  step_numbers (Some op.End) fs = refl
-  step_numbers (Some (op.Br l)) fs = refl
-  step_numbers (Some (op.BrIf l)) fs = refl
-  step_numbers (Some (op.BrTable n)) fs =
-      ap₂ (λ (i : ℕ) (is : List ℕ). option_and_then (λ f. on_innermost (λ g. option_and_then (λ d. if can_jump_all fs f d is then
-      option_map cut_off (pop (label_types f) d) else None) (pop (primitive.I32 ∷ []) g)) fs) (slice_get fs i)) d ls
-  step_numbers (Some (op.CallIndirect type table)) fs = refl
-  step_numbers (Some op.Return) fs = refl
-  step_numbers (Some op.Unreachable) fs = refl
-  step_numbers (Some (op.Other o)) fs = other_numbers o (role_of o) fs
-  step_numbers None fs = refl
-  step_numbers (Some o) fs = refl
-
-module _ (input : List ℕ) (more : List PrimitiveTypeInfo) (context : Context) (a b : Structural) where
+module _ (law : MoreGlobalsCheckAlike) (input : List ℕ) (more : List PrimitiveTypeInfo) (context : Context) (a b : Structural) where
   abbrev all : Context
   all = wider input more context
 
@@ -228,7 +185,7 @@ module _ (input : List ℕ) (more : List PrimitiveTypeInfo) (context : Context) 
   back_checks m [] k j frames left e same h = h
   back_checks m (op.Instr i ∷ os) k j frames left e same h =
       let (next, x, y) = and_then_some (check context a k os) (on_innermost (check_row context (integer_row i)) frames) left h in
-      ap (option_and_then (check all b j os)) (innermost_wider input more context a i frames next x) ∙ back_checks m os k j next left e same y
+      ap (option_and_then (check all b j os)) (innermost_wider input more law context i frames next x) ∙ back_checks m os k j next left e same y
   back_checks m (o ∷ os) k j frames left e same h =
       let (next, x, y) = and_then_some (check context a (suc k) os) (a k frames) left h in
       ap (option_and_then (check all b (suc j) os)) (ap (λ i. b i frames) e ∙ (sym (same k frames (omega arith)) ∙ x)) ∙
@@ -244,15 +201,15 @@ module _ (input : List ℕ) (more : List PrimitiveTypeInfo) (context : Context) 
       ap (λ i. check all b i new frames) x ∙ there frames (ap (λ i. check context a i rest frames) (sym x) ∙ h)
   front_checks n rest new (op.Instr i ∷ front) k frames left e same there h =
       let (next, x, y) = and_then_some (check context a k (front ++ rest)) (on_innermost (check_row context (integer_row i)) frames) left h in
-      ap (option_and_then (check all b k (front ++ new))) (innermost_wider input more context a i frames next x) ∙
+      ap (option_and_then (check all b k (front ++ new))) (innermost_wider input more law context i frames next x) ∙
       front_checks n rest new front k next left e same there y
   front_checks n rest new (o ∷ front) k frames left e same there h =
       let (next, x, y) = and_then_some (check context a (suc k) (front ++ rest)) (a k frames) left h in
       ap (option_and_then (check all b (suc k) (front ++ new))) (sym (same k frames (omega arith)) ∙ x) ∙
       front_checks n rest new front (suc k) next left (omega arith) same there y
 
-module _ (input : List ℕ) (more : List PrimitiveTypeInfo) (context : Context) (results : List PrimitiveTypeInfo) (beyond : Beyond)
-    (front back : List Operator) (head : Instruction) (own : List Instruction) (c : Wrapped)
+module _ (law : MoreGlobalsCheckAlike) (input : List ℕ) (more : List PrimitiveTypeInfo) (context : Context) (results : List PrimitiveTypeInfo)
+    (beyond : Beyond) (front back : List Operator) (head : Instruction) (own : List Instruction) (c : Wrapped)
     (checks_as : WrappedChecksAs context (wider input more context) (head ∷ own) c) where
   abbrev pub old : List Operator
   old = front ++ (map (λ (i : Instruction). op.Instr i) (head ∷ own) ++ back)
@@ -298,7 +255,7 @@ module _ (input : List ℕ) (more : List PrimitiveTypeInfo) (context : Context) 
       let numbers : asked_before (xs ++ (middle ++ ys)) (moved n m k) ≡ asked_before (xs ++ ys) k =
       tables_moved xs middle ys n m refl (past_counts c []) (no_tables c []) k in
       ap (λ os. by_step context.info results (by_asked os beyond) (slice_get os k) k fs) old_is ∙
-      (step_same input more context.info results (by_asked (xs ++ ys) beyond) (slice_get (xs ++ ys) k) k fs ∙
+      (step_wider input more context.info results (by_asked (xs ++ ys) beyond) (slice_get (xs ++ ys) k) k fs ∙
       (step_numbers after.info results (by_asked (xs ++ ys) beyond) (by_asked (xs ++ (middle ++ ys)) beyond) k (moved n m k)
       (ap beyond.labels (sym numbers)) (ap beyond.default (sym numbers)) (ap beyond.takes (sym numbers)) (ap beyond.leaves (sym numbers))
       (ap beyond.label (sym numbers)) (ap beyond.clauses (sym numbers)) (slice_get (xs ++ ys) k) fs ∙
@@ -312,12 +269,12 @@ module _ (input : List ℕ) (more : List PrimitiveTypeInfo) (context : Context) 
   here left [] e = absurd cc
   here left (f ∷ fs) e =
       let (g, x, y) = and_then_some (λ (g : Frame). check context old_steps n back (g ∷ fs)) (check_code context (head ∷ own) f) left
-      (sym (coded_check input more context old_steps context (head ∷ own) back n f fs) ∙ e) in
+      (sym (coded_check context old_steps (head ∷ own) back n f fs) ∙ e) in
       let p = past_adds c n in
       wrapped_checks after results (structural new) (by_asked (structural new) beyond) c n back (f ∷ fs) (g ∷ fs)
       (ap (drop n) (written_is ∙ ap (λ os. xs ++ os) (written_structure c back)) ∙ dropped_front xs (bones c ys))
       (checks_as f g fs x) ∙
-      back_checks input more context old_steps new_steps m back n (past c n) (g ∷ fs) left (omega arith)
+      back_checks law input more context old_steps new_steps m back n (past c n) (g ∷ fs) left (omega arith)
       (λ i fs l. steps_moved i fs ∙ ap (λ j. new_steps j fs) (moved_behind n m i l)) y
     where
       dropped_front : (xs ys : List Operator) → drop (length xs) (xs ++ ys) ≡ ys
@@ -326,5 +283,5 @@ module _ (input : List ℕ) (more : List PrimitiveTypeInfo) (context : Context) 
 
   pub wrapped_valid : IsValid context results (by_asked (structural old) beyond) old → IsValid after results (by_asked (structural new) beyond) new
   wrapped_valid h =
-      front_checks input more context old_steps new_steps n (map (λ (i : Instruction). op.Instr i) (head ∷ own) ++ back) (written c back) front 0
+      front_checks law input more context old_steps new_steps n (map (λ (i : Instruction). op.Instr i) (head ∷ own) ++ back) (written c back) front 0
       (body_frame results ∷ []) [] (omega arith) (λ i fs l. steps_moved i fs ∙ ap (λ j. new_steps j fs) (moved_before n m i l)) (here []) h

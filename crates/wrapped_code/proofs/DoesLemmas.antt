@@ -14,6 +14,7 @@ use Rattle.peephole_programs.specs.modules.Program.{Body, context_for}
 use Rattle.peephole_programs.specs.control.Blocks.{Role, handles, tries, catches, delegates, does, role_of}
 use Rattle.peephole_programs.specs.control.Standard.{Caught, Deed, gives, jumps, breaks, enters, returns, Beyond, asks_beyond, asked_before, by_asked, standard}
 use Rattle.peephole_programs.specs.validation.Sound.{IsDeed, IsCaught, IsValid, HasTargets, HasDeeds, TargetsStay, DeedsStay}
+use Rattle.peephole_programs.specs.validation.StaysValid.{MoreGlobalsCheckAlike}
 use Rattle.peephole_programs.specs.control.Wider.{wider_module, wider}
 use Rattle.peephole_programs.specs.control.Laws.{StandardControlIsSound}
 use Rattle.peephole_programs.specs.hosts.Embedder.{DoesAs, Functions, with_operators, with_function, DoAsFunctions}
@@ -155,8 +156,8 @@ module _ (info : Module) (beyond : Beyond) (xs ys : List Operator) (c : Wrapped)
 
 -- ---- a function
 
-module _ (law : StandardControlIsSound) (targets_stay : TargetsStay) (deeds_stay : DeedsStay) (m : Module) (input : List ℕ)
-    (more : List PrimitiveTypeInfo) (old new : Body) (w : Wraps m input more old new) where
+module _ (law : StandardControlIsSound) (alike_law : MoreGlobalsCheckAlike) (targets_stay : TargetsStay) (deeds_stay : DeedsStay) (m : Module)
+    (input : List ℕ) (more : List PrimitiveTypeInfo) (old new : Body) (w : Wraps m input more old new) where
   abbrev context : Context
   context = context_for m old
 
@@ -191,7 +192,7 @@ module _ (law : StandardControlIsSound) (targets_stay : TargetsStay) (deeds_stay
 
   valid : (results : List PrimitiveTypeInfo) (beyond : Beyond) → IsValid context results (by_asked (structural old_body) beyond) old_body →
       IsValid (wider input more context) results (by_asked (structural new_body) beyond) new_body
-  valid results beyond = wrapped_valid input more context results beyond w.front w.back w.head w.own w.code w.checks
+  valid results beyond = wrapped_valid alike_law input more context results beyond w.front w.back w.head w.own w.code w.checks
 
   targets : (beyond : Beyond) → HasTargets m (structural old_body) (by_asked (structural old_body) beyond) →
       HasTargets (wider_module input more m) (structural new_body) (by_asked (structural new_body) beyond)
@@ -226,8 +227,8 @@ module _ (law : StandardControlIsSound) (targets_stay : TargetsStay) (deeds_stay
       are : ◌≡◌ {A = List Operator × List Operator} (old_body, new_body) (old.operators, new.operators)
       are = ap₂ (λ (x y : List Operator). (x, y)) (sym w.old_is) (sym w.new_is)
 
-pub wrapped_does : StandardControlIsSound → TargetsStay → DeedsStay → WrappedCodeDoes
-wrapped_does law targets_stay deeds_stay m input more old new w = does_same law targets_stay deeds_stay m input more old new w
+pub wrapped_does : StandardControlIsSound → MoreGlobalsCheckAlike → TargetsStay → DeedsStay → WrappedCodeDoes
+wrapped_does law alike_law targets_stay deeds_stay m input more old new w = does_same law alike_law targets_stay deeds_stay m input more old new w
 
 -- ---- a module
 

@@ -13,8 +13,9 @@ use Rattle.peephole_programs.specs.control.Standard.{Caught, branches, begins, d
 use Rattle.peephole_programs.specs.validation.Algorithm.{Frame}
 use Rattle.peephole_programs.specs.validation.StandardSteps.{by_step}
 use Rattle.wrapped_code.specs.Tables.{suc_unless, place_of, TablesLoseNothing}
-use Rattle.wrapped_code.proofs.MovedLemmas.{moved, moved_piece, moved_labels, moved_reached, moved_behind, piece_before, piece_behind, moved_caught, IsAsking, TellsAlike, control_moved}
-use Rattle.wrapped_code.proofs.CheckLemmas.{step_numbers}
+use Rattle.wrapped_code.proofs.MovedLemmas.{moved, moved_piece, moved_labels, moved_reached, moved_behind, piece_before, piece_behind}
+use Rattle.wrapped_code.proofs.ControlLemmas.{moved_caught, IsAsking, TellsAlike, control_moved}
+use Rattle.wrapped_code.proofs.StepLemmas.{step_numbers}
 
 found : (os : List Operator) (k : ℕ) (o : Operator) → slice_get os k ≡ Some o → asks_beyond o ≡ true → place_of os (asked_before os k) ≡ k
 found [] k o at t = absurd cc

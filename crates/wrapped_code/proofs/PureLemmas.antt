@@ -16,8 +16,8 @@ use Rattle.peephole_machine.specs.OutcomeLemmas.{run_append, run_one}
 use Rattle.peephole_machine.specs.RowLemmas.{step_at, act_is}
 use Rattle.peephole_machine.specs.StateLemmas.{context_is}
 use Rattle.peephole_machine.specs.TypeLemmas.{find_local, find_global, run_keeps}
-use Rattle.peephole_programs.proofs.control.NumberLemmas.{same_types_self}
 use Rattle.wrapped_code.specs.Ways.{IsPure, PureCode}
+use Rattle.wrapped_code.proofs.FrameLemmas.{same_types_self}
 
 module _ (context : Context) where
   abbrev Gives : List Instruction → (State → Value) → Type 0

@@ -8,23 +8,14 @@ use Rattle.wasm_types.specs.declared.types.PrimitiveTypeInfo.{PrimitiveTypeInfo}
 use Rattle.wasm_types.specs.declared.types.PrimitiveTypeInfo.TheVariants as primitive
 use Rattle.peephole_machine.specs.Values.{Context}
 use Rattle.peephole_programs.specs.control.Blocks.{Arity, arity_of, has_arity}
-use Rattle.peephole_programs.specs.validation.Algorithm.{Entry, all_may_be, Frame, popped, with_pushed, on_innermost}
+use Rattle.peephole_programs.specs.validation.Algorithm.{Entry, all_may_be, Frame, check_code, popped, with_pushed, on_innermost}
 use Rattle.peephole_programs.specs.validation.StandardSteps.{pop, push, cut_off, opened_by, open_frame, label_types, is_empty, can_close, leaves_alike, close_frame, other_of, other_frame, only_where}
 use Rattle.peephole_programs.specs.validation.StaysValid.{with_types}
-use Rattle.peephole_programs.proofs.validation.RowChecks.{all_known, popped_known, pushed_known, none_on, one_on_other, pushes_on, pops}
-use Rattle.peephole_programs.proofs.control.NumberLemmas.{same_types_self}
 use Rattle.wrapped_code.specs.Wrapped.{Wrapped, plain, block, loop, choice, leaving, exits, once, trap, check_wrapped}
 use Rattle.wrapped_code.specs.Ways.{WrappedPushes, WrappedCodePushes, PushedCodeChecksAs}
+use Rattle.wrapped_code.proofs.FrameLemmas.{pop_known, none_on, one_on_other}
 
 -- ---- types that are popped
-
-pop_known : (ts : List PrimitiveTypeInfo) (f : Frame) → pop ts (with_types ts f) ≡ Some f
-pop_known ts f =
-    let n = length ts in
-    let fits : all_may_be (popped n (with_types ts f)) ts ≡ true =
-    ap (λ es. all_may_be es ts) (popped_known f ts n refl) ∙ (all_known ts ts ∙ same_types_self ts) in
-    ap₂ (λ (a b : Bool). if a && b then Some (with_pushed n (with_types ts f) []) else None) (pops f ts n refl) fits ∙
-    ap Some (pushed_known f ts n refl [] ∙ ap (λ (es : List Entry). record f { operands = es }) (append-nil f.operands))
 
 or_true : (b : Bool) → (b || true) ≡ true
 or_true true = refl
@@ -260,7 +251,8 @@ wrapped_pushes = record {
 
 pub pushed_checks : PushedCodeChecksAs
 pushed_checks context after own c us h k f g outer e =
-    let there : ◌≡◌ {A = Option Frame} (Some g) (Some (with_types us f)) = sym e ∙ pushes_on context own us h f in
+    let there : ◌≡◌ {A = Option Frame} (Some g) (Some (with_types us f)) =
+    sym e ∙ (ap (check_code context own) (sym (none_on f)) ∙ h f) in
     let same : g ≡ with_types us f = some_is g (with_types us f) there in
     ap (λ (x : Frame). check_wrapped after c (x ∷ outer)) (sym (none_on f)) ∙ (k f outer ∙ ap (λ (x : Frame). Some (x ∷ outer)) (sym same))
   where

@@ -24,8 +24,10 @@ use Rattle.peephole_programs.specs.control.Blocks.{closing, other_part}
 use Rattle.peephole_programs.specs.control.Laws.{StandardControlIsSound}
 use Rattle.wrapped_code.specs.Wrapped.{Wrapped, written, run_wrapped, WrappedRunsAs}
 use Rattle.wrapped_code.proofs.PlaceLemmas.{bones, past, coded_structure, written_structure, bones_append, past_adds, past_counts, closing_past, other_past, IsBehind, coded_behind, written_behind, count, front_behind, front_structure, front_piece, last_piece}
-use Rattle.wrapped_code.proofs.RunLemmas.{coded_first, go_then, visits_past, visits_split, past_done, visit_not, visit_at, past_skip, through}
-use Rattle.wrapped_code.proofs.MovedLemmas.{moved, moved_piece, moved_labels, moved_reached, moved_before, moved_behind, piece_before, piece_behind, TellsAlike, control_moved}
+use Rattle.wrapped_code.proofs.VisitLemmas.{coded_first, go_then, visits_past, visits_split, past_done, visit_not, visit_at, past_skip}
+use Rattle.wrapped_code.proofs.RunLemmas.{through}
+use Rattle.wrapped_code.proofs.MovedLemmas.{moved, moved_piece, moved_labels, moved_reached, moved_before, moved_behind, piece_before, piece_behind}
+use Rattle.wrapped_code.proofs.ControlLemmas.{TellsAlike, control_moved}
 use Rattle.wrapped_code.proofs.HandlerLemmas.{NoHandler}
 use Rattle.wrapped_code.proofs.TableLemmas.{no_tables, tables_moved}
 

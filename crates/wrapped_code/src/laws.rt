@@ -7,10 +7,13 @@ ghost use Rattle.wrapped_code.specs.Ways.{PureCode, PushedCodeChecksAs, WrappedC
 use peephole_programs::laws::{
     one_function_is_rewritten, standard_control_is_sound, valid_modules_do_more,
 };
-use peephole_programs::validity::{valid_bodies_stay_valid, valid_code_runs};
+use peephole_programs::validity::{
+    valid_bodies_stay_valid, valid_code_runs, validity_goes_by_types,
+};
 
-/// A function in which instructions were replaced by wrapped code does as it did (`does`). A module with such a function, in every
-/// embedder that is sound for it, answers as it did (`more`), and is valid (`valid`).
+/// A function in which instructions were replaced by wrapped code, and which has no block that catches exceptions, does as it did
+/// (`does`). A module with such a function, in every embedder that is sound for it, answers as it did (`more`), and is valid
+/// (`valid`).
 pub fn wrapped_code_does_as_before()
     ensures does { WrappedCodeDoes }
     ensures more { WrappedModulesDoMore }
@@ -19,6 +22,7 @@ pub fn wrapped_code_does_as_before()
     standard_control_is_sound();
     one_function_is_rewritten();
     valid_modules_do_more();
+    validity_goes_by_types();
     valid_bodies_stay_valid();
 }
 
@@ -35,7 +39,7 @@ pub fn wrapped_code_runs()
     valid_code_runs();
 }
 
-/// A value in a block, or in a loop that is left at its end: the function does as it did.
+/// A value in a block, or in a loop that is left at its end: a function without blocks that catch exceptions does as it did.
 pub fn values_in_blocks_do_as_before()
     ensures { ValuesInBlocks }
 {
