@@ -1,0 +1,5 @@
+pub mod Wrapped
+pub mod Handlers
+pub mod Laws
+pub mod Ways
+pub mod Tables

@@ -1,0 +1,138 @@
+-- Ways to wrap code: which code pushes what, and which runs as the instructions that it replaces (this project).
+use Rattle.std.specs.Prelude.{◌≡◌, ℕ, true, List, [], ◌∷◌, ◌++◌, Some, is_some}
+use Rattle.std.specs.List.{All}
+use Rattle.wasm_code.specs.Instruction.{Instruction}
+use Rattle.wasm_code.specs.declared.immediate.BlockType.{BlockType}
+use Rattle.wasm_types.specs.declared.types.PrimitiveTypeInfo.{PrimitiveTypeInfo}
+use Rattle.wasm_types.specs.declared.types.PrimitiveTypeInfo.TheVariants as primitive
+use Rattle.peephole_machine.specs.declared.integer.IntegerType.{IntegerType}
+use Rattle.peephole_machine.specs.declared.integer.IntegerType.TheVariants as integer
+use Rattle.peephole_machine.specs.Integer.{IntegerOperator}
+use Rattle.peephole_machine.specs.Agreement.{EndsTyped}
+use Rattle.peephole_machine.specs.Values.{type_of, Value, IsValue, Context, State, Variable, HasTypes, Outcome, Ends, above}
+use Rattle.peephole_machine.specs.IntegerRow.{constant, operation, get, select, variable_type, is_numeric, integer_row}
+use Rattle.peephole_machine.specs.Machine.{run}
+use Rattle.peephole_programs.specs.control.Function.{RunsAs}
+use Rattle.peephole_programs.specs.control.Blocks.{arity_of, has_arity}
+use Rattle.peephole_programs.specs.validation.Algorithm.{Frame}
+use Rattle.peephole_programs.specs.validation.StaysValid.{with_types, Pushes}
+use Rattle.wrapped_code.specs.Wrapped.{Wrapped, plain, both, block, loop, choice, leaving, exits, once, trap, check_wrapped, WrappedRunsAs, WrappedChecksAs}
+
+-- ---- types
+
+-- On every frame the code is valid with the first types on top, and leaves the others in their place, whatever the frames around it.
+abbrev pub WrappedPushes : Context → Wrapped → (ts us : List PrimitiveTypeInfo) → Type 0
+WrappedPushes context c ts us = (f : Frame) (outer : List Frame) → check_wrapped context c (with_types ts f ∷ outer) ≡ Some (with_types us f ∷ outer)
+
+-- What wrapped code pushes. Where one part of a conditional traps, the other pushes; code behind a branch is typed from nothing, or isn't there.
+pub record WrappedCodePushes : Type 0 where
+  pub plain_code : (context : Context) (code : List Instruction) (ts us : List PrimitiveTypeInfo) → Pushes context code ts us →
+      WrappedPushes context (plain code) ts us
+  pub follow : (context : Context) (a b : Wrapped) (ts us vs : List PrimitiveTypeInfo) → WrappedPushes context a ts us → WrappedPushes context b us vs →
+      WrappedPushes context (both a b) ts vs
+  pub above : (context : Context) (c : Wrapped) (below ts us : List PrimitiveTypeInfo) → WrappedPushes context c ts us →
+      WrappedPushes context c (below ++ ts) (below ++ us)
+  pub in_block : (context : Context) (t : BlockType) (a : Wrapped) → has_arity context.info t ≡ true →
+      WrappedPushes context a (arity_of context.info t).starts (arity_of context.info t).ends →
+      WrappedPushes context (block t a) (arity_of context.info t).starts (arity_of context.info t).ends
+  pub in_loop : (context : Context) (t : BlockType) (a : Wrapped) → has_arity context.info t ≡ true →
+      WrappedPushes context a (arity_of context.info t).starts (arity_of context.info t).ends →
+      WrappedPushes context (loop t a) (arity_of context.info t).starts (arity_of context.info t).ends
+  pub in_parts : (context : Context) (t : BlockType) (a b : Wrapped) → has_arity context.info t ≡ true →
+      WrappedPushes context a (arity_of context.info t).starts (arity_of context.info t).ends →
+      WrappedPushes context b (arity_of context.info t).starts (arity_of context.info t).ends →
+      WrappedPushes context (choice t a b) ((arity_of context.info t).starts ++ primitive.I32 ∷ []) (arity_of context.info t).ends
+  pub in_first : (context : Context) (t : BlockType) (a : Wrapped) → has_arity context.info t ≡ true →
+      WrappedPushes context a (arity_of context.info t).starts (arity_of context.info t).ends →
+      WrappedPushes context (choice t a trap) ((arity_of context.info t).starts ++ primitive.I32 ∷ []) (arity_of context.info t).ends
+  pub in_second : (context : Context) (t : BlockType) (a : Wrapped) → has_arity context.info t ≡ true →
+      WrappedPushes context a (arity_of context.info t).starts (arity_of context.info t).ends →
+      WrappedPushes context (choice t trap a) ((arity_of context.info t).starts ++ primitive.I32 ∷ []) (arity_of context.info t).ends
+  pub before_dead : (context : Context) (t : BlockType) (a dead : Wrapped) → has_arity context.info t ≡ true →
+      WrappedPushes context a (arity_of context.info t).starts (arity_of context.info t).ends →
+      WrappedPushes context dead [] (arity_of context.info t).ends →
+      WrappedPushes context (leaving t a dead) (arity_of context.info t).starts (arity_of context.info t).ends
+  pub before_end : (context : Context) (t : BlockType) (a : Wrapped) → has_arity context.info t ≡ true →
+      WrappedPushes context a (arity_of context.info t).starts (arity_of context.info t).ends →
+      WrappedPushes context (leaving t a (plain [])) (arity_of context.info t).starts (arity_of context.info t).ends
+  pub before_exit : (context : Context) (t : BlockType) (a b : Wrapped) → has_arity context.info t ≡ true →
+      WrappedPushes context a (arity_of context.info t).starts ((arity_of context.info t).ends ++ primitive.I32 ∷ []) →
+      WrappedPushes context b (arity_of context.info t).ends (arity_of context.info t).ends →
+      WrappedPushes context (exits t a b) (arity_of context.info t).starts (arity_of context.info t).ends
+  pub in_once : (context : Context) (t : BlockType) (a : Wrapped) → has_arity context.info t ≡ true → (arity_of context.info t).starts ≡ [] →
+      WrappedPushes context a [] ((arity_of context.info t).ends ++ primitive.I32 ∷ []) →
+      WrappedPushes context (once t a) [] (arity_of context.info t).ends
+
+-- Where the instructions push these types from nothing, and so does the code in the module with further globals, it is checked as they are.
+abbrev pub PushedCodeChecksAs : Type 0
+PushedCodeChecksAs =
+    (context after : Context) (own : List Instruction) (c : Wrapped) (us : List PrimitiveTypeInfo) → Pushes context own [] us →
+    WrappedPushes after c [] us → WrappedChecksAs context after own c
+
+-- ---- runs
+
+-- From every state of the context's types the code pushes one value of that type, which the state alone tells, and changes nothing.
+pub record IsPure (context : Context) (t : PrimitiveTypeInfo) (code : List Instruction) : Type 0 where
+  pub value : State → Value
+  pub typed : (s : State) → HasTypes context s → (value s).type ≡ t
+  pub is_value : (s : State) → HasTypes context s → IsValue (value s)
+  pub gives : (stack : List Value) (s : State) → All IsValue stack → HasTypes context s → run code stack s ≡ Ends (stack ++ value s ∷ []) s
+
+-- What the code does is the same above every stack: from every state of the context's types it pushes one value of that type, or traps.
+pub record IsAlone (context : Context) (t : PrimitiveTypeInfo) (code : List Instruction) : Type 0 where
+  pub does : State → Outcome
+  pub typed : (s : State) → HasTypes context s → EndsTyped context (t ∷ []) (does s)
+  pub gives : (stack : List Value) (s : State) → All IsValue stack → HasTypes context s → run code stack s ≡ above stack (does s)
+
+-- It leaves that pure code's value as it is.
+abbrev pub LeavesValue : (context : Context) (t u : PrimitiveTypeInfo) (code other : List Instruction) → IsAlone context t code → IsPure context u other →
+    Type 0
+LeavesValue context t u code other alone pure =
+    (s after : State) (vs : List Value) → HasTypes context s → alone.does s ≡ Ends vs after → pure.value after ≡ pure.value s
+
+-- Code that is pure: a constant, a variable's value, and an integer operator that never traps, on pure code.
+pub record PureCode : Type 0 where
+  pub of_constant : (context : Context) (i : Instruction) (t : IntegerType) (n : ℕ) → integer_row i ≡ constant t n → IsPure context (type_of t) (i ∷ [])
+  pub of_variable : (context : Context) (i : Instruction) (x : Variable) (t : PrimitiveTypeInfo) → integer_row i ≡ get x →
+      variable_type context x ≡ Some t → IsPure context t (i ∷ [])
+  pub of_one : (context : Context) (i : Instruction) (f : IntegerOperator) (t : PrimitiveTypeInfo) (x : List Instruction) →
+      integer_row i ≡ operation f → f.operands ≡ t ∷ [] → ((n : ℕ) → is_some (f.value (n ∷ [])) ≡ true) → IsPure context t x →
+      IsPure context (type_of f.result) (x ++ i ∷ [])
+  pub of_two : (context : Context) (i : Instruction) (f : IntegerOperator) (t u : PrimitiveTypeInfo) (x y : List Instruction) →
+      integer_row i ≡ operation f → f.operands ≡ t ∷ u ∷ [] → ((n k : ℕ) → is_some (f.value (n ∷ k ∷ [])) ≡ true) → IsPure context t x →
+      IsPure context u y → IsPure context (type_of f.result) (x ++ (y ++ i ∷ []))
+
+-- What runs as the instructions that it replaces: instructions that do; code that does, in a block or a loop; as the part of a conditional that a
+-- constant chooses; before a branch to the end of its block, where the instructions push what the block gives, also under a pure condition, whatever that
+-- is; in a loop before a jump back under a pure condition that is always zero; and for a select of pure code, a conditional.
+pub record WrappedCodeRuns : Type 0 where
+  pub plain_code : (context : Context) (requests : List PrimitiveTypeInfo) (own code : List Instruction) → RunsAs context requests own code →
+      WrappedRunsAs context requests own (plain code)
+  pub in_block : (context : Context) (requests : List PrimitiveTypeInfo) (own : List Instruction) (t : BlockType) (c : Wrapped) →
+      WrappedRunsAs context requests own c → WrappedRunsAs context requests own (block t c)
+  pub in_loop : (context : Context) (requests : List PrimitiveTypeInfo) (own : List Instruction) (t : BlockType) (c : Wrapped) →
+      WrappedRunsAs context requests own c → WrappedRunsAs context requests own (loop t c)
+  pub in_first : (context : Context) (requests : List PrimitiveTypeInfo) (own : List Instruction) (t : BlockType) (one : Instruction) (c d : Wrapped) →
+      integer_row one ≡ constant integer.I32 1 → WrappedRunsAs context requests own c →
+      WrappedRunsAs context requests own (both (plain (one ∷ [])) (choice t c d))
+  pub in_second : (context : Context) (requests : List PrimitiveTypeInfo) (own : List Instruction) (t : BlockType) (none : Instruction) (c d : Wrapped) →
+      integer_row none ≡ constant integer.I32 0 → WrappedRunsAs context requests own d →
+      WrappedRunsAs context requests own (both (plain (none ∷ [])) (choice t c d))
+  pub before_branch : (context : Context) (requests : List PrimitiveTypeInfo) (own : List Instruction) (t : BlockType) (c dead : Wrapped) →
+      (arity_of context.info t).starts ≡ [] → Pushes context own [] (arity_of context.info t).ends → WrappedRunsAs context requests own c →
+      WrappedRunsAs context requests own (leaving t c dead)
+  pub before_condition : (context : Context) (requests : List PrimitiveTypeInfo) (own : List Instruction) (t : BlockType) (c : Wrapped)
+      (condition : List Instruction) → (arity_of context.info t).starts ≡ [] → Pushes context own [] (arity_of context.info t).ends →
+      IsPure context primitive.I32 condition → WrappedRunsAs context requests own c →
+      WrappedRunsAs context requests own (exits t (both c (plain condition)) (plain []))
+  pub before_jump : (context : Context) (requests : List PrimitiveTypeInfo) (own : List Instruction) (t : BlockType) (c : Wrapped)
+      (condition : List Instruction) (pure : IsPure context primitive.I32 condition) →
+      ((s : State) → HasTypes context s → (pure.value s).number ≡ 0) → WrappedRunsAs context requests own c →
+      WrappedRunsAs context requests own (once t (both c (plain condition)))
+  pub selected : (context : Context) (requests : List PrimitiveTypeInfo) (x y c : List Instruction) (pick : Instruction) (t : PrimitiveTypeInfo)
+      (u : BlockType) → integer_row pick ≡ select → is_numeric t ≡ true → IsPure context t x → IsPure context t y → IsPure context primitive.I32 c →
+      WrappedRunsAs context requests (x ++ (y ++ (c ++ pick ∷ []))) (both (plain c) (choice u (plain x) (plain y)))
+  pub selected_after : (context : Context) (requests : List PrimitiveTypeInfo) (x y c : List Instruction) (pick : Instruction) (t : PrimitiveTypeInfo)
+      (u : BlockType) → integer_row pick ≡ select → is_numeric t ≡ true → (px : IsPure context t x) (py : IsPure context t y)
+      (alone : IsAlone context primitive.I32 c) → LeavesValue context primitive.I32 t c x alone px → LeavesValue context primitive.I32 t c y alone py →
+      WrappedRunsAs context requests (x ++ (y ++ (c ++ pick ∷ []))) (both (plain c) (choice u (plain x) (plain y)))

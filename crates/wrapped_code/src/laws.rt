@@ -1,0 +1,57 @@
+//! What holds where instructions are replaced by code with control flow of its own. A function here does nothing: its contract is the law.
+
+ghost use Rattle.wrapped_code.specs.Laws.{ValuesInBlocks, WrappedCodeDoes, WrappedModulesDoMore, WrappedModulesStayValid};
+ghost use Rattle.wrapped_code.specs.Tables.{TablesLoseNothing};
+ghost use Rattle.wrapped_code.specs.Ways.{PureCode, PushedCodeChecksAs, WrappedCodePushes, WrappedCodeRuns};
+
+use peephole_programs::laws::{
+    one_function_is_rewritten, standard_control_is_sound, valid_modules_do_more,
+};
+use peephole_programs::validity::{
+    valid_bodies_stay_valid, valid_code_runs, validity_goes_by_types,
+};
+
+/// A function in which instructions were replaced by wrapped code, and which has no block that catches exceptions, does as it did
+/// (`does`). A module with such a function, in every embedder that is sound for it, answers as it did (`more`), and is valid
+/// (`valid`).
+pub fn wrapped_code_does_as_before()
+    ensures does { WrappedCodeDoes }
+    ensures more { WrappedModulesDoMore }
+    ensures valid { WrappedModulesStayValid }
+{
+    standard_control_is_sound();
+    one_function_is_rewritten();
+    valid_modules_do_more();
+    validity_goes_by_types();
+    valid_bodies_stay_valid();
+}
+
+/// What wrapped code pushes (`push`), and that it is checked as instructions that push the same (`alike`).
+pub fn wrapped_code_pushes()
+    ensures push { WrappedCodePushes }
+    ensures alike { PushedCodeChecksAs }
+{}
+
+/// Blocks, loops, conditionals and branches around code that runs as the instructions run as they do.
+pub fn wrapped_code_runs()
+    ensures { WrappedCodeRuns }
+{
+    valid_code_runs();
+}
+
+/// A value in a block, or in a loop that is left at its end: a function without blocks that catch exceptions does as it did.
+pub fn values_in_blocks_do_as_before()
+    ensures { ValuesInBlocks }
+{
+    wrapped_code_does_as_before();
+}
+
+/// What operators don't carry may be given by their numbers among those that ask it.
+pub fn tables_lose_nothing()
+    ensures { TablesLoseNothing }
+{}
+
+/// Constants, variables and integer operators that never trap are pure.
+pub fn some_code_is_pure()
+    ensures { PureCode }
+{}
