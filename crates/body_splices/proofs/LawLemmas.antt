@@ -1,5 +1,5 @@
 -- The laws of bodies with pieces in the place of operators.
-use Rattle.std.proofs.Common.{◌≡◌, ℕ, ◌-◌, Bool, true, false, List, [], ◌∷◌, ◌++◌, take, drop, map, IsTrue, refl, sym, ap, ap₂, subst, ◌∙◌}
+use Rattle.std.proofs.Common.{◌≡◌, ℕ, ◌-◌, ◌&&◌, not, Bool, true, false, List, [], ◌∷◌, ◌++◌, take, drop, map, IsTrue, refl, sym, ap, ap₂, subst, ◌∙◌}
 use Rattle.std.proofs.Common.{append_assoc}
 use Rattle.std.specs.Prelude.{slice_range}
 use Rattle.std.specs.List.{All}
@@ -10,11 +10,11 @@ use Rattle.wasm_code.specs.Instruction.{Instruction}
 use Rattle.wasm_code.specs.declared.operator.Operator.{Operator}
 use Rattle.wasm_code.specs.declared.operator.Operator.TheVariants.{Instr}
 use Rattle.body_splices.specs.declared.piece.Piece.{Piece}
-use Rattle.body_splices.specs.declared.piece.Piece.TheVariants.{Kept, New}
-use Rattle.body_splices.specs.OwnBytes.{own_bytes, and_where, is_structural, structural_bytes, without_offsets}
+use Rattle.body_splices.specs.declared.piece.Piece.TheVariants.{Kept, New, Structural}
+use Rattle.body_splices.specs.OwnBytes.{own_bytes, and_where, is_structural, bytes_where, none_of, without_offsets}
 use Rattle.body_splices.specs.Splice.{piece_bytes, pieces_bytes}
 use Rattle.body_splices.specs.Laws.{OwnBytesStay, piece_operators, pieces_operators, SplicedOperatorsAre}
-use Rattle.body_splices.specs.Laws.{AreInstructions, KeepsInstructions, SplicesKeepStructure}
+use Rattle.body_splices.specs.Laws.{KeepsInstructions, SplicesKeepOperators, SplicesKeepStructure}
 use Rattle.body_splices.proofs.SpellingLemmas.{Spelling, spellings_of, all_joined, ends_with, ends_placed}
 use Rattle.body_splices.proofs.BodyLemmas.{own_there, range_behind}
 
@@ -54,6 +54,7 @@ names_range ps start end =
 names_piece : (own : List Spelling) (piece : Piece) → names (piece_bytes own piece) ≡ piece_operators (names own) piece
 names_piece own (Kept start end) = names_range own start end
 names_piece own (New i) = refl
+names_piece own (Structural c) = refl
 
 names_pieces : (own : List Spelling) (pieces : List Piece) → names (pieces_bytes own pieces) ≡ pieces_operators (names own) pieces
 names_pieces own [] = refl
@@ -76,67 +77,83 @@ operators_are input operators start end pieces old new spliced =
     ∙ (ap names spliced.bytes_are ∙ (parts
     ∙ ap (λ (os : List Operator). take start os ++ (pieces_operators os pieces ++ drop end os)) (names_own input operators)))
 
--- ---- the structure
+-- ---- what stays
 
-structural-append : (ps qs : List Spelling) → structural_bytes (ps ++ qs) ≡ structural_bytes ps ++ structural_bytes qs
-structural-append [] qs = refl
-structural-append (p ∷ ps) qs =
-    ap (and_where (is_structural p.0) p) (structural-append ps qs) ∙ go (is_structural p.0) (structural_bytes ps) (structural_bytes qs)
+where-append : (holds : Operator → Bool) (ps qs : List Spelling) → bytes_where holds (ps ++ qs) ≡ bytes_where holds ps ++ bytes_where holds qs
+where-append holds [] qs = refl
+where-append holds (p ∷ ps) qs =
+    ap (and_where (holds p.0) p) (where-append holds ps qs) ∙ go (holds p.0) (bytes_where holds ps) (bytes_where holds qs)
   where
     go : (b : Bool) (xs ys : List Spelling) → and_where b p (xs ++ ys) ≡ and_where b p xs ++ ys
     go true xs ys = refl
     go false xs ys = refl
 
--- instructions have none
-none_structural : (ps : List Spelling) (instructions : List Instruction) → names ps ≡ map (λ (i : Instruction). Instr i) instructions →
-    structural_bytes ps ≡ []
-none_structural [] is e = refl
-none_structural (p ∷ ps) [] e = absurd cc
-none_structural (p ∷ ps) (i ∷ is) e =
-    let here : p.0 ≡ Instr i = cc in
-    let more : names ps ≡ map (λ (i : Instruction). Instr i) is = cc in
-    ap (λ (o : Operator). and_where (is_structural o) p (structural_bytes ps)) here ∙ none_structural ps is more
-
-range_none : (input : List ℕ) (operators : List (Operator × ℕ)) (start end : ℕ) → AreInstructions operators start end →
-    structural_bytes (slice_range (own_bytes input operators) start end) ≡ []
-range_none input operators start end h =
-    let own = own_bytes input operators in
-    let first : Operator × ℕ → Operator = λ o. o.0 in
-    let there : names (slice_range own start end) ≡ without_offsets (slice_range operators start end) =
-    names_range own start end ∙ (ap (λ (os : List Operator). slice_range os start end) (names_own input operators)
-    ∙ (ap (take (end - start)) (drop-map first start operators) ∙ take-map first (end - start) (drop start operators))) in
-    none_structural (slice_range own start end) h.instructions (there ∙ h.stand)
-
-piece_none : (input : List ℕ) (operators : List (Operator × ℕ)) (piece : Piece) → KeepsInstructions operators piece →
-    structural_bytes (piece_bytes (own_bytes input operators) piece) ≡ []
-piece_none input operators (Kept start end) h = range_none input operators start end h
-piece_none input operators (New i) h = refl
-
-pieces_none : (input : List ℕ) (operators : List (Operator × ℕ)) (pieces : List Piece) → All (KeepsInstructions operators) pieces →
-    structural_bytes (pieces_bytes (own_bytes input operators) pieces) ≡ []
-pieces_none input operators [] h = refl
-pieces_none input operators (p ∷ ps) h =
-    let own = own_bytes input operators in
-    structural-append (piece_bytes own p) (pieces_bytes own ps)
-    ∙ ap₂ (λ (xs ys : List Spelling). xs ++ ys) (piece_none input operators p (All-head (KeepsInstructions operators) p ps h))
-    (pieces_none input operators ps (All-tail (KeepsInstructions operators) p ps h))
+none_there : (holds : Operator → Bool) (ps : List Spelling) → none_of holds (names ps) ≡ true → bytes_where holds ps ≡ []
+none_there holds [] e = refl
+none_there holds (p ∷ ps) e = go (holds p.0) (bytes_where holds ps) (none_there holds ps) e
+  where
+    go : (b : Bool) (rest : List Spelling) → (none_of holds (names ps) ≡ true → rest ≡ []) → (not b && none_of holds (names ps)) ≡ true →
+        and_where b p rest ≡ []
+    go true rest h e = absurd cc
+    go false rest h e = h e
 
 -- what has none may stand in the middle
-structural_around : (front middle back : List Spelling) → structural_bytes middle ≡ [] →
-    structural_bytes (front ++ (middle ++ back)) ≡ structural_bytes front ++ structural_bytes back
-structural_around front middle back none =
-    structural-append front (middle ++ back)
-    ∙ ap (λ (xs : List Spelling). structural_bytes front ++ xs)
-    (structural-append middle back ∙ ap (λ (xs : List Spelling). xs ++ structural_bytes back) none)
+where_around : (holds : Operator → Bool) (front middle back : List Spelling) → none_of holds (names middle) ≡ true →
+    bytes_where holds (front ++ (middle ++ back)) ≡ bytes_where holds front ++ bytes_where holds back
+where_around holds front middle back none =
+    where-append holds front (middle ++ back)
+    ∙ ap (λ (xs : List Spelling). bytes_where holds front ++ xs)
+    (where-append holds middle back ∙ ap (λ (xs : List Spelling). xs ++ bytes_where holds back) (none_there holds middle none))
 
-pub structure_kept : SplicesKeepStructure
-structure_kept input operators start end pieces old new spliced l range kept =
+pub operators_kept : SplicesKeepOperators
+operators_kept holds input operators start end pieces old new spliced l range kept =
     let own = own_bytes input operators in
     let front = take start own in
     let back = drop end own in
     let part = slice_range own start end in
     let whole : own ≡ front ++ (part ++ back) =
     sym (take-append-drop end own) ∙ (ap (λ (ps : List Spelling). ps ++ back) (range_behind own start end l) ∙ append_assoc front part back) in
-    ap structural_bytes spliced.bytes_are
-    ∙ (structural_around front (pieces_bytes own pieces) back (pieces_none input operators pieces kept)
-    ∙ sym (ap structural_bytes whole ∙ structural_around front part back (range_none input operators start end range)))
+    let named : names part ≡ slice_range (without_offsets operators) start end =
+    names_range own start end ∙ ap (λ (os : List Operator). slice_range os start end) (names_own input operators) in
+    let written : names (pieces_bytes own pieces) ≡ pieces_operators (without_offsets operators) pieces =
+    names_pieces own pieces ∙ ap (λ (os : List Operator). pieces_operators os pieces) (names_own input operators) in
+    ap (bytes_where holds) spliced.bytes_are
+    ∙ (where_around holds front (pieces_bytes own pieces) back (ap (none_of holds) written ∙ kept)
+    ∙ sym (ap (bytes_where holds) whole ∙ where_around holds front part back (ap (none_of holds) named ∙ range)))
+
+-- ---- the structure
+
+-- instructions are no structural operators
+none_structural : (is : List Instruction) (os : List Operator) → none_of is_structural (map (λ (i : Instruction). Instr i) is ++ os) ≡ none_of is_structural os
+none_structural [] os = refl
+none_structural (i ∷ is) os = none_structural is os
+
+none_alone : (is : List Instruction) → none_of is_structural (map (λ (i : Instruction). Instr i) is) ≡ true
+none_alone [] = refl
+none_alone (i ∷ is) = none_alone is
+
+range_is : (operators : List (Operator × ℕ)) (start end : ℕ) →
+    slice_range (without_offsets operators) start end ≡ without_offsets (slice_range operators start end)
+range_is operators start end =
+    let first : Operator × ℕ → Operator = λ o. o.0 in
+    ap (take (end - start)) (drop-map first start operators) ∙ take-map first (end - start) (drop start operators)
+
+piece_none : (operators : List (Operator × ℕ)) (piece : Piece) (os : List Operator) → KeepsInstructions operators piece →
+    none_of is_structural (piece_operators (without_offsets operators) piece ++ os) ≡ none_of is_structural os
+piece_none operators (Kept start end) os h =
+    ap (λ (l : List Operator). none_of is_structural (l ++ os)) (range_is operators start end ∙ h.stand) ∙ none_structural h.instructions os
+piece_none operators (New i) os h = refl
+piece_none operators (Structural c) os h = absurd h
+
+pieces_none : (operators : List (Operator × ℕ)) (pieces : List Piece) → All (KeepsInstructions operators) pieces →
+    none_of is_structural (pieces_operators (without_offsets operators) pieces) ≡ true
+pieces_none operators [] h = refl
+pieces_none operators (p ∷ ps) h =
+    piece_none operators p (pieces_operators (without_offsets operators) ps) (All-head (KeepsInstructions operators) p ps h)
+    ∙ pieces_none operators ps (All-tail (KeepsInstructions operators) p ps h)
+
+pub structure_kept : SplicesKeepStructure
+structure_kept input operators start end pieces old new spliced l range kept =
+    operators_kept is_structural input operators start end pieces old new spliced l
+    (ap (none_of is_structural) (range_is operators start end ∙ range.stand) ∙ none_alone range.instructions)
+    (pieces_none operators pieces kept)

@@ -1,4 +1,5 @@
 pub mod OwnBytes
+pub mod Control
 pub mod Splice
 pub mod Putting
 pub mod Laws

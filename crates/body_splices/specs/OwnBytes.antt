@@ -1,5 +1,5 @@
 -- The bytes of each operator of a body (WebAssembly Core Specification 3.0, Binary Format, Instructions).
-use Rattle.std.specs.Prelude.{ℕ, ◌+◌, ◌≤◌, Bool, true, false, List, [], ◌∷◌, length, map, slice_range}
+use Rattle.std.specs.Prelude.{ℕ, ◌+◌, ◌≤◌, ◌&&◌, not, Bool, true, false, List, [], ◌∷◌, length, map, slice_range}
 use Rattle.wasm_code.specs.Body.{SpellsCode}
 use Rattle.wasm_code.specs.declared.operator.Operator.{Operator}
 use Rattle.wasm_code.specs.declared.operator.Operator.TheVariants.{Instr}
@@ -32,7 +32,16 @@ abbrev pub is_structural : Operator → Bool
 is_structural (Instr i) = false
 is_structural o = true
 
+-- the operators that it holds of, in their order, with their bytes
+abbrev pub bytes_where : (holds : Operator → Bool) → List (Operator × List ℕ) → List (Operator × List ℕ)
+bytes_where holds [] = []
+bytes_where holds (p ∷ ps) = and_where (holds p.0) p (bytes_where holds ps)
+
+-- it holds of none of the operators
+abbrev pub none_of : (holds : Operator → Bool) → List Operator → Bool
+none_of holds [] = true
+none_of holds (o ∷ os) = not (holds o) && none_of holds os
+
 -- the structural operators, in their order, with their bytes
 abbrev pub structural_bytes : List (Operator × List ℕ) → List (Operator × List ℕ)
-structural_bytes [] = []
-structural_bytes (p ∷ ps) = and_where (is_structural p.0) p (structural_bytes ps)
+structural_bytes ps = bytes_where is_structural ps

@@ -5,7 +5,7 @@ use Rattle.wasm_code.specs.Body.{bytes_of}
 use Rattle.wasm_code.specs.Instruction.{IsInstruction}
 use Rattle.wasm_code.specs.declared.operator.Operator.{Operator}
 use Rattle.body_splices.specs.declared.piece.Piece.{Piece}
-use Rattle.body_splices.specs.declared.piece.Piece.TheVariants.{Kept, New}
+use Rattle.body_splices.specs.declared.piece.Piece.TheVariants.{Kept, New, Structural}
 use Rattle.body_splices.specs.Splice.{piece_bytes, pieces_bytes}
 
 -- where an operator starts in the input
@@ -16,6 +16,7 @@ offset_of operators at = slice_index (map (λ (o : Operator × ℕ). o.1) operat
 abbrev pub IsCoded : Piece → Type 0
 IsCoded (Kept start end) = ⊤
 IsCoded (New i) = IsInstruction i
+IsCoded (Structural c) = ⊤
 
 -- The bytes of the piece are behind what there was.
 pub record PutsPiece (own : List (Operator × List ℕ)) (piece : Piece) (old new : List ℕ) : Type 0 where

@@ -5,7 +5,8 @@ use Rattle.wasm_code.specs.Code.{code}
 use Rattle.wasm_code.specs.declared.operator.Operator.{Operator}
 use Rattle.wasm_code.specs.declared.operator.Operator.TheVariants.{Instr}
 use Rattle.body_splices.specs.declared.piece.Piece.{Piece}
-use Rattle.body_splices.specs.declared.piece.Piece.TheVariants.{Kept, New}
+use Rattle.body_splices.specs.declared.piece.Piece.TheVariants.{Kept, New, Structural}
+use Rattle.body_splices.specs.Control.{control_operator, control_bytes}
 use Rattle.body_splices.specs.OwnBytes.{own_bytes}
 
 -- The operators from `start` up to the one before `end` stand in the body, and something stands behind them.
@@ -17,11 +18,14 @@ pub record IsRangeIn (operators : List (Operator × ℕ)) (start end : ℕ) : Ty
 abbrev pub IsPieceIn : List (Operator × ℕ) → Piece → Type 0
 IsPieceIn operators (Kept start end) = IsRangeIn operators start end
 IsPieceIn operators (New i) = ⊤
+IsPieceIn operators (Structural c) = ⊤
 
--- the operators of a piece with their bytes: those that are kept have the bytes that they had, a new instruction has its code
+-- the operators of a piece with their bytes: those that are kept have the bytes that they had, a new instruction has its code, a structural operator its
+-- bytes
 abbrev pub piece_bytes : List (Operator × List ℕ) → Piece → List (Operator × List ℕ)
 piece_bytes own (Kept start end) = slice_range own start end
 piece_bytes own (New i) = (Instr i, code i) ∷ []
+piece_bytes own (Structural c) = (control_operator c, control_bytes c) ∷ []
 
 -- those of the pieces, one behind another
 abbrev pub pieces_bytes : List (Operator × List ℕ) → List Piece → List (Operator × List ℕ)

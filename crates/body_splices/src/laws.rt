@@ -1,5 +1,5 @@
 //! What holds of bodies with pieces in the place of operators. A function here does nothing: its contract is the law.
-ghost use Rattle.body_splices.specs.Laws.{OwnBytesAreTheBody, OwnBytesStay, SplicedOperatorsAre, SplicesKeepStructure};
+ghost use Rattle.body_splices.specs.Laws.{OwnBytesAreTheBody, OwnBytesStay, SplicedOperatorsAre, SplicesKeepOperators, SplicesKeepStructure};
 
 use wasm_code::laws::one_list;
 
@@ -20,8 +20,10 @@ pub fn spliced_operators_are()
     ensures { SplicedOperatorsAre }
 {}
 
-/// Where instructions alone are replaced and kept, `splice` leaves all other operators as they were, with their bytes and in their
-/// order: the body stays as well nested as it was.
-pub fn splices_keep_structure()
-    ensures { SplicesKeepStructure }
+/// `splice` leaves operators of a kind as they were, with their bytes and in their order, where none of it are replaced or written
+/// (`operators`); so, where instructions are replaced by instructions, all others, and the body stays as well nested as it was
+/// (`structure`).
+pub fn splices_keep_operators()
+    ensures operators { SplicesKeepOperators }
+    ensures structure { SplicesKeepStructure }
 {}

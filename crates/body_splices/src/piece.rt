@@ -1,5 +1,6 @@
 //! What is put in the place of a body's operators.
 
+use crate::control::Control;
 use wasm_code::Instr;
 
 /// A piece of a body's new code.
@@ -14,6 +15,8 @@ pub enum Piece {
     },
     /// A new instruction.
     New(Instr),
+    /// A new structural operator.
+    Structural(Control),
 }
 
 impl Default for Piece {

@@ -7,6 +7,7 @@ ghost use Rattle.body_splices.specs.Splice.{IsRangeIn, IsPieceIn, AppendsSpliced
 ghost use Rattle.body_splices.specs.Putting.{PutsPiece, PutsPieces, PutsSpliced};
 
 use crate::bytes::{bytes_between, bytes_from};
+use crate::control::put_control;
 use crate::piece::Piece;
 use std::ops::Range;
 use wasm_code::laws::code_spells;
@@ -32,6 +33,7 @@ fn put_piece(
             let _row = instr.row();
             sink.instruction(instr)
         }
+        Piece::Structural(control) => put_control(*control, sink),
     }
 }
 
@@ -82,10 +84,11 @@ fn put_spliced(
 /// `operators` with their offsets are those of a body in `input_wasm`, as `read_body` and `read_code` give them. `range`, and that
 /// of each piece that keeps operators, is one of their indexes that ends before the last one, the body's own `end`; it may be empty,
 /// and there may be no pieces. Operators that stay or are kept have the bytes that they had, also where a number is spelled by more
-/// of them than it needs; a new instruction has its code, with shortest numbers. What is written is read again as these operators,
+/// of them than it needs; a new instruction has its code, with shortest numbers, and a new structural operator its bytes. What is written is read again as these operators,
 /// with these bytes (`spliced_operators_are`, `own_bytes_are_the_body`).
 ///
-/// Nesting isn't looked at: where instructions alone are replaced and kept, it stays as it was (`splices_keep_structure`).
+/// Nesting isn't looked at: where instructions alone are replaced and written, it stays as it was (`splices_keep_operators`, of the
+/// structural operators).
 ///
 /// It takes time linear in the number of pieces and in what it writes. The only error is `Memory`: no memory was left for the sink,
 /// which then holds its old bytes.
