@@ -15,7 +15,7 @@ use Rattle.peephole_machine.specs.Values.{Context}
 use Rattle.rewrite_rules.specs.declared.rule.Rule.{Rule}
 use Rattle.rewrite_rules.specs.declared.pattern.Operator.TheVariants.{Whole}
 use Rattle.rewrite_rules.specs.declared.table.Own.{Own}
-use Rattle.rewrite_rules.specs.declared.table.Own.TheVariants.{Unfold, ThroughGlobal, WithNop, Fold, Forget, TeeToSet, DropNop, SetToTee, Access as Accesses}
+use Rattle.rewrite_rules.specs.declared.table.Own.TheVariants.{Unfold, ThroughGlobal, WithNop, Fold, Forget, TeeToSet, DropNop, SetToTee, Access as Accesses, Wrap as Wraps, Unwrap as Unwraps}
 use Rattle.rewrite_rules.specs.declared.table.Row.{Row}
 use Rattle.rewrite_rules.specs.declared.table.Widths.{Widths}
 use Rattle.rewrite_rules.specs.declared.table.Widths.TheVariants as widths
@@ -100,6 +100,8 @@ own_inside context operators at TeeToSet start (made.SetAndGet n) (e, h) = has_i
 own_inside context operators at DropNop start made.Nothing (e, h) = has_inside operators at nop_code h
 own_inside context operators at SetToTee start (made.Tee n) (e, h, k) = has_inside operators at (get_local n) k
 own_inside context operators at (Accesses n) start (made.Access a w) f = access_inside context operators n start at a w f
+own_inside context operators at (Wraps w) start (made.Wrapped v t) (e, u, n, tree) = tree.inside
+own_inside context operators at (Unwraps w) start (made.Inner from end) h = let l = h.inside in omega arith
 own_inside context operators at own start m h = absurd h
 
 makes_inside : (context : Context) (operators : List (Operator × ℕ)) (line : Line) (at : ℕ) (change : Change) (w : Widths) →

@@ -19,7 +19,12 @@ pub mod AloneLineLemmas
 pub mod OperatorLemmas
 pub mod WritingLemmas
 pub mod CandidateLemmas
+pub mod BehindLemmas
 pub mod ChangedLemmas
+pub mod LineStandLemmas
+pub mod WrapLemmas
+pub mod WrapStandLemmas
+pub mod WrapFindLemmas
 pub mod OperationCodeLemmas
 pub mod OwnRowLemmas
 pub mod OwnStandLemmas

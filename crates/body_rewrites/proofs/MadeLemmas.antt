@@ -14,7 +14,7 @@ use Rattle.body_splices.specs.Splice.{IsRangeIn}
 use Rattle.peephole_machine.specs.declared.integer.IntegerType.{IntegerType}
 use Rattle.peephole_machine.specs.Values.{Context}
 use Rattle.rewrite_rules.specs.declared.table.Own.{Own}
-use Rattle.rewrite_rules.specs.declared.table.Own.TheVariants.{Unfold, ThroughGlobal, WithNop, Fold, Forget, TeeToSet, DropNop, SetToTee, Access as Accesses}
+use Rattle.rewrite_rules.specs.declared.table.Own.TheVariants.{Unfold, ThroughGlobal, WithNop, Fold, Forget, TeeToSet, DropNop, SetToTee, Access as Accesses, Wrap as Wraps, Unwrap as Unwraps}
 use Rattle.rewrite_rules.specs.declared.table.Widths.{Widths}
 use Rattle.rewrite_rules.specs.declared.table.Widths.TheVariants as widths
 use Rattle.rewrite_rules.specs.Beside.{constants}
@@ -42,30 +42,10 @@ use Rattle.body_rewrites.proofs.SplitLemmas.{count_is}
 
 -- ---- something stands behind what is rewritten
 
-behind_instruction : (operators : Operators) (at : ℕ) (i : Instruction) → HasInstruction operators at i → IsTrue (ends operators) → at + 1 < length operators
-behind_instruction [] at i e h = absurd (false≢true h)
-behind_instruction (x ∷ []) zero i e h = absurd (false≢true (sym (ap is_end (let is : x.0 ≡ Instr i = cc in is)) ∙ h))
-behind_instruction (x ∷ []) (suc at) i e h = absurd cc
-behind_instruction (x ∷ y ∷ os) zero i e h = omega arith
-behind_instruction (x ∷ y ∷ os) (suc at) i e h = let n = behind_instruction (y ∷ os) at i e h in omega arith
-
--- the last of instructions that stand together
-last_there : (operators : Operators) (s at : ℕ) (code : List Instruction) → s ≤ at → at < length operators → Stands operators s (at + 1) code →
-    (i : Instruction) × HasInstruction operators at i
-last_there operators s at code l inside h =
-    let count = count_is operators s (at + 1) code (omega (arith, inside)) h in
-    let (i, is) = one_there code (at - s) (omega (arith, count, l)) in
-    let there : s + (at - s) ≡ at = omega (arith, l) in (
-      i,
-      ap (slice_get (map (λ (o : Operator × ℕ). o.0) operators)) (sym there)
-          ∙ (sym (entry_in operators s (at + 1) (at - s) (omega (arith, l))) ∙ (ap (λ os. slice_get os (at - s)) h ∙ is)),
-    )
-
 pub range_is_in : (context : Context) (input : List ℕ) (operators : Operators) (at : ℕ) (change : Change) → IsBodyIn input operators →
     at < length operators → MayStand context operators at change → IsRangeIn operators change.start (at + 1)
 range_is_in context input operators at change body inside may =
-    let (i, has) = last_there operators change.start at may.old may.ordered inside may.stands in
-    record { ordered = omega (arith, may.ordered); inside = behind_instruction operators at i has body.spells.last }
+    record { ordered = omega (arith, may.ordered); inside = may.followed inside body.spells.last }
 
 -- ---- the operator is one of the body
 
@@ -99,6 +79,8 @@ own_inside context operators TeeToSet start at (made.SetAndGet n) (e, h) = instr
 own_inside context operators DropNop start at made.Nothing (e, h) = instruction_inside operators at _ h
 own_inside context operators SetToTee start at (made.Tee n) (e, h, g) = instruction_inside operators at _ g
 own_inside context operators (Accesses n) start at (made.Access a w) f = access_inside context operators n start at a w f
+own_inside context operators (Wraps w) start at (made.Wrapped v t) (e, u, n, tree) = tree.inside
+own_inside context operators (Unwraps w) start at (made.Inner from end) h = let l = h.inside in omega arith
 own_inside context operators own start at m r = absurd r
 
 line_inside : (context : Context) (operators : Operators) (line : Line) (at : ℕ) (change : Change) → IsLineChange context operators line at change →

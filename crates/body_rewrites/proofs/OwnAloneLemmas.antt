@@ -3,6 +3,7 @@ use Rattle.std.proofs.Common.{◌≡◌, ℕ, zero, suc, ◌+◌, ◌-◌, ◌<�
 use Rattle.std.specs.Prelude.{slice_get}
 use Rattle.std.proofs.lemmas.Nat.{pow_pos}
 use Rattle.std.proofs.lemmas.Int.{of_z-to_z}
+use Rattle.std.proofs.lemmas.Option.{same_Some}
 use Rattle.std.proofs.lemmas.List.{same_from_push}
 use Rattle.std.proofs.Math.Nat.{mod-lt, mod-eq_of_lt}
 use mir.Val.{bits}
@@ -21,7 +22,7 @@ use Rattle.rewrite_rules.specs.Numbers.{low}
 use Rattle.rewrite_rules.specs.Instance.{constant_code, operator_code}
 use Rattle.rewrite_rules.specs.Beside.{constants, left_by}
 use Rattle.rewrite_rules.specs.declared.table.Own.{Own}
-use Rattle.rewrite_rules.specs.declared.table.Own.TheVariants.{Unfold, ThroughGlobal, WithNop, Fold, Forget, TeeToSet, DropNop, SetToTee, Access as Accesses}
+use Rattle.rewrite_rules.specs.declared.table.Own.TheVariants.{Unfold, ThroughGlobal, WithNop, Fold, Forget, TeeToSet, DropNop, SetToTee, Access as Accesses, Wrap as Wraps, Unwrap as Unwraps}
 use Rattle.body_rewrites.specs.declared.own.Made.{Made}
 use Rattle.body_rewrites.specs.declared.own.Made.TheVariants as made
 use Rattle.body_rewrites.specs.Trees.{Stands, IsTree, tree_after}
@@ -187,6 +188,20 @@ module _ (context : Context) (operators : Operators) where
       let (e, x, y) = one_access context operators n s k at a b w v f g in
       (e, ap₂ (λ a w. made.Access a w) x y)
   one_site (Accesses n) s k at (made.Access a w) l r q = absurd q
+  one_site (Wraps w) s k at (made.Wrapped v t) (made.Wrapped x y) (e, u, n, a) (f, z, p, b) = (
+      one_start context operators s k at u z a b,
+      ap₂ (λ v t. made.Wrapped v t) (e ∙ sym f) (same_Some t y (sym n ∙ (ap value_of (one_type s k at u z a b) ∙ p))),
+    )
+  one_site (Wraps w) s k at (made.Wrapped v t) l r q = absurd q
+  one_site (Unwraps w) s k at (made.Inner from end) (made.Inner other behind) a b =
+      let one = a.ends in
+      let two = b.ends in
+      let same : end ≡ behind = omega (arith, one, two) in
+      let last : b.last ≡ a.last = let x = a.last_is in let y = b.last_is in omega (arith, x, y, same) in
+      let from_is : from ≡ other =
+      one_start context operators from other a.last a.type b.type a.tree (subst (λ n. IsTree context operators other n b.type) last b.tree) in
+      (let x = a.begins in let y = b.begins in omega (arith, x, y, from_is), ap₂ (λ f e. made.Inner f e) from_is same)
+  one_site (Unwraps w) s k at (made.Inner from end) l r q = absurd q
   one_site own s k at m l r q = absurd r
 
   pub one_change : (at : ℕ) (own : Own) (change other : Change) → IsOwnChange context operators own at change → IsOwnChange context operators own at other →

@@ -15,7 +15,7 @@ use Rattle.rewrite_rules.specs.Instance.{constant_code}
 use Rattle.rewrite_rules.specs.Beside.{nop_code, drop_code, get_local, tee_local}
 use Rattle.body_rewrites.specs.declared.changes.NewCode.{NewCode}
 use Rattle.rewrite_rules.specs.declared.table.Own.{Own}
-use Rattle.rewrite_rules.specs.declared.table.Own.TheVariants.{Unfold, ThroughGlobal, WithNop, Fold, Forget, TeeToSet, DropNop, SetToTee, Access as Accesses}
+use Rattle.rewrite_rules.specs.declared.table.Own.TheVariants.{Unfold, ThroughGlobal, WithNop, Fold, Forget, TeeToSet, DropNop, SetToTee, Access as Accesses, Wrap as Wraps, Unwrap as Unwraps}
 use Rattle.body_rewrites.specs.declared.own.Made.{Made}
 use Rattle.body_rewrites.specs.declared.own.Made.TheVariants as made
 use Rattle.body_rewrites.specs.declared.own.Site.{Site}
@@ -44,6 +44,8 @@ module _ (context : Context) (operators : Operators) (at : ℕ) where
   within DropNop start made.Nothing (e, h) = inside operators at nop_code h
   within SetToTee start (made.Tee n) (e, h, g) = inside operators at (get_local n) g
   within (Accesses n) start (made.Access a w) f = access_inside context operators n start at a w f
+  within (Wraps w) start (made.Wrapped v t) (e, u, n, tree) = tree.inside
+  within (Unwraps w) start (made.Inner from end) h = let l = h.inside in omega arith
   within own start m r = absurd r
 
   pub none_behind : length operators ≤ at → (own : Own) (change : Change) → IsOwnChange context operators own at change → ⊥
@@ -89,6 +91,8 @@ module _ (formed : AccessesAreFormed) (context : Context) (operators : Operators
   is_writable TeeToSet start (made.Access a w) r = absurd r
   is_writable DropNop start (made.Access a w) r = absurd r
   is_writable SetToTee start (made.Access a w) r = absurd r
+  is_writable (Wraps v) start (made.Access a w) r = absurd r
+  is_writable (Unwraps v) start (made.Access a w) r = absurd r
   is_writable own start made.Nothing r = tt
   is_writable own start (made.Constant t n) r = tt
   is_writable own start (made.Sum t n) r = tt
@@ -96,6 +100,8 @@ module _ (formed : AccessesAreFormed) (context : Context) (operators : Operators
   is_writable own start (made.Global t g) r = tt
   is_writable own start (made.SetAndGet n) r = tt
   is_writable own start (made.Tee n) r = tt
+  is_writable own start (made.Wrapped w t) r = tt
+  is_writable own start (made.Inner from end) r = tt
 
 pub if_none : {A : Type 0} (o : Option A) (P Q : Type 0) → (P → Q) → IfNone o P → IfNone o Q
 if_none (Some x) P Q f h = tt

@@ -6,13 +6,14 @@ use Rattle.std.proofs.lemmas.List.{drop-map, take-map, length-append}
 use Rattle.wasm_code.specs.Instruction.{Instruction}
 use Rattle.wasm_code.specs.declared.operator.Operator.{Operator}
 use Rattle.body_splices.specs.OwnBytes.{without_offsets}
+use Rattle.body_splices.specs.declared.piece.Piece.TheVariants.{Kept}
 use Rattle.body_splices.specs.Laws.{pieces_operators}
 use Rattle.peephole_machine.specs.Values.{Context}
 use Rattle.rewrite_rules.specs.declared.growth.Growth.TheVariants as rows
 use Rattle.rewrite_rules.specs.Access.{conversion_size, right_code}
 use Rattle.rewrite_rules.specs.Beside.{get_global, set_global}
 use Rattle.rewrite_rules.specs.declared.table.Own.{Own}
-use Rattle.rewrite_rules.specs.declared.table.Own.TheVariants.{Unfold, ThroughGlobal, WithNop, Fold, Forget, TeeToSet, DropNop, SetToTee, Access as Accesses}
+use Rattle.rewrite_rules.specs.declared.table.Own.TheVariants.{Unfold, ThroughGlobal, WithNop, Fold, Forget, TeeToSet, DropNop, SetToTee, Access as Accesses, Wrap as Wraps, Unwrap as Unwraps}
 use Rattle.body_rewrites.specs.declared.own.Made.{Made}
 use Rattle.body_rewrites.specs.declared.own.Made.TheVariants as made
 use Rattle.body_rewrites.specs.declared.own.Site.{Site}
@@ -25,6 +26,7 @@ use Rattle.body_rewrites.proofs.StandsLemmas.{Operators}
 use Rattle.body_rewrites.proofs.MatchingLemmas.{length_in}
 use Rattle.body_rewrites.proofs.OperationCodeLemmas.{takes}
 use Rattle.body_rewrites.proofs.OwnAloneLemmas.{count_left}
+use Rattle.body_rewrites.proofs.WrapLemmas.{front_some, wrapped_count, inner_count}
 
 -- the growth of a row is so in bodies
 grows_so : (left right new old : ℕ) → new ≡ right + 1 → old ≡ left + 1 →
@@ -86,6 +88,19 @@ module _ (context : Context) (operators : Operators) (at : ℕ) where
       let count = new_count (right_code a w) in
       let size = side_size a.kind a.right.row a.right.conversion w in
       grows_so (conversion_size a.left.conversion) (conversion_size a.right.conversion) _ (at + 1 - start) (count ∙ size) (omega (arith, begins))
+  growth_at (Wraps w) start (made.Wrapped v t) (e, u, n, tree) word =
+      let count = wrapped_count operators start at v t word (length_in operators start (at + 1) (omega (arith, tree.inside)))  in
+      let some = front_some v in
+      omega (arith, count, some)
+  growth_at (Unwraps w) start (made.Inner from end) h word =
+      let some = front_some w in
+      let ordered = h.tree.ordered in
+      let last = h.last_is in
+      let begins = h.begins in
+      let ends = h.ends in
+      let inside = h.inside in
+      let count = inner_count operators from end (omega (arith, last, ordered)) (omega (arith, ends, inside)) in
+      (let l : length (pieces_operators (without_offsets operators) (Kept from end ∷ [])) < at + 1 - start = omega (arith, count, some, begins, ends, last, ordered) in l)
   growth_at own start m r word = absurd r
 
   pub is_growing : (own : Own) (site : Site) → Rewrites context operators own site.start at site.made →

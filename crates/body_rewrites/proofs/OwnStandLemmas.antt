@@ -1,6 +1,6 @@
 -- What a rule beside the table makes may stand in the place of what it rewrites.
 use Rattle.std.proofs.Common.{◌≡◌, ℕ, ◌+◌, ◌-◌, ◌≤◌, ◌<◌, List, [], ◌∷◌, ◌++◌, length, map, take, drop, refl, sym, ap, subst, ◌∙◌, arith}
-use Rattle.std.specs.Prelude.{slice_range}
+use Rattle.std.specs.Prelude.{slice_range, ⊤}
 use Rattle.std.specs.List.{All}
 use Rattle.std.proofs.lemmas.List.{drop-map, take-map, append-nil}
 use Rattle.std.proofs.lemmas.List.Elements.{All-nil, All-cons}
@@ -17,17 +17,24 @@ use Rattle.rewrite_rules.specs.Access.{left_code, right_code}
 use Rattle.rewrite_rules.specs.Instance.{constant_code, operator_code}
 use Rattle.rewrite_rules.specs.Beside.{StandsWith, BesidesKeepCode, nop_code, drop_code, get_local, set_local, tee_local, get_global, set_global, constants, sum_code}
 use Rattle.rewrite_rules.specs.declared.table.Own.{Own}
-use Rattle.rewrite_rules.specs.declared.table.Own.TheVariants.{Unfold, ThroughGlobal, WithNop, Fold, Forget, TeeToSet, DropNop, SetToTee, Access as Accesses}
+use Rattle.rewrite_rules.specs.declared.table.Own.TheVariants.{Unfold, ThroughGlobal, WithNop, Fold, Forget, TeeToSet, DropNop, SetToTee, Access as Accesses, Wrap as Wraps, Unwrap as Unwraps}
 use Rattle.body_rewrites.specs.declared.own.Made.{Made}
 use Rattle.body_rewrites.specs.declared.own.Made.TheVariants as made
 use Rattle.body_rewrites.specs.Trees.{Stands}
 use Rattle.body_rewrites.specs.Open.{HasInstruction}
 use Rattle.body_rewrites.specs.Matching.{instructions}
-use Rattle.body_rewrites.specs.Changes.{Change, pieces_code, MayStand}
+use Rattle.peephole_programs.specs.control.Laws.{ReplacedCodeIsInOnePiece}
+use Rattle.peephole_programs.specs.hosts.EmbedderLaws.{PiecesDo}
+use Rattle.peephole_programs.specs.validation.StaysValid.{ReplacedCodeStaysValid}
+use Rattle.wrapped_code.specs.Laws.{WrappedCodeDoes, UnwrappedCodeDoes}
+use Rattle.rewrite_rules.specs.Wrap.{WrapsAreRight}
+use Rattle.body_rewrites.specs.Changes.{Change, pieces_code, KeepsCode, MayStand}
 use Rattle.body_rewrites.specs.Own.{Rewrites, new, made_pieces, made_asks, change_of, IsOwnChange}
 use Rattle.body_rewrites.proofs.AccessLemmas.{access_start}
 use Rattle.body_rewrites.proofs.StandsLemmas.{Operators, stands_nothing, stands_snoc}
 use Rattle.body_rewrites.proofs.LeavesLemmas.{trees_leave}
+use Rattle.body_rewrites.proofs.ChangedLemmas.{keeps_may_stand}
+use Rattle.body_rewrites.proofs.WrapStandLemmas.{wrap_stands, unwrap_stands}
 
 -- ---- what is written
 
@@ -57,6 +64,12 @@ kept_are operators start end code h =
     ap (take (end - start)) (drop-map (λ (o : Operator × ℕ). o.0) start operators)
     ∙ (take-map (λ (o : Operator × ℕ). o.0) (end - start) (drop start operators) ∙ h)
 
+-- what is made is instructions in the place of instructions
+abbrev IsInPlace : Made → Type 0
+IsInPlace (made.Wrapped w t) = ⊥
+IsInPlace (made.Inner from end) = ⊥
+IsInPlace m = ⊤
+
 -- the code that is made of this code
 abbrev made_code : (old : List Instruction) → Made → (word : ℕ) → List Instruction
 made_code old made.Nothing word = []
@@ -67,60 +80,70 @@ made_code old (made.Global t g) word = old ++ set_global g ∷ get_global g ∷ 
 made_code old (made.SetAndGet n) word = set_local n ∷ get_local n ∷ []
 made_code old (made.Tee n) word = tee_local n ∷ []
 made_code old (made.Access a w) word = right_code a w
+made_code old m word = []
 
 module _ (operators : Operators) (start at : ℕ) (old : List Instruction) (ordered : start ≤ at) (stands : Stands operators start (at + 1) old) where
   kept_back : (os : List Operator) → instructions (slice_range (without_offsets operators) start (at + 1) ++ os) ≡ old ++ instructions os
   kept_back os = ap (λ l. instructions (l ++ os)) (kept_are operators start (at + 1) old stands) ∙ read_back old os
 
-  written_is : (m : Made) (word : ℕ) → pieces_code operators (made_pieces start at m word) ≡ made_code old m word
-  written_is made.Nothing word = refl
-  written_is (made.Constant t n) word = refl
-  written_is (made.Sum t n) word = refl
-  written_is made.Nop word = ap (λ is. nop_code ∷ is) (kept_back [] ∙ append-nil old)
-  written_is (made.Global t g) word =
+  written_is : (m : Made) → IsInPlace m → (word : ℕ) → pieces_code operators (made_pieces start at m word) ≡ made_code old m word
+  written_is made.Nothing here word = refl
+  written_is (made.Constant t n) here word = refl
+  written_is (made.Sum t n) here word = refl
+  written_is made.Nop here word = ap (λ is. nop_code ∷ is) (kept_back [] ∙ append-nil old)
+  written_is (made.Global t g) here word =
       kept_back (pieces_operators (without_offsets operators) (new (set_global g ∷ get_global g ∷ [])))
-  written_is (made.SetAndGet n) word = refl
-  written_is (made.Tee n) word = refl
-  written_is (made.Access a w) word = new_back operators (right_code a w)
+  written_is (made.SetAndGet n) here word = refl
+  written_is (made.Tee n) here word = refl
+  written_is (made.Access a w) here word = new_back operators (right_code a w)
+  written_is m here word = absurd here
 
-  within_is : (m : Made) (word : ℕ) → at + 1 < length operators → All (IsPieceIn operators) (made_pieces start at m word)
-  within_is made.Nothing word l = All-nil (IsPieceIn operators)
-  within_is (made.Constant t n) word l = new_within operators (constant_code t n ∷ [])
-  within_is (made.Sum t n) word l = new_within operators (sum_code t n word)
-  within_is made.Nop word l =
+  within_is : (m : Made) → IsInPlace m → (word : ℕ) → at + 1 < length operators → All (IsPieceIn operators) (made_pieces start at m word)
+  within_is made.Nothing here word l = All-nil (IsPieceIn operators)
+  within_is (made.Constant t n) here word l = new_within operators (constant_code t n ∷ [])
+  within_is (made.Sum t n) here word l = new_within operators (sum_code t n word)
+  within_is made.Nop here word l =
       All-cons (IsPieceIn operators) (New nop_code) (Kept start (at + 1) ∷ []) tt
       (All-cons (IsPieceIn operators) (Kept start (at + 1)) [] (record { ordered = omega arith; inside = l }) (All-nil (IsPieceIn operators)))
-  within_is (made.Global t g) word l =
+  within_is (made.Global t g) here word l =
       All-cons (IsPieceIn operators) (Kept start (at + 1)) (new (set_global g ∷ get_global g ∷ [])) (record { ordered = omega arith; inside = l })
       (new_within operators (set_global g ∷ get_global g ∷ []))
-  within_is (made.SetAndGet n) word l = new_within operators (set_local n ∷ get_local n ∷ [])
-  within_is (made.Tee n) word l = new_within operators (tee_local n ∷ [])
-  within_is (made.Access a w) word l = new_within operators (right_code a w)
+  within_is (made.SetAndGet n) here word l = new_within operators (set_local n ∷ get_local n ∷ [])
+  within_is (made.Tee n) here word l = new_within operators (tee_local n ∷ [])
+  within_is (made.Access a w) here word l = new_within operators (right_code a w)
+  within_is m here word l = absurd here
 
-  keep_is : (m : Made) (word : ℕ) → All (KeepsInstructions operators) (made_pieces start at m word)
-  keep_is made.Nothing word = All-nil (KeepsInstructions operators)
-  keep_is (made.Constant t n) word = new_keep operators (constant_code t n ∷ [])
-  keep_is (made.Sum t n) word = new_keep operators (sum_code t n word)
-  keep_is made.Nop word =
+  keep_is : (m : Made) → IsInPlace m → (word : ℕ) → All (KeepsInstructions operators) (made_pieces start at m word)
+  keep_is made.Nothing here word = All-nil (KeepsInstructions operators)
+  keep_is (made.Constant t n) here word = new_keep operators (constant_code t n ∷ [])
+  keep_is (made.Sum t n) here word = new_keep operators (sum_code t n word)
+  keep_is made.Nop here word =
       All-cons (KeepsInstructions operators) (New nop_code) (Kept start (at + 1) ∷ []) tt
       (All-cons (KeepsInstructions operators) (Kept start (at + 1)) [] (record { instructions = old; stand = stands }) (All-nil (KeepsInstructions operators)))
-  keep_is (made.Global t g) word =
+  keep_is (made.Global t g) here word =
       All-cons (KeepsInstructions operators) (Kept start (at + 1)) (new (set_global g ∷ get_global g ∷ [])) (record { instructions = old; stand = stands })
       (new_keep operators (set_global g ∷ get_global g ∷ []))
-  keep_is (made.SetAndGet n) word = new_keep operators (set_local n ∷ get_local n ∷ [])
-  keep_is (made.Tee n) word = new_keep operators (tee_local n ∷ [])
-  keep_is (made.Access a w) word = new_keep operators (right_code a w)
+  keep_is (made.SetAndGet n) here word = new_keep operators (set_local n ∷ get_local n ∷ [])
+  keep_is (made.Tee n) here word = new_keep operators (tee_local n ∷ [])
+  keep_is (made.Access a w) here word = new_keep operators (right_code a w)
+  keep_is m here word = absurd here
 
-  made_stands : (context : Context) (m : Made) → ((word : ℕ) → StandsWith context (made_asks m) old (made_code old m word)) →
-      MayStand context operators at (change_of at (record { start = start; made = m }))
-  made_stands context m same = record {
+  made_stands : (context : Context) (m : Made) → IsInPlace m → ((word : ℕ) → StandsWith context (made_asks m) old (made_code old m word)) →
+      KeepsCode context operators at (change_of at (record { start = start; made = m }))
+  made_stands context m here same = record {
     ordered = ordered;
     old = old;
     stands = stands;
-    within = within_is m;
-    keep = keep_is m;
-    same = λ word. subst (StandsWith context (made_asks m) old) (sym (written_is m word)) (same word);
+    within = within_is m here;
+    keep = keep_is m here;
+    same = λ word. subst (StandsWith context (made_asks m) old) (sym (written_is m here word)) (same word);
   }
+
+-- the rule puts instructions in the place of instructions
+abbrev KeepsInPlace : Own → Type 0
+KeepsInPlace (Wraps w) = ⊥
+KeepsInPlace (Unwraps w) = ⊥
+KeepsInPlace own = ⊤
 
 -- ---- what is rewritten
 
@@ -129,46 +152,74 @@ one_here operators at i h = stands_snoc operators at at [] i (omega arith) h (st
 
 module _ (laws : BesidesKeepCode) (context : Context) (operators : Operators) (at : ℕ) where
   abbrev Stand : ℕ → Made → Type 0
-  Stand start m = MayStand context operators at (change_of at (record { start = start; made = m }))
+  Stand start m = KeepsCode context operators at (change_of at (record { start = start; made = m }))
 
   -- what is made of the one instruction at the operator
-  of_one : (start : ℕ) (i : Instruction) (m : Made) → start ≡ at → HasInstruction operators at i →
+  of_one : (start : ℕ) (i : Instruction) (m : Made) → IsInPlace m → start ≡ at → HasInstruction operators at i →
       ((word : ℕ) → StandsWith context (made_asks m) (i ∷ []) (made_code (i ∷ []) m word)) → Stand start m
-  of_one start i m e h same =
-      subst (λ s. Stand s m) (sym e) (made_stands operators at at (i ∷ []) (omega arith) (one_here operators at i h) context m same)
+  of_one start i m here e h same =
+      subst (λ s. Stand s m) (sym e) (made_stands operators at at (i ∷ []) (omega arith) (one_here operators at i h) context m here same)
 
-  stand_at : (own : Own) (start : ℕ) (m : Made) → Rewrites context operators own start at m → Stand start m
-  stand_at Unfold start (made.Sum t n) (e, c) = of_one start (constant_code t n) (made.Sum t n) e c.has (laws.as_a_sum context t n)
-  stand_at ThroughGlobal start (made.Global t g) (tree, number, e, small) =
-      made_stands operators start at tree.code tree.ordered tree.stands context (made.Global t g) (λ word.
+  stand_at : (own : Own) (start : ℕ) (m : Made) → KeepsInPlace own → Rewrites context operators own start at m → Stand start m
+  stand_at Unfold start (made.Sum t n) keeps (e, c) = of_one start (constant_code t n) (made.Sum t n) tt e c.has (laws.as_a_sum context t n)
+  stand_at ThroughGlobal start (made.Global t g) keeps (tree, number, e, small) =
+      made_stands operators start at tree.code tree.ordered tree.stands context (made.Global t g) tt (λ word.
       subst (λ k. StandsWith context (t ∷ []) tree.code (tree.code ++ set_global k ∷ get_global k ∷ [])) (sym e)
       (laws.through_global context t tree.code (trees_leave context operators start at t tree)))
-  stand_at WithNop start made.Nop (t, tree) =
-      made_stands operators start at tree.code tree.ordered tree.stands context made.Nop (λ word. laws.with_nop context tree.code)
-  stand_at Fold start (made.Constant t n) f =
+  stand_at WithNop start made.Nop keeps (t, tree) =
+      made_stands operators start at tree.code tree.ordered tree.stands context made.Nop tt (λ word. laws.with_nop context tree.code)
+  stand_at Fold start (made.Constant t n) keeps f =
       let ends = f.ends in
-      made_stands operators start at (constants f.operands ++ operator_code (Whole f.operation) ∷ []) (omega arith) f.stands context (made.Constant t n)
+      made_stands operators start at (constants f.operands ++ operator_code (Whole f.operation) ∷ []) (omega arith) f.stands context (made.Constant t n) tt
       (λ word. subst (λ u. StandsWith context [] (constants f.operands ++ operator_code (Whole f.operation) ∷ []) (constant_code u n ∷ [])) f.type_is
       (laws.fold context f.operation f.operands n f.typed f.value_is))
-  stand_at Forget start made.Nothing f =
+  stand_at Forget start made.Nothing keeps f =
       let ends = f.ends in
       let ordered = f.tree.ordered in
       made_stands operators start at (f.tree.code ++ drop_code ∷ []) (omega arith)
       (stands_snoc operators start at f.tree.code drop_code (omega arith) f.dropped (subst (λ e. Stands operators start e f.tree.code) ends f.tree.stands))
-      context made.Nothing
+      context made.Nothing tt
       (λ word. laws.forget context f.type f.tree.code (trees_leave context operators start f.last f.type f.tree) f.reads f.returns)
-  stand_at TeeToSet start (made.SetAndGet n) (e, h) = of_one start (tee_local n) (made.SetAndGet n) e h (λ word. laws.tee_to_set context n)
-  stand_at DropNop start made.Nothing (e, h) = of_one start nop_code made.Nothing e h (λ word. laws.drop_nop context)
-  stand_at SetToTee start (made.Tee n) (e, h, g) =
+  stand_at TeeToSet start (made.SetAndGet n) keeps (e, h) = of_one start (tee_local n) (made.SetAndGet n) tt e h (λ word. laws.tee_to_set context n)
+  stand_at DropNop start made.Nothing keeps (e, h) = of_one start nop_code made.Nothing tt e h (λ word. laws.drop_nop context)
+  stand_at SetToTee start (made.Tee n) keeps (e, h, g) =
       made_stands operators start at (set_local n ∷ get_local n ∷ []) (omega arith)
       (stands_snoc operators start at (set_local n ∷ []) (get_local n) (omega arith) g
       (subst (λ k. Stands operators start k (set_local n ∷ [])) e (one_here operators start (set_local n) h)))
-      context (made.Tee n) (λ word. laws.set_to_tee context n)
-  stand_at (Accesses n) start (made.Access a w) f =
+      context (made.Tee n) tt (λ word. laws.set_to_tee context n)
+  stand_at (Accesses n) start (made.Access a w) keeps f =
       let begins = access_start context operators n start at a w f in
-      made_stands operators start at (left_code a f.immediate) (omega arith) f.stands context (made.Access a w)
+      made_stands operators start at (left_code a f.immediate) (omega arith) f.stands context (made.Access a w) tt
       (λ word. laws.access context n a f.immediate w f.exact f.listed f.fits f.written_is)
-  stand_at own start m r = absurd r
+  stand_at (Wraps w) start m keeps r = absurd keeps
+  stand_at (Unwraps w) start m keeps r = absurd keeps
+  stand_at own start m keeps r = absurd r
+
+-- ---- each rule
+
+module _ (laws : BesidesKeepCode) (wraps : WrapsAreRight) (wrapped : WrappedCodeDoes) (unwrapped : UnwrappedCodeDoes) (one_piece : ReplacedCodeIsInOnePiece)
+    (valid : ReplacedCodeStaysValid) (do_as : PiecesDo) (context : Context) (operators : Operators) (at : ℕ) where
+  abbrev Stand : ℕ → Made → Type 0
+  Stand start m = MayStand context operators at (change_of at (record { start = start; made = m }))
+
+  kept : (own : Own) (start : ℕ) (m : Made) → KeepsInPlace own → Rewrites context operators own start at m → Stand start m
+  kept own start m keeps r =
+      keeps_may_stand one_piece valid do_as context operators at (change_of at (record { start = start; made = m }))
+      (stand_at laws context operators at own start m keeps r)
+
+  may_stand : (own : Own) (start : ℕ) (m : Made) → Rewrites context operators own start at m → Stand start m
+  may_stand (Wraps w) start (made.Wrapped v t) (e, u, value, tree) = wrap_stands wraps context operators at wrapped v t u value start tree
+  may_stand (Unwraps w) start (made.Inner from end) h = unwrap_stands wraps context operators at unwrapped w start from end h
+  may_stand Unfold start m r = kept Unfold start m tt r
+  may_stand ThroughGlobal start m r = kept ThroughGlobal start m tt r
+  may_stand WithNop start m r = kept WithNop start m tt r
+  may_stand Fold start m r = kept Fold start m tt r
+  may_stand Forget start m r = kept Forget start m tt r
+  may_stand TeeToSet start m r = kept TeeToSet start m tt r
+  may_stand DropNop start m r = kept DropNop start m tt r
+  may_stand SetToTee start m r = kept SetToTee start m tt r
+  may_stand (Accesses n) start m r = kept (Accesses n) start m tt r
+  may_stand own start m r = absurd r
 
   pub stand : (own : Own) (change : Change) → IsOwnChange context operators own at change → MayStand context operators at change
-  stand own change is = subst (MayStand context operators at) (sym is.is) (stand_at own is.site.start is.site.made is.rewrites)
+  stand own change is = subst (MayStand context operators at) (sym is.is) (may_stand own is.site.start is.site.made is.rewrites)

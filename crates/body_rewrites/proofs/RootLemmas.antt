@@ -11,7 +11,7 @@ use Rattle.rewrite_rules.specs.declared.pattern.Part.{Part}
 use Rattle.rewrite_rules.specs.declared.pattern.Part.TheVariants.{Hole, Constant, Drawn, Apply}
 use Rattle.rewrite_rules.specs.declared.pattern.Operator.TheVariants.{Whole}
 use Rattle.rewrite_rules.specs.declared.table.Own as own_rules
-use Rattle.rewrite_rules.specs.declared.table.Own.TheVariants.{Unfold, ThroughGlobal, WithNop, Fold, Forget, TeeToSet, DropNop, SetToTee, Access as Accesses}
+use Rattle.rewrite_rules.specs.declared.table.Own.TheVariants.{Unfold, ThroughGlobal, WithNop, Fold, Forget, TeeToSet, DropNop, SetToTee, Access as Accesses, Wrap as Wraps, Unwrap as Unwraps}
 use Rattle.rewrite_rules.specs.declared.table.Widths.{Widths}
 use Rattle.rewrite_rules.specs.declared.table.Widths.TheVariants.{Both, Only, Any, Operands, Own}
 use Rattle.rewrite_rules.specs.declared.access.AccessKind.{AccessKind}
@@ -138,6 +138,8 @@ module _ (context : Context) (operators : Operators) (at : ℕ) where
       subst (λ o. HasRoot context operators at (access_root o)) (sym f.listed)
       (side_ends a.kind a.left.row a.left.conversion start f.immediate (access_start context operators n start at a w f)
       (they_stand_from operators (left_code a f.immediate) start (at + 1) f.ends f.stands))
+  own_at (Wraps w) start (made.Wrapped v t) (e, u, n, tree) = (start, u, tree)
+  own_at (Unwraps w) start (made.Inner from end) h = tt
   own_at own start m h = absurd h
 
   -- ---- what makes something has its root there

@@ -248,6 +248,8 @@ module _ (context : Context) (operators : Operators) (at start : ℕ) where
   fewer (own.Access n) (made.Access a w) h e =
       subst (λ g. IsGrowth (in_bodies g) (length (pieces_operators (without_offsets operators) (made_pieces start at (made.Access a w) 0))) (at + 1 - start))
       (sym (ap growth_told h.listed) ∙ e) (growth_at context operators at (own.Access n) start (made.Access a w) h 0)
+  fewer (own.Wrap w) m h e = absurd cc
+  fewer (own.Unwrap w) (made.Inner from end) h e = growth_at context operators at (own.Unwrap w) start (made.Inner from end) h 0
   fewer own m h e = absurd h
 
   as_many : (own : Own) (m : Made) → Rewrites context operators own start at m → own_growth own ≡ rows.Keeps →
@@ -263,6 +265,8 @@ module _ (context : Context) (operators : Operators) (at start : ℕ) where
   as_many (own.Access n) (made.Access a w) h e =
       subst (λ g. IsGrowth (in_bodies g) (length (pieces_operators (without_offsets operators) (made_pieces start at (made.Access a w) 0))) (at + 1 - start))
       (sym (ap growth_told h.listed) ∙ e) (growth_at context operators at (own.Access n) start (made.Access a w) h 0)
+  as_many (own.Wrap w) m h e = absurd cc
+  as_many (own.Unwrap w) m h e = absurd cc
   as_many own m h e = absurd h
 
   own_as_told : (own : Own) (m : Made) (told : told.Growth) → Rewrites context operators own start at m → told ≡ own_growth own →

@@ -30,9 +30,8 @@ use Rattle.body_rewrites.specs.Trees.{Stands}
 use Rattle.body_rewrites.specs.Matching.{is_hole, instructions, operators_in}
 use Rattle.body_rewrites.specs.Operands.{has_hole}
 use Rattle.body_rewrites.specs.Places.{IsLine, meant, IsTreeCode, IsPlaceOf, operands_in}
-use Rattle.body_rewrites.specs.Changes.{pieces_code, MayStand}
+use Rattle.body_rewrites.specs.Changes.{pieces_code, KeepsCode}
 use Rattle.body_rewrites.specs.Writing.{piece_for, side_pieces, by_line}
-use Rattle.body_rewrites.specs.LineChanges.{LineChangesMayStand}
 use Rattle.body_rewrites.proofs.StandsLemmas.{Operators, nothing_stands}
 use Rattle.body_rewrites.proofs.AlikeLemmas.{instructions_back}
 use Rattle.body_rewrites.proofs.FoundLemmas.{or_first, or_second}
@@ -193,8 +192,8 @@ module _ (right : TableIsRight) (holes_are : HolesAreTold) (sides : SidesArePart
             )
       ]
 
-  line_change_may_stand : MayStand context operators at (by_line line place)
-  line_change_may_stand = record {
+  pub line_change_keeps : KeepsCode context operators at (by_line line place)
+  line_change_keeps = record {
     ordered = before;
     old = old;
     stands = found.is.stands;
@@ -203,7 +202,3 @@ module _ (right : TableIsRight) (holes_are : HolesAreTold) (sides : SidesArePart
     same = λ word. subst (λ code. StandsWith context [] old code) (sym (written word))
         (besides.unasked context [] old (code_of x c (word ∷ []) (meant line).right) (keeps word));
   }
-
-pub line_changes_may_stand : TableIsRight → HolesAreTold → SidesAreParts → PartsAreTheCode → BesidesKeepCode → LineChangesMayStand
-line_changes_may_stand right holes_are sides codes besides context operators line at place is found =
-    line_change_may_stand right holes_are sides codes besides context operators line at place is found

@@ -4,6 +4,7 @@ pub mod Cutting
 pub mod Matching
 pub mod Operands
 pub mod Places
+pub mod Doing
 pub mod Changes
 pub mod Writing
 pub mod LineChanges

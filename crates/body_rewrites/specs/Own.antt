@@ -1,14 +1,18 @@
 -- The rules that are no rows of the table, on the operators of a body (this project).
-use Rattle.std.specs.Prelude.{◌≡◌, ℕ, ◌+◌, ◌^◌, ◌<◌, Bool, true, false, List, [], ◌∷◌, ◌++◌, length, map, Some}
+use Rattle.std.specs.Prelude.{◌≡◌, ℕ, suc, ◌+◌, ◌-◌, ◌%◌, ◌^◌, ◌<◌, Bool, true, false, List, [], ◌∷◌, ◌++◌, length, map, slice_get, ⊤, Some}
 use mir.Val.{bits}
 use Rattle.wasm_code.specs.Instruction.{Instruction, IsInstruction}
 use Rattle.wasm_code.specs.declared.immediate.Imm.{Imm}
+use Rattle.wasm_code.specs.declared.immediate.ValType.{ValType}
 use Rattle.wasm_code.specs.declared.operator.Operator.{Operator}
 use Rattle.wasm_types.specs.declared.types.PrimitiveTypeInfo.{PrimitiveTypeInfo}
 use Rattle.wasm_types.specs.declared.types.PrimitiveTypeInfo.TheVariants as primitive
 use Rattle.body_splices.specs.declared.piece.Piece.{Piece}
-use Rattle.body_splices.specs.declared.piece.Piece.TheVariants.{Kept, New}
+use Rattle.body_splices.specs.declared.piece.Piece.TheVariants.{Kept, New, Structural}
+use Rattle.body_splices.specs.declared.control.Control.TheVariants as control
+use Rattle.body_splices.specs.OwnBytes.{without_offsets}
 use Rattle.peephole_machine.specs.declared.integer.IntegerType.{IntegerType}
+use Rattle.peephole_machine.specs.declared.integer.IntegerType.TheVariants as integer
 use Rattle.peephole_machine.specs.declared.operation.Operation.{Operation}
 use Rattle.peephole_machine.specs.Values.{Context, width_of, types}
 use Rattle.peephole_machine.specs.Computed.{computed}
@@ -19,6 +23,10 @@ use Rattle.rewrite_rules.specs.Access.{access_at, code_with, left_code, right_co
 use Rattle.rewrite_rules.specs.Code.{writes, traps}
 use Rattle.rewrite_rules.specs.Instance.{constant_code, operator_code}
 use Rattle.rewrite_rules.specs.Beside.{nop_code, drop_code, get_local, set_local, tee_local, get_global, set_global, constants, left_by, sum_code}
+use Rattle.rewrite_rules.specs.declared.wrap.Wrap.{Wrap}
+use Rattle.rewrite_rules.specs.declared.wrap.WrapItem.{WrapItem}
+use Rattle.rewrite_rules.specs.declared.wrap.WrapItem.TheVariants as item
+use Rattle.rewrite_rules.specs.Wrap.{front_of, back_of, value_of, IsItem}
 use Rattle.rewrite_rules.specs.declared.table.Own.{Own}
 use Rattle.rewrite_rules.specs.declared.table.Own.TheVariants as own_rule
 use Rattle.rewrite_rules.specs.declared.table.Own.TheVariants.{Unfold, ThroughGlobal, WithNop, Fold, Forget, TeeToSet, DropNop, SetToTee}
@@ -75,6 +83,32 @@ pub record IsAccessed (context : Context) (operators : List (Operator × ℕ)) (
   pub stands : Stands operators start (at + 1) (left_code access immediate)
   pub written_is : written_imm access immediate ≡ Some written
 
+-- the operator there is that one of wrapped code
+pub record HasItem (operators : List (Operator × ℕ)) (at : ℕ) (item : WrapItem) (t : ValType) : Type 0 where
+  pub operator : Operator
+  pub has : slice_get (without_offsets operators) at ≡ Some operator
+  pub is : IsItem item t operator
+
+-- these stand there, one behind another
+abbrev pub HaveItems : List (Operator × ℕ) → (start : ℕ) → List WrapItem → ValType → Type 0
+HaveItems operators start [] t = ⊤
+HaveItems operators start (i ∷ is) t = HasItem operators start i t × HaveItems operators (start + 1) is t
+
+-- From `start` on, up to the operator at `at`, stands a tree that the operators before it and behind it wrap in that way: the tree stands from `from` on, up to
+-- the operator before that at `end`. Something stands behind all of it.
+pub record IsWrapped (context : Context) (operators : List (Operator × ℕ)) (w : Wrap) (start at from end : ℕ) : Type 0 where
+  pub last : ℕ
+  pub last_is : last + 1 ≡ end
+  pub type : PrimitiveTypeInfo
+  pub value : ValType
+  pub value_is : value_of type ≡ Some value
+  pub tree : IsTree context operators from last type
+  pub inside : at + 1 < length operators
+  pub begins : start + length (front_of w) ≡ from
+  pub ends : end + length (back_of w) ≡ at + 1
+  pub before : HaveItems operators start (front_of w) value
+  pub behind : HaveItems operators end (back_of w) value
+
 -- From `start` on, up to the operator at `at`, stands what the rule rewrites; and that is what is made of it. A further global is the first one behind the
 -- module's; where it has as many as indices count, there is none.
 abbrev pub Rewrites : Context → List (Operator × ℕ) → Own → (start at : ℕ) → Made → Type 0
@@ -89,6 +123,9 @@ Rewrites context operators DropNop start at made.Nothing = (start ≡ at) × Has
 Rewrites context operators SetToTee start at (made.Tee n) =
     (start + 1 ≡ at) × HasInstruction operators start (set_local n) × HasInstruction operators at (get_local n)
 Rewrites context operators (own_rule.Access n) start at (made.Access a m) = IsAccessed context operators n start at a m
+Rewrites context operators (own_rule.Wrap w) start at (made.Wrapped v t) =
+    (v ≡ w) × (u : PrimitiveTypeInfo) × (value_of u ≡ Some t) × IsTree context operators start at u
+Rewrites context operators (own_rule.Unwrap w) start at (made.Inner from end) = IsWrapped context operators w start at from end
 Rewrites context operators own start at m = ⊥
 
 -- ---- what is written
@@ -96,6 +133,23 @@ Rewrites context operators own start at m = ⊥
 -- new instructions
 abbrev pub new : List Instruction → List Piece
 new code = map (λ (i : Instruction). New i) code
+
+-- an operator of wrapped code, whose value has that type, by the word: a constant that may be any but zero has one of the other numbers of 32 bits
+abbrev pub item_piece : ValType → (word : ℕ) → WrapItem → Piece
+item_piece t word item.Block = Structural (control.Block t)
+item_piece t word item.Loop = Structural (control.Loop t)
+item_piece t word item.If = Structural (control.If t)
+item_piece t word item.Else = Structural control.Else
+item_piece t word item.End = Structural control.End
+item_piece t word item.Branch = Structural control.Branch
+item_piece t word item.BranchIf = Structural control.BranchIf
+item_piece t word item.Unreachable = Structural control.Unreachable
+item_piece t word item.Zero = New (constant_code integer.I32 0)
+item_piece t word item.NonZero = New (constant_code integer.I32 (suc (word % (2 ^ 32 - 1))))
+item_piece t word item.Any = New (constant_code integer.I32 word)
+
+abbrev pub item_pieces : ValType → (word : ℕ) → List WrapItem → List Piece
+item_pieces t word is = map (item_piece t word) is
 
 -- the pieces, by the word
 abbrev pub made_pieces : (start at : ℕ) → Made → (word : ℕ) → List Piece
@@ -107,6 +161,8 @@ made_pieces start at (made.Global t g) word = Kept start (at + 1) ∷ new (set_g
 made_pieces start at (made.SetAndGet n) word = new (set_local n ∷ get_local n ∷ [])
 made_pieces start at (made.Tee n) word = new (tee_local n ∷ [])
 made_pieces start at (made.Access a m) word = new (right_code a m)
+made_pieces start at (made.Wrapped w t) word = item_pieces t word (front_of w) ++ Kept start (at + 1) ∷ item_pieces t word (back_of w)
+made_pieces start at (made.Inner from end) word = Kept from end ∷ []
 
 -- the global that is asked for
 abbrev pub made_asks : Made → List PrimitiveTypeInfo

@@ -1,12 +1,14 @@
 -- How rules beside the table are found and written in a body: for private functions (this project).
-use Rattle.std.specs.Prelude.{◌≡◌, ℕ, ◌+◌, List, [], ◌∷◌, ◌++◌, length, map, ⊤, Option, Some, None, option_to_list}
+use Rattle.std.specs.Prelude.{◌≡◌, ℕ, ◌+◌, ◌^◌, ◌<◌, List, [], ◌∷◌, ◌++◌, length, map, ⊤, Option, Some, None, option_to_list}
 use Rattle.wasm_code.specs.Instruction.{Instruction, IsInstruction}
 use Rattle.wasm_code.specs.declared.immediate.Imm.{Imm}
 use Rattle.wasm_code.specs.declared.immediate.Imm.TheVariants as imm
 use Rattle.wasm_code.specs.declared.operator.Operator.{Operator}
+use Rattle.wasm_code.specs.declared.operator.Operator.TheVariants.{Instr}
 use Rattle.wasm_types.specs.declared.types.PrimitiveTypeInfo.{PrimitiveTypeInfo}
 use Rattle.body_splices.specs.declared.piece.Piece.{Piece}
 use Rattle.peephole_machine.specs.declared.integer.IntegerType.{IntegerType}
+use Rattle.peephole_machine.specs.declared.integer.IntegerType.TheVariants as integer
 use Rattle.peephole_machine.specs.declared.operation.Operation.{Operation}
 use Rattle.peephole_machine.specs.Values.{Context, types}
 use Rattle.peephole_machine.specs.Computed.{computed}
@@ -18,7 +20,7 @@ use Rattle.rewrite_rules.specs.declared.access.AccessSide.{AccessSide}
 use Rattle.rewrite_rules.specs.declared.growth.Growth as rows
 use Rattle.rewrite_rules.specs.declared.growth.Growth.TheVariants as growths
 use Rattle.rewrite_rules.specs.Access.{IsOfRow, access_growth, code_with, right_code, side_code}
-use Rattle.rewrite_rules.specs.Instance.{operator_code}
+use Rattle.rewrite_rules.specs.Instance.{constant_code, operator_code}
 use Rattle.rewrite_rules.specs.Beside.{left_by}
 use Rattle.body_rewrites.specs.declared.changes.NewCode.{NewCode}
 use Rattle.body_rewrites.specs.declared.growth.Growth.{Growth}
@@ -29,7 +31,13 @@ use Rattle.body_rewrites.specs.declared.own.Made.{Made}
 use Rattle.body_rewrites.specs.declared.own.Made.TheVariants as made
 use Rattle.body_rewrites.specs.declared.own.Site.{Site}
 use Rattle.body_rewrites.specs.Open.{HasInstruction}
-use Rattle.body_rewrites.specs.Own.{IsFolded, Rewrites}
+use Rattle.rewrite_rules.specs.declared.wrap.Wrap.{Wrap}
+use Rattle.rewrite_rules.specs.declared.wrap.WrapItem.{WrapItem}
+use Rattle.rewrite_rules.specs.declared.wrap.WrapItem.TheVariants.{Zero, NonZero, Any}
+use Rattle.rewrite_rules.specs.Wrap.{front_of, back_of, value_of}
+use Rattle.wasm_code.specs.declared.immediate.ValType.{ValType}
+use Rattle.body_rewrites.specs.declared.trees.Tree.{Tree}
+use Rattle.body_rewrites.specs.Own.{HaveItems, IsFolded, Rewrites}
 
 -- ---- instructions
 
@@ -83,6 +91,25 @@ pub record IsImmediateOf (operators : List (Operator × ℕ)) (start : ℕ) (kin
   pub fits : IsInstruction (code_with side.row i)
   pub stand : StandFrom operators start (side_code kind side i)
 
+-- the `i32` constant of the number
+abbrev pub IsConstantOperator : Operator → ℕ → Type 0
+IsConstantOperator o n = (n < 2 ^ 32) × (o ≡ Instr (constant_code integer.I32 n))
+
+-- the item is a constant
+abbrev pub IsConstantItem : WrapItem → Type 0
+IsConstantItem Zero = ⊤
+IsConstantItem NonZero = ⊤
+IsConstantItem Any = ⊤
+IsConstantItem i = ⊥
+
+-- operators wrap the tree in that way from `start` on, which ends before the operator at `end`
+pub record IsWrapRound (operators : List (Operator × ℕ)) (w : Wrap) (tree : Tree) (end start : ℕ) : Type 0 where
+  pub value : ValType
+  pub value_is : value_of tree.gives ≡ Some value
+  pub begins : start + length (front_of w) ≡ tree.start
+  pub before : HaveItems operators start (front_of w) value
+  pub behind : HaveItems operators end (back_of w) value
+
 -- ---- what is written
 
 -- the piece with the immediate, with those of the conversion
@@ -123,3 +150,5 @@ growth_of (made.Global t g) = Grows
 growth_of (made.SetAndGet n) = Grows
 growth_of (made.Tee n) = Shrinks
 growth_of (made.Access a m) = in_bodies (access_growth a)
+growth_of (made.Wrapped w t) = Grows
+growth_of (made.Inner from end) = Shrinks

@@ -111,6 +111,8 @@ own_root own.TeeToSet = root.Classes 6 6
 own_root own.DropNop = root.Classes 0 0
 own_root own.SetToTee = root.Classes 4 4
 own_root (own.Access n) = access_root (access_at n)
+own_root (own.Wrap w) = root.Tree
+own_root (own.Unwrap w) = root.Any
 
 abbrev pub root_by : Line → Widths → Root
 root_by line (Own o) = own_root o

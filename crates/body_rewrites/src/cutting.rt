@@ -16,7 +16,7 @@ use rewrite_rules::{Operator, Part};
 use wasm_code::{Imm, Instr, OperatorAndByteOffset};
 
 // The number of a constant of the type.
-fn number_of(instr: &Instr, t: IntegerType) -> Option<u64>
+pub(crate) fn number_of(instr: &Instr, t: IntegerType) -> Option<u64>
     ensures some { IfSome result (IsConstant t instr.now) }
     ensures none { IfNone result ((n : ℕ) → ¬ (IsConstant t instr.now n)) }
 {

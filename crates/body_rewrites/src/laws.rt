@@ -28,13 +28,14 @@ ghost use Rattle.body_rewrites.specs.Trees.{TreesLeave};
 ghost use Rattle.body_rewrites.specs.Matching.{MatchesAreTheCode, LeftsAreInstances};
 
 use crate::own_laws::own_changes_may_stand;
-use body_splices::laws::{spliced_operators_are, splices_keep_structure};
-use peephole_programs::laws::replaced_code_is_in_one_piece;
+use body_splices::laws::{spliced_operators_are, splices_keep_operators};
+use peephole_programs::laws::{pieces_do_as_before, replaced_code_is_in_one_piece};
 use peephole_programs::validity::replaced_code_stays_valid;
 use rewrite_rules::laws::{
     besides_keep_code, holes_are_told, parts_are_the_code, rows_are_few, sides_are_parts,
     table_is_right,
 };
+use wrapped_code::laws::read_code_has_no_handlers;
 
 /// A tree's code needs nothing from before it, and leaves its value, as an operand in a hole does.
 pub fn trees_leave()
@@ -60,6 +61,9 @@ pub fn lefts_are_instances()
 pub fn line_changes_may_stand()
     ensures { LineChangesMayStand }
 {
+    replaced_code_is_in_one_piece();
+    replaced_code_stays_valid();
+    pieces_do_as_before();
     table_is_right();
     holes_are_told();
     sides_are_parts();
@@ -71,10 +75,9 @@ pub fn line_changes_may_stand()
 pub fn changed_bodies_do_as_before()
     ensures { ChangedBodiesDoAsBefore }
 {
-    replaced_code_is_in_one_piece();
-    replaced_code_stays_valid();
     spliced_operators_are();
-    splices_keep_structure();
+    splices_keep_operators();
+    read_code_has_no_handlers();
 }
 
 /// What a row of the table makes for a width may stand in the place of what stood there, and it makes one thing at most.

@@ -11,12 +11,14 @@ pub(crate) mod sites;
 pub(crate) mod tee_to_set;
 pub(crate) mod through_global;
 pub(crate) mod unfold;
+pub(crate) mod unwrap;
 pub(crate) mod with_nop;
+pub(crate) mod wrap;
 pub(crate) mod writing;
 
 use peephole_machine::IntegerType;
-use rewrite_rules::Access;
-use wasm_code::Imm;
+use rewrite_rules::{Access, Wrap};
+use wasm_code::{Imm, ValType};
 use wasm_types::PrimitiveTypeInfo;
 
 /// What is made of code, whatever word is drawn.
@@ -38,6 +40,10 @@ pub enum Made {
     Tee(u32),
     /// The right side of an access, with that immediate.
     Access(Access, Imm),
+    /// The same code, wrapped in that way, where it gives a value of the type.
+    Wrapped(Wrap, ValType),
+    /// The code from one operator up to the one before another one.
+    Inner(usize, usize),
 }
 
 /// From which operator on something is made, and what.

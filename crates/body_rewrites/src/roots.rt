@@ -124,6 +124,8 @@ fn own_root(own: Own) -> Root
         Own::DropNop => Root::Classes(0, 0),
         Own::SetToTee => Root::Classes(4, 4),
         Own::Access(number) => access_root(access_at(number)),
+        Own::Wrap(_) => Root::Tree,
+        Own::Unwrap(_) => Root::Any,
     }
 }
 

@@ -37,6 +37,8 @@ fn growth_of(made: Made) -> Growth
         Made::SetAndGet(_) => Growth::Grows,
         Made::Tee(_) => Growth::Shrinks,
         Made::Access(access, _) => in_bodies(access.growth()),
+        Made::Wrapped(_, _) => Growth::Grows,
+        Made::Inner(_, _) => Growth::Shrinks,
     }
 }
 

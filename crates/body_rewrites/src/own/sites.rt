@@ -5,7 +5,8 @@ ghost use Rattle.body_rewrites.specs.Trees.{AreTrees};
 ghost use Rattle.body_rewrites.specs.OwnSites.{IsSiteOf};
 
 use crate::own::{
-    Site, access, drop_nop, fold, forget, set_to_tee, tee_to_set, through_global, unfold, with_nop,
+    Site, access, drop_nop, fold, forget, set_to_tee, tee_to_set, through_global, unfold, unwrap,
+    with_nop, wrap,
 };
 use crate::places::Body;
 use rewrite_rules::Own;
@@ -26,5 +27,7 @@ pub(crate) fn site_of(body: &Body<'_>, own: Own, at: usize) -> Option<Site>
         Own::DropNop => drop_nop::find(body.operators, at),
         Own::SetToTee => set_to_tee::find(body.operators, at),
         Own::Access(number) => access::find(body.info, body.operators, at, number),
+        Own::Wrap(wrap) => wrap::find(body.trees, at, wrap),
+        Own::Unwrap(wrap) => unwrap::find(body.operators, body.trees, at, wrap),
     }
 }

@@ -1,5 +1,5 @@
 //! What a rule beside the table makes, written.
-ghost use Rattle.std.specs.Prelude.{◌≡◌, ◌+◌, ◌-◌, ◌<◌, ◌^◌, ℕ, List, [], ◌∷◌, ◌≤◌, IfSome, IfNone, length, option_to_list};
+ghost use Rattle.std.specs.Prelude.{◌≡◌, ◌+◌, ◌-◌, ◌%◌, ◌<◌, ◌^◌, ℕ, suc, List, [], ◌∷◌, ◌++◌, ◌≤◌, IfSome, IfNone, length, option_to_list};
 ghost use mir.Val.{bits};
 ghost use Rattle.body_splices.specs.declared.piece.Piece.{Piece as PieceOf};
 ghost use Rattle.body_splices.specs.declared.piece.Piece.TheVariants.{New};
@@ -12,17 +12,18 @@ ghost use Rattle.rewrite_rules.specs.Numbers.{low};
 ghost use Rattle.rewrite_rules.specs.Instance.{operator_code};
 ghost use Rattle.rewrite_rules.specs.Beside.{nop_code, get_local, set_local, tee_local, get_global, set_global, sum_code};
 ghost use Rattle.body_rewrites.specs.Changes.{IsWritten};
-ghost use Rattle.body_rewrites.specs.Own.{new, made_asks, made_pieces, change_of};
+ghost use Rattle.rewrite_rules.specs.Wrap.{front_of, back_of};
+ghost use Rattle.body_rewrites.specs.Own.{new, item_piece, item_pieces, made_asks, made_pieces, change_of};
 ghost use Rattle.body_rewrites.specs.OwnSites.{AreOfRows, IsCode, IsWritable, ordered};
 
 use crate::changes::NewCode;
 use crate::instructions::{constant, instr};
 use crate::own::{Made, Site};
 use arrayvec::ArrayVec;
-use body_splices::Piece;
+use body_splices::{Control, Piece};
 use peephole_machine::IntegerType;
-use rewrite_rules::{AccessKind, AccessSide, Conversion};
-use wasm_code::{Imm, Instr};
+use rewrite_rules::{AccessKind, AccessSide, Conversion, Wrap, WrapItem};
+use wasm_code::{Imm, Instr, ValType};
 use wasm_types::PrimitiveTypeInfo;
 
 #[tactic(auto, using(crate::proofs::OwnRowLemmas::nop_row))]
@@ -181,6 +182,58 @@ fn side(start: usize, kind: AccessKind, side: AccessSide, immediate: Imm) -> Opt
     }
 }
 
+// A constant of 32 bits that isn't zero, by the word.
+fn nonzero(word: u64) -> u64
+    ensures { result ≡ suc (word % (2 ^ 32 - 1)) }
+{
+    1 + word % 0xFFFF_FFFF
+}
+
+// The piece that an operator of wrapped code is.
+fn item_piece(item: WrapItem, t: ValType, word: u64) -> Piece
+    ensures { result ≡ item_piece t word item }
+{
+    match item {
+        WrapItem::Block => Piece::Structural(Control::Block(t)),
+        WrapItem::Loop => Piece::Structural(Control::Loop(t)),
+        WrapItem::If => Piece::Structural(Control::If(t)),
+        WrapItem::Else => Piece::Structural(Control::Else),
+        WrapItem::End => Piece::Structural(Control::End),
+        WrapItem::Branch => Piece::Structural(Control::Branch),
+        WrapItem::BranchIf => Piece::Structural(Control::BranchIf),
+        WrapItem::Unreachable => Piece::Structural(Control::Unreachable),
+        WrapItem::Zero => Piece::New(constant(IntegerType::I32, 0)),
+        WrapItem::NonZero => Piece::New(constant(IntegerType::I32, nonzero(word))),
+        WrapItem::Any => Piece::New(constant(IntegerType::I32, word)),
+    }
+}
+
+// Puts the pieces that these are behind others.
+fn push_items(pieces: &mut ArrayVec<Piece, 7>, items: &[WrapItem], t: ValType, word: u64)
+    requires { length pieces.now.items + length items.now ≤ 7 }
+    ensures { pieces.new.items ≡ pieces.old.items ++ item_pieces t word items.now }
+{
+    for i in 0..items.len() {
+        pieces.push(item_piece(items[i], t, word));
+    }
+}
+
+// The piece in wrapped code.
+fn wrapped(start: usize, kept: Piece, wrap: Wrap, t: ValType, word: u64) -> NewCode
+    ensures { IsCode start (item_pieces t word (front_of wrap) ++ kept ∷ item_pieces t word (back_of wrap))
+        [] result }
+{
+    let mut pieces = ArrayVec::new();
+    push_items(&mut pieces, wrap.front(), t, word);
+    pieces.push(kept);
+    push_items(&mut pieces, wrap.back(), t, word);
+    NewCode {
+        start,
+        pieces,
+        asks: None,
+    }
+}
+
 // What is made at the site, by the word; none where it isn't made of instructions of the standard.
 pub(crate) fn written(site: Site, at: usize, word: u64) -> Option<NewCode>
     requires { at < 2 ^ 64 - 1 }
@@ -211,5 +264,7 @@ pub(crate) fn written(site: Site, at: usize, word: u64) -> Option<NewCode>
         )),
         Made::Tee(local) => Some(code(start, &[Piece::New(tee_local(local))], None)),
         Made::Access(access, immediate) => side(start, access.kind, access.right, immediate),
+        Made::Wrapped(wrap, t) => Some(wrapped(start, kept, wrap, t, word)),
+        Made::Inner(from, end) => Some(code(start, &[Piece::Kept { start: from, end }], None)),
     }
 }

@@ -23,7 +23,7 @@ pub returns-clause-put : goal.returns-clause-put
 returns-clause-put c =
     on_ok c.splice.result _ _ (λ spliced change word written may.
     c.changed_bodies_do_as_before.ensures (context_of c.args.body.now) c.args.input.now c.args.body.now.operators.now c.args.at change word
-    c.args.newfunc.now c.splice.new.newfunc c.requires.change.inside may
+    c.args.newfunc.now c.splice.new.newfunc c.requires.body c.requires.change.inside may
     (subst (λ k. AppendsSpliced c.args.input.now c.args.body.now.operators.now k (c.args.at + 1) (change.pieces word) c.args.newfunc.now c.splice.new.newfunc)
     written.start_is
     (subst (λ ps. AppendsSpliced c.args.input.now c.args.body.now.operators.now c.args.code.now.start (c.args.at + 1) ps c.args.newfunc.now

@@ -47,3 +47,13 @@ pub returns-in-Access : goal.returns-in-Access
 returns-in-Access c = λ context same trees.
     let found = c.find-in-Access.ensures context same in
     subst (λ own. IsSiteOf context c.args.body.now.operators.now own c.args.at c.find-in-Access.result) (sym c.in-Access.is) found
+
+pub returns-in-Wrap : goal.returns-in-Wrap
+returns-in-Wrap c = λ context same trees.
+    let found = c.find-in-Wrap.ensures context c.args.body.now.operators.now trees in
+    subst (λ own. IsSiteOf context c.args.body.now.operators.now own c.args.at c.find-in-Wrap.result) (sym c.in-Wrap.is) found
+
+pub returns-in-Unwrap : goal.returns-in-Unwrap
+returns-in-Unwrap c = λ context same trees.
+    let found = c.find-in-Unwrap.ensures context trees in
+    subst (λ own. IsSiteOf context c.args.body.now.operators.now own c.args.at c.find-in-Unwrap.result) (sym c.in-Unwrap.is) found

@@ -1,0 +1,138 @@
+-- Where trees are wrapped, and where they are found wrapped.
+use Rattle.std.proofs.Common.{◌≡◌, ℕ, zero, suc, ◌+◌, ◌-◌, ◌<◌, ◌≤◌, List, [], ◌∷◌, length, drop, get_or, Option, Some, None, refl, sym, ap, subst, ◌∙◌, arith}
+use Rattle.std.specs.Prelude.{IfNone, IfSome}
+use Rattle.wasm_code.specs.declared.immediate.ValType.{ValType}
+use Rattle.wasm_code.specs.declared.operator.Operator.{Operator}
+use Rattle.wasm_types.specs.declared.types.PrimitiveTypeInfo.{PrimitiveTypeInfo}
+use Rattle.peephole_machine.specs.Values.{Context}
+use Rattle.rewrite_rules.specs.declared.table.Own.TheVariants.{Wrap as Wraps, Unwrap as Unwraps}
+use Rattle.rewrite_rules.specs.declared.wrap.Wrap.{Wrap}
+use Rattle.rewrite_rules.specs.declared.wrap.WrapItem.{WrapItem}
+use Rattle.rewrite_rules.specs.Wrap.{front_of, back_of, value_of}
+use Rattle.body_rewrites.specs.declared.own.Made.{Made}
+use Rattle.body_rewrites.specs.declared.own.Made.TheVariants as made
+use Rattle.body_rewrites.specs.declared.trees.Tree.{Tree}
+use Rattle.body_rewrites.specs.Trees.{IsTree, HasTree, IsTreeAt}
+use Rattle.body_rewrites.specs.Own.{IsWrapped, HasItem, HaveItems, Rewrites}
+use Rattle.body_rewrites.specs.OwnSites.{IsWrapRound, IsSiteOf}
+use Rattle.body_rewrites.proofs.StandsLemmas.{Operators}
+use Rattle.body_rewrites.proofs.CodeLemmas.{one_start}
+use Rattle.body_rewrites.proofs.OwnAloneLemmas.{one_type}
+use Rattle.body_rewrites.proofs.WrapLemmas.{back_some}
+
+abbrev NoTree : Context → Operators → ℕ → Type 0
+NoTree context operators at = (start : ℕ) (t : PrimitiveTypeInfo) → IsTree context operators start at t → ⊥
+
+abbrev no_type : Option ValType
+no_type = None
+
+not_none : (v : ValType) → no_type ≡ Some v → ⊥
+not_none v e = absurd cc
+
+-- ---- what is put round
+
+module _ (context : Context) (operators : Operators) (w : Wrap) where
+  pub no_tree : (at : ℕ) → NoTree context operators at → (start : ℕ) (m : Made) → Rewrites context operators (Wraps w) start at m → ⊥
+  no_tree at none start (made.Wrapped v t) (e, u, n, tree) = none start u tree
+  no_tree at none start m r = r
+
+  pub no_value : (at : ℕ) (tree : Tree) → HasTree context operators at tree → no_type ≡ value_of tree.gives → (start : ℕ) (m : Made) →
+      Rewrites context operators (Wraps w) start at m → ⊥
+  no_value at tree has none start (made.Wrapped v t) (e, u, n, is) =
+      let same = one_type context operators tree.start start at tree.gives u has.is is in
+      not_none t (none ∙ (ap value_of same ∙ n))
+  no_value at tree has none start m r = r
+
+-- ---- items that stand
+
+pub drop_there : {X : Type 0} (xs : List X) (i : ℕ) (x : X) → i < length xs → x ≡ get_or xs i x → drop i xs ≡ x ∷ drop (i + 1) xs
+drop_there [] i x l e = absurd (omega arith)
+drop_there (y ∷ xs) zero x l e = ap (λ z. z ∷ xs) (sym e)
+drop_there (y ∷ xs) (suc i) x l e = drop_there xs i x (omega arith) e
+
+module _ (operators : Operators) (start : ℕ) (items : List WrapItem) (t : ValType) where
+  -- from the i-th on
+  abbrev pub From : ℕ → Type 0
+  From i = HaveItems operators (start + i) (drop i items) t
+
+  pub at_first : (HaveItems operators (start + 0) (drop 0 items) t → HaveItems operators start items t) ×
+      (HaveItems operators start items t → HaveItems operators (start + 0) (drop 0 items) t)
+  at_first =
+      let e : start + 0 ≡ start = omega arith in (
+        λ h. subst (λ k. HaveItems operators k items t) e h,
+        λ h. subst (λ k. HaveItems operators k items t) (sym e) h,
+      )
+
+  pub first_and_rest : (i : ℕ) (item : WrapItem) → i < length items → item ≡ get_or items i item → From i → HasItem operators (start + i) item t × From (i + 1)
+  first_and_rest i item l e h =
+      let k = subst (λ is. HaveItems operators (start + i) is t) (drop_there items i item l e) h in
+      let next : start + i + 1 ≡ start + (i + 1) = omega arith in
+      (k.0, subst (λ n. HaveItems operators n (drop (i + 1) items) t) next k.1)
+
+  pub first_then_rest : (i : ℕ) (item : WrapItem) → i < length items → item ≡ get_or items i item → HasItem operators (start + i) item t → From (i + 1) → From i
+  first_then_rest i item l e has rest =
+      let next : start + (i + 1) ≡ start + i + 1 = omega arith in
+      subst (λ is. HaveItems operators (start + i) is t) (sym (drop_there items i item l e))
+      (has, subst (λ n. HaveItems operators n (drop (i + 1) items) t) next rest)
+
+  pub none_left : (i : ℕ) → length items ≤ i → From i
+  none_left i l = go items i (start + i) l
+    where
+      go : (is : List WrapItem) (i k : ℕ) → length is ≤ i → HaveItems operators k (drop i is) t
+      go [] zero k l = tt
+      go [] (suc i) k l = tt
+      go (x ∷ is) zero k l = absurd (omega arith)
+      go (x ∷ is) (suc i) k l = go is i k (omega arith)
+
+-- ---- what is found wrapped
+
+module _ (context : Context) (operators : Operators) (w : Wrap) (at : ℕ) where
+  pub not_inside : length operators ≤ at + 1 → (start : ℕ) (m : Made) → Rewrites context operators (Unwraps w) start at m → ⊥
+  not_inside l start (made.Inner from end) h = let k = h.inside in omega arith
+  not_inside l start m r = r
+
+  pub not_behind : at < length (back_of w) → (start : ℕ) (m : Made) → Rewrites context operators (Unwraps w) start at m → ⊥
+  not_behind l start (made.Inner from end) h = let k = h.ends in let i = h.last_is in omega (arith, k, i, l)
+  not_behind l start m r = r
+
+  -- the tree's last operator is the one before `end`
+  ends_so : (start from end last : ℕ) (h : IsWrapped context operators w start at from end) → last + 1 + length (back_of w) ≡ at + 1 → h.last ≡ last
+  ends_so start from end last h e = let k = h.ends in let i = h.last_is in omega (arith, k, i, e)
+
+  pub no_inner : (last : ℕ) → last + 1 + length (back_of w) ≡ at + 1 → NoTree context operators last → (start : ℕ) (m : Made) →
+      Rewrites context operators (Unwraps w) start at m → ⊥
+  no_inner last e none start (made.Inner from end) h =
+      none from h.type (subst (λ k. IsTree context operators from k h.type) (ends_so start from end last h e) h.tree)
+  no_inner last e none start m r = r
+
+  pub no_round : (last : ℕ) (tree : Tree) → last + 1 + length (back_of w) ≡ at + 1 → HasTree context operators last tree →
+      ((start : ℕ) → IsWrapRound operators w tree (last + 1) start → ⊥) → (start : ℕ) (m : Made) → Rewrites context operators (Unwraps w) start at m → ⊥
+  no_round last tree e has none start (made.Inner from end) h =
+      let there = subst (λ k. IsTree context operators from k h.type) (ends_so start from end last h e) h.tree in
+      let types = one_type context operators tree.start from last tree.gives h.type has.is there in
+      let starts = one_start context operators tree.start from last tree.gives h.type has.is there in
+      let ends : end ≡ last + 1 = let k = h.ends in omega (arith, k, e) in
+      none start (record {
+        value = h.value;
+        value_is = ap value_of types ∙ h.value_is;
+        begins = h.begins ∙ sym starts;
+        before = h.before;
+        behind = subst (λ k. HaveItems operators k (back_of w) h.value) ends h.behind;
+      })
+  no_round last tree e has none start m r = r
+
+  pub is_round : (last start : ℕ) (tree : Tree) → last + 1 + length (back_of w) ≡ at + 1 → HasTree context operators last tree → at + 1 < length operators →
+      IsWrapRound operators w tree (last + 1) start → Rewrites context operators (Unwraps w) start at (made.Inner tree.start (last + 1))
+  is_round last start tree e has l round = record {
+    last = last;
+    last_is = refl;
+    type = tree.gives;
+    value = round.value;
+    value_is = round.value_is;
+    tree = has.is;
+    inside = l;
+    begins = round.begins;
+    ends = e;
+    before = round.before;
+    behind = round.behind;
+  }

@@ -1,0 +1,22 @@
+-- By the tree, and its type.
+use Rattle.std.proofs.Common.{refl, sym, ◌∙◌}
+use Rattle.std.specs.Prelude.{Some, None}
+use Rattle.body_rewrites.proofs.OwnFindLemmas.{tree_told}
+use Rattle.body_rewrites.proofs.WrapFindLemmas.{no_tree, no_value}
+use Rattle.body_rewrites.proofs.own.wrap.find.Goals as goal
+
+pub returns-in_default : goal.returns-in_default
+returns-in_default c = λ context operators trees.
+    no_tree context operators c.args.wrap c.args.at
+    (tree_told c.args.trees.now c.args.at None (sym c.in_default.is ∙ c.tree_at.ensures) context operators trees)
+
+pub returns-in_default-2 : goal.returns-in_default-2
+returns-in_default-2 c = λ context operators trees.
+    no_value context operators c.args.wrap c.args.at c.in-Some.tree
+    (tree_told c.args.trees.now c.args.at (Some c.in-Some.tree) (sym c.in-Some.is ∙ c.tree_at.ensures) context operators trees)
+    (sym c.in_default-2.is ∙ c.value_of.ensures)
+
+pub returns : goal.returns
+returns c = λ context operators trees.
+    let has = tree_told c.args.trees.now c.args.at (Some c.in-Some.tree) (sym c.in-Some.is ∙ c.tree_at.ensures) context operators trees in
+    (refl, c.in-Some.tree.gives, sym c.value_of.ensures ∙ c.in-Some-2.is, has.is)
