@@ -1,5 +1,6 @@
 //! The lines of the table by their numbers.
-ghost use Rattle.std.specs.Prelude.{◌≡◌, length, map, option_map, slice_get};
+ghost use Rattle.std.specs.Prelude.{◌≡◌, ◌<◌, ◌≤◌, ◌+◌, ℕ, length, get_or, map, option_map, slice_get};
+ghost use Rattle.rewrite_rules.specs.declared.lines.TheConstants.{STARTS};
 ghost use Rattle.rewrite_rules.specs.Table.{part_at, entries, ROWS};
 ghost use Rattle.rewrite_rules.specs.Lines.{shown, shown_at};
 ghost use Rattle.rewrite_rules.specs.Names.{begin_at};
@@ -766,26 +767,40 @@ fn line_of(part: usize, number: usize) -> Option<&'static TableLine>
     }
 }
 
-// How many lines each constant has.
-const COUNTS: [usize; 81] = [
-    15, 10, 10, 11, 16, 8, 7, 6, 12, 10, 15, 6, 11, 11, 17, 16, 15, 16, 4, 14, 19, 20, 20, 18, 12,
-    20, 12, 24, 12, 19, 18, 21, 24, 20, 16, 20, 16, 20, 16, 20, 16, 12, 24, 24, 24, 24, 20, 24, 24,
-    20, 24, 24, 14, 16, 26, 20, 20, 48, 6, 25, 20, 8, 10, 4, 6, 4, 10, 12, 8, 8, 18, 24, 8, 16, 20,
-    24, 24, 24, 2, 8, 8,
+// Where the lines of each constant begin in the table.
+const STARTS: [usize; 81] = [
+    0, 15, 25, 35, 46, 62, 70, 77, 83, 95, 105, 120, 126, 137, 148, 165, 181, 196, 212, 216, 230,
+    249, 269, 289, 307, 319, 339, 351, 375, 387, 406, 424, 445, 469, 489, 505, 525, 541, 561, 577,
+    597, 613, 625, 649, 673, 697, 721, 741, 765, 789, 809, 833, 857, 871, 887, 913, 933, 953, 1001,
+    1007, 1032, 1052, 1060, 1070, 1074, 1080, 1084, 1094, 1106, 1114, 1122, 1140, 1164, 1172, 1188,
+    1208, 1232, 1256, 1280, 1282, 1290,
 ];
+
+// The number of the constant among whose lines one with that number stands; behind them all, the last one.
+fn part_of(number: usize) -> usize
+    ensures inside { result < length STARTS }
+    ensures begins { get_or STARTS result 0 ≤ number }
+    ensures ends { (after : ℕ) → after ≡ result + 1 → after < length STARTS → number < get_or STARTS after 0 }
+{
+    let mut low = 0;
+    let mut high = STARTS.len();
+    while high - low > 1 {
+        let middle = low + (high - low) / 2;
+        if STARTS[middle] <= number {
+            low = middle;
+        } else {
+            high = middle;
+        }
+    }
+    low
+}
 
 // The line with that number in the table.
 pub(crate) fn line_at(number: usize) -> Option<&'static TableLine>
     ensures { shown_at result ≡ slice_get entries number }
 {
-    let mut rest = number;
-    for part in 0..COUNTS.len() {
-        if rest < COUNTS[part] {
-            return line_of(part, rest);
-        }
-        rest -= COUNTS[part];
-    }
-    None
+    let part = part_of(number);
+    line_of(part, number - STARTS[part])
 }
 
 /// The row with that number, from 0 on; none where there are fewer.

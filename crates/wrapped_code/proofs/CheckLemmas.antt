@@ -192,7 +192,7 @@ module _ (law : MoreGlobalsCheckAlike) (input : List ℕ) (more : List Primitive
       back_checks m os (suc k) (suc j) next left (omega arith) (λ i fs l. same i fs (omega arith)) y
 
   -- the operators of the front, whose numbers stay
-  front_checks : (n : ℕ) (rest new : List Operator) → (front : List Operator) (k : ℕ) (frames left : List Frame) → k + count front ≡ n →
+  pub front_checks : (n : ℕ) (rest new : List Operator) → (front : List Operator) (k : ℕ) (frames left : List Frame) → k + count front ≡ n →
       ((i : ℕ) (fs : List Frame) → i < n → a i fs ≡ b i fs) →
       ((fs : List Frame) → check context a n rest fs ≡ Some left → check all b n new fs ≡ Some left) →
       check context a k (front ++ rest) frames ≡ Some left → check all b k (front ++ new) frames ≡ Some left

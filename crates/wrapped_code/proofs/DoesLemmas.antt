@@ -67,7 +67,7 @@ no_asking (once t a) os h =
 no_asking trap os h = no_first op.Unreachable os refl h
 
 -- in a block that catches none nothing is asked of what it makes of an exception
-uncaught : (os : List Operator) (b : Beyond) (k : ℕ) (role : Role) (c : Caught) → (handles_by role ≡ true → ⊥) → IsCaught os b k role c
+pub uncaught : (os : List Operator) (b : Beyond) (k : ℕ) (role : Role) (c : Caught) → (handles_by role ≡ true → ⊥) → IsCaught os b k role c
 uncaught os b k handles c h = absurd (h refl)
 uncaught os b k tries c h = absurd (h refl)
 uncaught os b k catches c h = tt
@@ -124,21 +124,21 @@ module _ (info : Module) (beyond : Beyond) (xs ys : List Operator) (c : Wrapped)
 
   module _ (results : List PrimitiveTypeInfo) where
     -- what another operator comes to, by its number among those that ask
-    number_of : (os : List Operator) (k : ℕ) (d : Deed) → IsDeed info results (by_asked os beyond) k d → IsDeed info results beyond (asked_before os k) d
+    pub number_of : (os : List Operator) (k : ℕ) (d : Deed) → IsDeed info results (by_asked os beyond) k d → IsDeed info results beyond (asked_before os k) d
     number_of os k (gives vs r) h = h
     number_of os k (jumps l vs r) h = h
     number_of os k (breaks mark r) h = tt
     number_of os k (enters i vs) h = h
     number_of os k (returns i vs) h = h
 
-    by_number : (os : List Operator) (k : ℕ) (d : Deed) → IsDeed info results beyond (asked_before os k) d → IsDeed info results (by_asked os beyond) k d
+    pub by_number : (os : List Operator) (k : ℕ) (d : Deed) → IsDeed info results beyond (asked_before os k) d → IsDeed info results (by_asked os beyond) k d
     by_number os k (gives vs r) h = h
     by_number os k (jumps l vs r) h = h
     by_number os k (breaks mark r) h = tt
     by_number os k (enters i vs) h = h
     by_number os k (returns i vs) h = h
 
-    abbrev Fits : (j : ℕ) → List Value → (rest : ℕ) → Type 0
+    abbrev pub Fits : (j : ℕ) → List Value → (rest : ℕ) → Type 0
     Fits j operands rest = types operands ≡ beyond.takes j → IsDeed info results beyond j (beyond.deed j operands rest)
 
     deeds_after : NoHandler before → HasDeeds info results before (by_asked before beyond) → HasDeeds info results after (by_asked after beyond)

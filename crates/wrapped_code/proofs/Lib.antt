@@ -5,6 +5,7 @@ mod MovedLemmas
 mod ControlLemmas
 mod TableLemmas
 mod HandlerLemmas
+mod ReadLemmas
 mod WrapLemmas
 mod FrameLemmas
 mod StepLemmas
@@ -12,6 +13,8 @@ mod CheckLemmas
 mod DoesLemmas
 mod PushLemmas
 mod PureLemmas
+mod ValueLemmas
+mod OverLemmas
 mod WayLemmas
 mod BlockLemmas
 mod PlaceOfLemmas

@@ -1,6 +1,8 @@
 -- What wrapped code pushes.
 use Rattle.std.proofs.Common.{◌≡◌, ℕ, zero, suc, ◌-◌, Bool, true, false, List, [], ◌∷◌, ◌++◌, length, take, drop, Option, Some, None, refl, sym, ap, ap₂, ◌∙◌, arith, append-nil, subst}
 use Rattle.std.specs.Prelude.{◌&&◌, ◌||◌, ◌==◌, nat_le, replicate, slice_get, option_map, option_and_then, if◌then◌else◌}
+use Rattle.std.proofs.lemmas.Bool.{or_parts}
+use Rattle.std.proofs.lemmas.List.{length-append}
 use Rattle.wasm_code.specs.declared.immediate.BlockType.{BlockType}
 use Rattle.wasm_code.specs.declared.operator.Operator.{Operator}
 use Rattle.wasm_code.specs.declared.operator.Operator.TheVariants as op
@@ -8,11 +10,11 @@ use Rattle.wasm_types.specs.declared.types.PrimitiveTypeInfo.{PrimitiveTypeInfo}
 use Rattle.wasm_types.specs.declared.types.PrimitiveTypeInfo.TheVariants as primitive
 use Rattle.peephole_machine.specs.Values.{Context}
 use Rattle.peephole_programs.specs.control.Blocks.{Arity, arity_of, has_arity}
-use Rattle.peephole_programs.specs.validation.Algorithm.{Entry, all_may_be, Frame, check_code, popped, with_pushed, on_innermost}
+use Rattle.peephole_programs.specs.validation.Algorithm.{Entry, all_may_be, known, Frame, check_code, popped, with_pushed, on_innermost}
 use Rattle.peephole_programs.specs.validation.StandardSteps.{pop, push, cut_off, opened_by, open_frame, label_types, is_empty, can_close, leaves_alike, close_frame, other_of, other_frame, only_where}
 use Rattle.peephole_programs.specs.validation.StaysValid.{with_types}
-use Rattle.wrapped_code.specs.Wrapped.{Wrapped, plain, block, loop, choice, leaving, exits, once, trap, check_wrapped}
-use Rattle.wrapped_code.specs.Ways.{WrappedPushes, WrappedCodePushes, PushedCodeChecksAs}
+use Rattle.wrapped_code.specs.Wrapped.{Wrapped, has_operators, plain, both, block, loop, choice, leaving, exits, once, trap, check_wrapped}
+use Rattle.wrapped_code.specs.Ways.{WrappedPushes, WrappedCodePushes, PushedCodeChecksAs, PushingCodeIsThere}
 use Rattle.wrapped_code.proofs.FrameLemmas.{pop_known, none_on, one_on_other}
 
 -- ---- types that are popped
@@ -145,24 +147,27 @@ module _ (context : Context) (t : BlockType) (has : has_arity context.info t ≡
       (closes_on y.final f outer y.closes (ap (λ o. leaves_alike o (record { starts = y.final.starts; ends = y.final.ends })) y.opened_is) ∙
       ap (λ (z : List PrimitiveTypeInfo). Some (with_types z f ∷ outer)) y.ends_are))))
 
-  -- a branch to the end of the block
-  cut_on : (outer : List Frame) →
-      option_and_then (λ f. on_innermost (λ g. option_map cut_off (pop (label_types f) g)) (with_types ar.ends (bare (op.Block t) ar) ∷ outer))
-      (slice_get (with_types ar.ends (bare (op.Block t) ar) ∷ outer) 0) ≡ Some (cut_off (bare (op.Block t) ar) ∷ outer)
-  cut_on outer = ap (λ x. option_map (λ g. g ∷ outer) (option_map cut_off x)) (pop_known ar.ends (bare (op.Block t) ar))
+  -- a branch to the end of the block, with other types beneath those that it takes
+  cut_on : (vs : List PrimitiveTypeInfo) (outer : List Frame) →
+      option_and_then (λ f. on_innermost (λ g. option_map cut_off (pop (label_types f) g)) (with_types (vs ++ ar.ends) (bare (op.Block t) ar) ∷ outer))
+      (slice_get (with_types (vs ++ ar.ends) (bare (op.Block t) ar) ∷ outer) 0) ≡ Some (cut_off (bare (op.Block t) ar) ∷ outer)
+  cut_on vs outer =
+      let f = bare (op.Block t) ar in
+      ap (λ x. option_map (λ g. g ∷ outer) (option_map cut_off x))
+      (ap (pop ar.ends) (sym (one_on_other vs ar.ends f)) ∙ pop_known ar.ends (with_types vs f))
 
-  push_leaving : (a dead : Wrapped) → WrappedPushes context a ar.starts ar.ends → (final : Frame) → can_close final ≡ true →
-      final.opened ≡ Some (op.Block t) → final.ends ≡ ar.ends →
+  push_leaving : (a dead : Wrapped) (vs : List PrimitiveTypeInfo) → WrappedPushes context a ar.starts (vs ++ ar.ends) → (final : Frame) →
+      can_close final ≡ true → final.opened ≡ Some (op.Block t) → final.ends ≡ ar.ends →
       ((outer : List Frame) → check_wrapped context dead (cut_off (bare (op.Block t) ar) ∷ outer) ≡ Some (final ∷ outer)) →
       WrappedPushes context (leaving t a dead) ar.starts ar.ends
-  push_leaving a dead h final can opened ends goes f outer =
+  push_leaving a dead vs h final can opened ends goes f outer =
       let jump : List Frame → Option (List Frame) =
       λ fs. option_and_then (λ f. on_innermost (λ g. option_map cut_off (pop (label_types f) g)) fs) (slice_get fs 0) in
       ap (λ z. option_and_then close_frame (option_and_then (check_wrapped context dead) (option_and_then jump
       (option_and_then (check_wrapped context a) z)))) (opening (op.Block t) f outer) ∙
       (ap (λ z. option_and_then close_frame (option_and_then (check_wrapped context dead) (option_and_then jump z)))
       (h (bare (op.Block t) ar) (f ∷ outer)) ∙
-      (ap (λ z. option_and_then close_frame (option_and_then (check_wrapped context dead) z)) (cut_on (f ∷ outer)) ∙
+      (ap (λ z. option_and_then close_frame (option_and_then (check_wrapped context dead) z)) (cut_on vs (f ∷ outer)) ∙
       (ap (option_and_then close_frame) (goes (f ∷ outer)) ∙
       (closes_on final f outer can (ap (λ o. leaves_alike o (record { starts = final.starts; ends = final.ends })) opened) ∙
       ap (λ (z : List PrimitiveTypeInfo). Some (with_types z f ∷ outer)) ends))))
@@ -192,6 +197,33 @@ module _ (context : Context) (t : BlockType) (has : has_arity context.info t ≡
       (ap (λ z. option_and_then close_frame (option_and_then (check_wrapped context b) z)) (stays_on (f ∷ outer)) ∙
       (ap (option_and_then close_frame) (k (bare (op.Block t) ar) (f ∷ outer)) ∙
       closes_on (with_types ar.ends (bare (op.Block t) ar)) f outer (full_closes (op.Block t) ar) refl)))
+
+  -- the same with other types beneath, and a trap behind
+  stays_over : (vs : List PrimitiveTypeInfo) (outer : List Frame) →
+      option_and_then (λ f. on_innermost (λ g. option_and_then (λ d. option_map (push (label_types f)) (pop (label_types f) d))
+      (pop (primitive.I32 ∷ []) g)) (with_types (vs ++ (ar.ends ++ primitive.I32 ∷ [])) (bare (op.Block t) ar) ∷ outer))
+      (slice_get (with_types (vs ++ (ar.ends ++ primitive.I32 ∷ [])) (bare (op.Block t) ar) ∷ outer) 0) ≡
+      Some (with_types ar.ends (with_types vs (bare (op.Block t) ar)) ∷ outer)
+  stays_over vs outer =
+      let f = with_types vs (bare (op.Block t) ar) in
+      ap (λ (x : Option Frame). option_map (λ g. g ∷ outer) (option_and_then (λ d. option_map (push ar.ends) (pop ar.ends d)) x))
+      (ap (pop (primitive.I32 ∷ []))
+      (sym (one_on_other ar.ends (primitive.I32 ∷ []) f ∙ one_on_other vs (ar.ends ++ primitive.I32 ∷ []) (bare (op.Block t) ar))) ∙
+      pop_known (primitive.I32 ∷ []) (with_types ar.ends f)) ∙
+      ap (λ (x : Option Frame). option_map (λ g. g ∷ outer) (option_map (push ar.ends) x)) (pop_known ar.ends f)
+
+  push_sure : (a : Wrapped) (vs : List PrimitiveTypeInfo) → WrappedPushes context a ar.starts (vs ++ (ar.ends ++ primitive.I32 ∷ [])) →
+      WrappedPushes context (exits t a trap) ar.starts ar.ends
+  push_sure a vs h f outer =
+      let jump : List Frame → Option (List Frame) =
+      λ fs. option_and_then (λ f. on_innermost (λ g. option_and_then (λ d. option_map (push (label_types f)) (pop (label_types f) d))
+      (pop (primitive.I32 ∷ []) g)) fs) (slice_get fs 0) in
+      ap (λ z. option_and_then close_frame (option_and_then (check_wrapped context trap) (option_and_then jump
+      (option_and_then (check_wrapped context a) z)))) (opening (op.Block t) f outer) ∙
+      (ap (λ z. option_and_then close_frame (option_and_then (check_wrapped context trap) (option_and_then jump z)))
+      (h (bare (op.Block t) ar) (f ∷ outer)) ∙
+      (ap (λ z. option_and_then close_frame (option_and_then (check_wrapped context trap) z)) (stays_over vs (f ∷ outer)) ∙
+      closes_on (cut_off (bare (op.Block t) ar)) f outer (cut_closes (bare (op.Block t) ar)) refl))
 
   -- a conditional jump back, to a loop that takes nothing
   jumps_on : ar.starts ≡ [] → (outer : List Frame) →
@@ -240,11 +272,18 @@ wrapped_pushes = record {
       push_parts context t has trap a (trap_part context t has (op.If t)) (typed_part context t has op.Else a h);
   before_dead = λ context t a dead has h k.
       let b = cut_off (bare (op.Block t) (arity_of context.info t)) in
-      push_leaving context t has a dead h (with_types (arity_of context.info t).ends b)
+      push_leaving context t has a dead [] h (with_types (arity_of context.info t).ends b)
       (ap is_empty (pop_known (arity_of context.info t).ends b)) refl refl (λ outer. k b outer);
   before_end = λ context t a has h.
-      push_leaving context t has a (plain []) h (cut_off (bare (op.Block t) (arity_of context.info t)))
+      push_leaving context t has a (plain []) [] h (cut_off (bare (op.Block t) (arity_of context.info t)))
       (cut_closes (bare (op.Block t) (arity_of context.info t))) refl refl (λ outer. refl);
+  before_end_over = λ context t a vs has h.
+      push_leaving context t has a (plain []) vs h (cut_off (bare (op.Block t) (arity_of context.info t)))
+      (cut_closes (bare (op.Block t) (arity_of context.info t))) refl refl (λ outer. refl);
+  before_trap_over = λ context t a vs has h.
+      push_leaving context t has a trap vs h (cut_off (bare (op.Block t) (arity_of context.info t)))
+      (cut_closes (bare (op.Block t) (arity_of context.info t))) refl refl (λ outer. refl);
+  before_sure_branch = λ context t a vs has h. push_sure context t has a vs h;
   in_once = λ context t a has none h. push_once context t has a none h;
   before_exit = λ context t a b has h k. push_exits context t has a b h k;
 }
@@ -258,3 +297,32 @@ pushed_checks context after own c us h k f g outer e =
   where
     some_is : (f g : Frame) → ◌≡◌ {A = Option Frame} (Some f) (Some g) → f ≡ g
     some_is f g e = cc
+
+-- ---- code without operators
+
+no_check : (context : Context) (c : Wrapped) → has_operators c ≡ false → (f : Frame) (outer : List Frame) →
+    check_wrapped context c (f ∷ outer) ≡ Some (f ∷ outer)
+no_check context (plain []) e f outer = refl
+no_check context (plain (i ∷ code)) e f outer = absurd cc
+no_check context (both a b) e f outer =
+    let p = or_parts (has_operators a) (has_operators b) e in
+    ap (option_and_then (check_wrapped context b)) (no_check context a p.0 f outer) ∙ no_check context b p.1 f outer
+no_check context c e f outer = absurd cc
+
+pub pushing_is_there : PushingCodeIsThere
+pushing_is_there context c t us h = by (has_operators c) refl
+  where
+    free : Frame
+    free = record { opened = None; starts = []; ends = []; operands = []; unreachable = false }
+
+    frame_is : (f g : Frame) → ◌≡◌ {A = Option (List Frame)} (Some (f ∷ [])) (Some (g ∷ [])) → f ≡ g
+    frame_is f g e = cc
+
+    something : (es : List Entry) (f : Frame) → f.operands ++ (Some t ∷ es) ≡ f.operands → ⊥
+    something es f e = let n = ap length e in let a = length-append f.operands (Some t ∷ es) in absurd (omega arith)
+
+    by : (b : Bool) → has_operators c ≡ b → has_operators c ≡ true
+    by true e = e
+    by false e =
+        absurd (something (known us) free (ap (λ (f : Frame). f.operands)
+        (sym (frame_is (with_types [] free) (with_types (t ∷ us) free) (sym (no_check context c e (with_types [] free) []) ∙ h free [])) ∙ none_on free)))

@@ -12,7 +12,7 @@ use Rattle.wasm_types.specs.declared.types.PrimitiveTypeInfo.{PrimitiveTypeInfo}
 use Rattle.wasm_types.specs.declared.types.PrimitiveTypeInfo.TheVariants as primitive
 use Rattle.peephole_machine.specs.declared.integer.IntegerType.TheVariants as integer
 use Rattle.peephole_machine.specs.Values.{Value, IsValue, types, whole, Context, State, HasTypes, Outcome, Ends, Traps, Stuck, then_run, above}
-use Rattle.peephole_machine.specs.IntegerRow.{constant, select, is_numeric, if_typed, row_types, integer_row}
+use Rattle.peephole_machine.specs.IntegerRow.{select, is_numeric, if_typed, row_types, integer_row}
 use Rattle.peephole_machine.specs.Machine.{context_of, step, run}
 use Rattle.peephole_machine.specs.Agreement.{with_globals, EndsTyped}
 use Rattle.peephole_machine.specs.Laws.{Keeps}
@@ -28,20 +28,10 @@ use Rattle.peephole_programs.specs.validation.Algorithm.{known, Frame}
 use Rattle.peephole_programs.specs.validation.StaysValid.{with_types, Pushes}
 use Rattle.wrapped_code.specs.Wrapped.{once, Wrapped, plain, both, choice, exits, picked_by, picked, run_wrapped, WrappedRunsAs}
 use Rattle.wrapped_code.specs.Ways.{IsPure, IsAlone, LeavesValue, WrappedCodeRuns}
+use Rattle.wrapped_code.proofs.ValueLemmas.{last_is, front_is, small_is, run_constant, pure_more}
+use Rattle.wrapped_code.proofs.OverLemmas.{branch_over, sure_branch, sure_branch_over}
 
-last_is : (xs : List Value) (v : Value) → last_of 1 (xs ++ v ∷ []) ≡ v ∷ []
-last_is xs v = drop_at xs (v ∷ []) (length (xs ++ v ∷ []) - 1) (omega (arith, length-append xs (v ∷ [])))
-
-front_is : (xs : List Value) (v : Value) → take (length (xs ++ v ∷ []) - 1) (xs ++ v ∷ []) ≡ xs
-front_is xs v = take_at xs (v ∷ []) (length (xs ++ v ∷ []) - 1) (omega (arith, length-append xs (v ∷ [])))
-
--- ---- a constant
-
-run_constant : (one : Instruction) (n : ℕ) (stack : List Value) (s : State) → integer_row one ≡ constant integer.I32 n →
-    run (one ∷ []) stack s ≡ Ends (stack ++ whole integer.I32 n ∷ []) s
-run_constant one n stack s e =
-    run_one one (constant integer.I32 n) stack s e ∙
-    (ap (λ (x : List Value). step (constant integer.I32 n) x s) (sym (append-nil stack)) ∙ step_at (constant integer.I32 n) stack [] s refl)
+-- ---- a conditional
 
 run_choice : (m : Module) (code : List Instruction) (t : BlockType) (c d : Wrapped) (v : Value) (stack : List Value) (s u : State) →
     run code stack s ≡ Ends (stack ++ v ∷ []) u →
@@ -189,17 +179,6 @@ one_value [] t e = absurd cc
 one_value (v ∷ []) t e = (v, refl, cc)
 one_value (v ∷ w ∷ vs) t e = absurd cc
 
--- pure code with further globals
-pure_more : (context : Context) (t : PrimitiveTypeInfo) (code : List Instruction) (p : IsPure context t code) (stack more : List Value) (s : State) →
-    All IsValue stack → HasTypes context s →
-    (after : List Value) × (types after ≡ types more) × (run code stack (with_globals more s) ≡ Ends (stack ++ p.value s ∷ []) (with_globals after s))
-pure_more context t code p stack more s a h =
-    let (after, e, is) = run_follows context code more stack s h a (λ z. not_stuck (sym (p.gives stack s a h) ∙ z)) in
-    (after, e, is ∙ ap (with_more after) (p.gives stack s a h))
-  where
-    not_stuck : ◌≡◌ {A = Outcome} (Ends (stack ++ p.value s ∷ []) s) Stuck → ⊥
-    not_stuck z = absurd cc
-
 -- the select itself
 run_select : (context : Context) (pick : Instruction) (t : PrimitiveTypeInfo) (stack : List Value) (vx vy vc : Value) (s : State) →
     integer_row pick ≡ select → is_numeric t ≡ true → vx.type ≡ t → vy.type ≡ t → vc.type ≡ primitive.I32 →
@@ -324,12 +303,15 @@ wrapped_runs valid = record {
   plain_code = λ context requests own code h. h;
   in_block = λ context requests own t c h. h;
   in_loop = λ context requests own t c h. h;
-  in_first = λ context requests own t one c d e h stack requested s a typed r n.
-      let (after, f, is) = h stack requested s a typed r n in (
+  in_first = λ context requests own t one k c d l e h stack requested s a typed r n.
+      let (after, f, is) = h stack requested s a typed r n in
+      let one_is = whole integer.I32 (suc k) in (
         after,
         f,
-        run_choice context.info (one ∷ []) t c d (whole integer.I32 1) stack (with_globals requested s) (with_globals requested s)
-            (run_constant one 1 stack (with_globals requested s) e) ∙ is,
+        run_choice context.info (one ∷ []) t c d one_is stack (with_globals requested s) (with_globals requested s)
+            (run_constant one (suc k) stack (with_globals requested s) e) ∙
+            (ap (λ (n : ℕ). picked_by primitive.I32 n (run_wrapped context.info c stack (with_globals requested s))
+            (run_wrapped context.info d stack (with_globals requested s))) (small_is k l) ∙ is),
       );
   in_second = λ context requests own t none c d e h stack requested s a typed r n.
       let (after, f, is) = h stack requested s a typed r n in (
@@ -344,6 +326,12 @@ wrapped_runs valid = record {
       then_follows requested f (run own stack s) (run_wrapped context.info c stack (with_globals requested s)) (λ vs s after. refl)
       (ap (λ (ts : List PrimitiveTypeInfo). then_run (run own stack s) (λ vs u. Ends (unwound (length stack - length ts) (length us) vs) u)) starts ∙
       leaves valid context own us h stack s a typed (run own stack s) refl) (k stack requested s a typed r n);
+  before_branch_over = λ context requests own t below c dead u starts pushes pure runs.
+      branch_over valid context requests own t c starts pushes runs below dead u pure;
+  before_sure_branch = λ context requests own t c one n starts pushes small is runs.
+      sure_branch valid context requests own t c starts pushes runs one n small is;
+  before_sure_branch_over = λ context requests own t below c one n u starts pushes pure small is runs.
+      sure_branch_over valid context requests own t c starts pushes runs one n small is below u pure;
   before_condition = λ context requests own t c condition starts pushes pure runs.
       exit_follows valid context requests own t c condition starts pushes pure runs;
   before_jump = λ context requests own t c condition pure zeros runs. once_follows context requests own t c condition pure zeros runs;

@@ -32,11 +32,11 @@ use Rattle.wrapped_code.proofs.HandlerLemmas.{NoHandler}
 use Rattle.wrapped_code.proofs.TableLemmas.{no_tables, tables_moved}
 
 -- that many more
-abbrev further : ℕ → ℕ → ℕ
+abbrev pub further : ℕ → ℕ → ℕ
 further i zero = i
 further i (suc l) = suc (further i l)
 
-further_is : (i l : ℕ) → further i l ≡ i + l
+pub further_is : (i l : ℕ) → further i l ≡ i + l
 further_is i zero = omega arith
 further_is i (suc l) = let e = further_is i l in omega arith
 
@@ -52,16 +52,16 @@ module _ (context : Context) (sound_law : StandardControlIsSound) (requests : Li
   abbrev info : Module
   info = context.info
 
-  abbrev old_control : Control
+  abbrev pub old_control : Control
   old_control = standard info results (structural old) (by_asked (structural old) beyond)
 
-  abbrev new_control : Control
+  abbrev pub new_control : Control
   new_control = standard info results (structural new) (by_asked (structural new) beyond)
 
-  abbrev n : ℕ
+  abbrev pub n : ℕ
   n = count front
 
-  abbrev m : ℕ
+  abbrev pub m : ℕ
   m = past c 0
 
   abbrev xs : List Operator
@@ -90,22 +90,22 @@ module _ (context : Context) (sound_law : StandardControlIsSound) (requests : Li
   middle_count : length middle ≡ m
   middle_count = past_counts c []
 
-  old_behind : IsBehind old n back
+  pub old_behind : IsBehind old n back
   old_behind = coded_behind old n own back (front_behind front (map (λ (i : Instruction). op.Instr i) own ++ back))
 
-  new_here : IsBehind new n (written c back)
+  pub new_here : IsBehind new n (written c back)
   new_here = front_behind front (written c back)
 
   new_behind : IsBehind new (past c n) back
   new_behind = written_behind new c n back new_here
 
-  past_is : past c n ≡ n + m
+  pub past_is : past c n ≡ n + m
   past_is = let e = past_adds c n in omega arith
 
-  pieces_before : (k : ℕ) → k < n → piece new k ≡ piece old k
+  pub pieces_before : (k : ℕ) → k < n → piece new k ≡ piece old k
   pieces_before k l = front_piece front (written c back) k l ∙ sym (front_piece front (map (λ (i : Instruction). op.Instr i) own ++ back) k l)
 
-  pieces_behind : (k : ℕ) → n < k → piece new (k + m) ≡ piece old k
+  pub pieces_behind : (k : ℕ) → n < k → piece new (k + m) ≡ piece old k
   pieces_behind zero l = absurd (omega arith)
   pieces_behind (suc k) l =
       let p = past_is in
@@ -138,7 +138,7 @@ module _ (context : Context) (sound_law : StandardControlIsSound) (requests : Li
     catchers_are = λ k mark rest o at handles. absurd (unhandled k o (ap (λ os. slice_get os k) old_is ∙ at) handles);
   }
 
-  controls_moved : (k : ℕ) (labels : List Label) (stack : List Value) (s : State) →
+  pub controls_moved : (k : ℕ) (labels : List Label) (stack : List Value) (s : State) →
       new_control (moved n m k) (las labels) stack s ≡ re (old_control k labels stack s)
   controls_moved k labels stack s =
       ap (λ os. standard info results os (by_asked os beyond) (moved n m k) (las labels) stack s) new_is ∙
@@ -149,7 +149,7 @@ module _ (context : Context) (sound_law : StandardControlIsSound) (requests : Li
   -- ---- one after another
 
   -- the second goes on as the first, with further globals, by the new numbers
-  abbrev Moves : (f g : List Value → State → Reached) → Type 0
+  abbrev pub Moves : (f g : List Value → State → Reached) → Type 0
   Moves f g = (stack more : List Value) (s : State) → All IsValue stack → HasTypes context s → types more ≡ requests → f stack s ≢ Done Stuck →
       (after : List Value) × (types after ≡ requests) × (g stack (with_globals more s) ≡ re (reached_with after (f stack s)))
 
@@ -159,7 +159,7 @@ module _ (context : Context) (sound_law : StandardControlIsSound) (requests : Li
       let (after, u, is) = h stack more s a t r (λ z. q (e stack s ∙ z)) in
       (after, u, d stack (with_globals more s) ∙ (is ∙ ap (λ z. re (reached_with after z)) (sym (e stack s))))
 
-  sound : IsSoundControl context old_control
+  pub sound : IsSoundControl context old_control
   sound = sound_law.sound context results (structural old) (by_asked (structural old) beyond)
 
   moves_control : (k : ℕ) (labels : List Label) → Moves (old_control k labels) (new_control (moved n m k) (las labels))
@@ -211,18 +211,18 @@ module _ (context : Context) (sound_law : StandardControlIsSound) (requests : Li
   past_on f (Traps cause gs r) = past_done new_control new c n (Traps cause gs r)
   past_on f Stuck = past_done new_control new c n Stuck
 
-  go_on_same : (f g : List Value → State → Reached) → ((stack : List Value) (s : State) → f stack s ≡ g stack s) → (o : Outcome) → go_on f o ≡ go_on g o
+  pub go_on_same : (f g : List Value → State → Reached) → ((stack : List Value) (s : State) → f stack s ≡ g stack s) → (o : Outcome) → go_on f o ≡ go_on g o
   go_on_same f g h (Ends vs t) = h vs t
   go_on_same f g h (Traps cause gs r) = refl
   go_on_same f g h Stuck = refl
 
-  abbrev first : List Instruction
+  abbrev pub first : List Instruction
   first = piece front n
 
-  abbrev last : List Instruction
+  abbrev pub last : List Instruction
   last = piece back 0
 
-  old_here : (labels : List Label) (stack : List Value) (s : State) →
+  pub old_here : (labels : List Label) (stack : List Value) (s : State) →
       pass old_control old (At n labels stack s) ≡
       go_on (λ stack s. go_on (λ stack s. go_on (old_control n labels) (run last stack s)) (run own stack s)) (run first stack s)
   old_here labels stack s =
@@ -236,10 +236,10 @@ module _ (context : Context) (sound_law : StandardControlIsSound) (requests : Li
       (run first stack s)))
 
   -- the visits of the code's pieces, with its first instructions left of the piece before
-  abbrev through_code : List Label → List Value → State → Reached
+  abbrev pub through_code : List Label → List Value → State → Reached
   through_code labels stack s = visits_past new_control new c n (go_on (new_control n labels) (run (piece (written c back) 0) stack s))
 
-  new_goes : (labels : List Label) (stack : List Value) (s : State) →
+  pub new_goes : (labels : List Label) (stack : List Value) (s : State) →
       visits_past new_control new c n (pass new_control new (At n labels stack s)) ≡ go_on (through_code labels) (run first stack s)
   new_goes labels stack s =
       let code = piece (written c back) 0 in
@@ -287,7 +287,7 @@ module _ (context : Context) (sound_law : StandardControlIsSound) (requests : Li
   abbrev pub Along : Reached → Reached → Type 0
   Along p q = p ≢ Done Stuck → IsTyped context p × (more : List Value) × (types more ≡ requests) × (q ≡ re (reached_with more p))
 
-  pass_typed : (k : ℕ) (labels : List Label) (stack : List Value) (s : State) → IsTyped context (At k labels stack s) →
+  pub pass_typed : (k : ℕ) (labels : List Label) (stack : List Value) (s : State) → IsTyped context (At k labels stack s) →
       IsTyped context (pass old_control old (At k labels stack s))
   pass_typed k labels stack s t = go (run (piece old k) stack s) (run_keeps context (piece old k) stack s t.1 t.0)
     where
@@ -297,11 +297,11 @@ module _ (context : Context) (sound_law : StandardControlIsSound) (requests : Li
       go Stuck h = tt
 
   -- the new visits that go with the old one of that number
-  record GoesWith (k : ℕ) (v : Reached → Reached) : Type 0 where
-    done : (o : Outcome) → v (Done o) ≡ Done o
-    elsewhere : (j : ℕ) (labels : List Label) (stack : List Value) (s : State) → (j ≡ k → ⊥) →
+  pub record GoesWith (k : ℕ) (v : Reached → Reached) : Type 0 where
+    pub done : (o : Outcome) → v (Done o) ≡ Done o
+    pub elsewhere : (j : ℕ) (labels : List Label) (stack : List Value) (s : State) → (j ≡ k → ⊥) →
         v (At (moved_piece n m j) labels stack s) ≡ At (moved_piece n m j) labels stack s
-    there : (labels : List Label) → Moves (λ stack s. pass old_control old (At k labels stack s))
+    pub there : (labels : List Label) → Moves (λ stack s. pass old_control old (At k labels stack s))
         (λ stack s. v (At (moved_piece n m k) (las labels) stack s))
 
   with_visit : (k : ℕ) (v : Reached → Reached) → GoesWith k v → (p q : Reached) → Along p q → Along (visit old_control old k p) (v q)
@@ -325,7 +325,7 @@ module _ (context : Context) (sound_law : StandardControlIsSound) (requests : Li
       not_done : (j : ℕ) (labels : List Label) (stack : List Value) (s : State) → At j labels stack s ≡ Done Stuck → ⊥
       not_done j labels stack s x = absurd cc
 
-  goes_before : (k : ℕ) → k < n → GoesWith k (visit new_control new k)
+  pub goes_before : (k : ℕ) → k < n → GoesWith k (visit new_control new k)
   goes_before k l = record {
     done = λ o. refl;
     elsewhere = λ j labels stack s d. visit_not new_control new k (moved_piece n m j) labels stack s (λ e. d (apart j e));
@@ -344,7 +344,7 @@ module _ (context : Context) (sound_law : StandardControlIsSound) (requests : Li
         | inr x ↦ sym (piece_before n m j x) ∙ e
       ]
 
-  goes_here : GoesWith n (λ q. visits_past new_control new c n (visit new_control new n q))
+  pub goes_here : GoesWith n (λ q. visits_past new_control new c n (visit new_control new n q))
   goes_here = record {
     done = λ o. past_done new_control new c n o;
     elsewhere = λ j labels stack s d.
@@ -374,7 +374,7 @@ module _ (context : Context) (sound_law : StandardControlIsSound) (requests : Li
         | inr x ↦ inl (let y = piece_before n m j x in omega arith)
       ]
 
-  goes_behind : (k j : ℕ) → n < k → j ≡ k + m → GoesWith k (visit new_control new j)
+  pub goes_behind : (k j : ℕ) → n < k → j ≡ k + m → GoesWith k (visit new_control new j)
   goes_behind k j l f = record {
     done = λ o. refl;
     elsewhere = λ i labels stack s d. visit_not new_control new j (moved_piece n m i) labels stack s (λ e. d (apart i e));
@@ -417,10 +417,10 @@ module _ (context : Context) (sound_law : StandardControlIsSound) (requests : Li
       (goes_behind (suc (further n l)) (suc (further (past c n) l)) (omega arith) (omega arith))
       (visits old_control old (further n l) p) (visits new_control new (further (past c n) l) q) (beyond_it l p q h)
 
-  old_length : length (structural old) ≡ further n (length ys)
+  pub old_length : length (structural old) ≡ further n (length ys)
   old_length = ap length old_is ∙ (length-append xs ys ∙ sym (further_is n (length ys)))
 
-  new_length : length (structural new) ≡ further (past c n) (length ys)
+  pub new_length : length (structural new) ≡ further (past c n) (length ys)
   new_length =
       let a = length-append xs (middle ++ ys) in let b = length-append middle ys in
       let e = middle_count in let d = further_is (past c n) (length ys) in let f = past_is in

@@ -1,6 +1,7 @@
 -- Operators that open a block that catches exceptions (this project, after the WebAssembly Core Specification 3.0, Execution, Instructions, Control
 -- Instructions).
-use Rattle.std.specs.Prelude.{Bool, true, false, ◌&&◌, not, List, [], ◌∷◌}
+use Rattle.std.specs.Prelude.{◌≡◌, ℕ, Bool, true, false, ◌&&◌, not, List, [], ◌∷◌, map}
+use Rattle.wasm_code.specs.Body.{SpellsAll}
 use Rattle.wasm_code.specs.declared.operator.Operator.{Operator}
 use Rattle.wasm_code.specs.declared.operator.Operator.TheVariants as op
 use Rattle.peephole_programs.specs.control.Blocks.{Role, handles, tries, role_of}
@@ -19,3 +20,9 @@ is_handler o = false
 abbrev pub none_handle : List Operator → Bool
 none_handle [] = true
 none_handle (o ∷ os) = not (is_handler o) && none_handle os
+
+-- What is read has none: no bytes spell an operator that catches exceptions.
+abbrev pub ReadCodeHasNoHandlers : Type 0
+ReadCodeHasNoHandlers =
+    (from : ℕ) (text : List ℕ) (operators : List (Operator × ℕ)) → SpellsAll operators from text →
+    none_handle (map (λ (o : Operator × ℕ). o.0) operators) ≡ true

@@ -1,5 +1,5 @@
 -- Ways to wrap code: which code pushes what, and which runs as the instructions that it replaces (this project).
-use Rattle.std.specs.Prelude.{◌≡◌, ℕ, true, List, [], ◌∷◌, ◌++◌, Some, is_some}
+use Rattle.std.specs.Prelude.{◌≡◌, ℕ, suc, ◌^◌, ◌<◌, true, List, [], ◌∷◌, ◌++◌, Some, is_some}
 use Rattle.std.specs.List.{All}
 use Rattle.wasm_code.specs.Instruction.{Instruction}
 use Rattle.wasm_code.specs.declared.immediate.BlockType.{BlockType}
@@ -16,7 +16,7 @@ use Rattle.peephole_programs.specs.control.Function.{RunsAs}
 use Rattle.peephole_programs.specs.control.Blocks.{arity_of, has_arity}
 use Rattle.peephole_programs.specs.validation.Algorithm.{Frame}
 use Rattle.peephole_programs.specs.validation.StaysValid.{with_types, Pushes}
-use Rattle.wrapped_code.specs.Wrapped.{Wrapped, plain, both, block, loop, choice, leaving, exits, once, trap, check_wrapped, WrappedRunsAs, WrappedChecksAs}
+use Rattle.wrapped_code.specs.Wrapped.{Wrapped, has_operators, plain, both, block, loop, choice, leaving, exits, once, trap, check_wrapped, WrappedRunsAs, WrappedChecksAs}
 
 -- ---- types
 
@@ -24,7 +24,8 @@ use Rattle.wrapped_code.specs.Wrapped.{Wrapped, plain, both, block, loop, choice
 abbrev pub WrappedPushes : Context → Wrapped → (ts us : List PrimitiveTypeInfo) → Type 0
 WrappedPushes context c ts us = (f : Frame) (outer : List Frame) → check_wrapped context c (with_types ts f ∷ outer) ≡ Some (with_types us f ∷ outer)
 
--- What wrapped code pushes. Where one part of a conditional traps, the other pushes; code behind a branch is typed from nothing, or isn't there.
+-- What wrapped code pushes. Where one part of a conditional traps, the other pushes; code behind a branch is typed from nothing, isn't there, or traps. A
+-- branch drops what lies beneath what it carries, also a conditional one with a trap behind.
 pub record WrappedCodePushes : Type 0 where
   pub plain_code : (context : Context) (code : List Instruction) (ts us : List PrimitiveTypeInfo) → Pushes context code ts us →
       WrappedPushes context (plain code) ts us
@@ -55,6 +56,15 @@ pub record WrappedCodePushes : Type 0 where
   pub before_end : (context : Context) (t : BlockType) (a : Wrapped) → has_arity context.info t ≡ true →
       WrappedPushes context a (arity_of context.info t).starts (arity_of context.info t).ends →
       WrappedPushes context (leaving t a (plain [])) (arity_of context.info t).starts (arity_of context.info t).ends
+  pub before_end_over : (context : Context) (t : BlockType) (a : Wrapped) (vs : List PrimitiveTypeInfo) → has_arity context.info t ≡ true →
+      WrappedPushes context a (arity_of context.info t).starts (vs ++ (arity_of context.info t).ends) →
+      WrappedPushes context (leaving t a (plain [])) (arity_of context.info t).starts (arity_of context.info t).ends
+  pub before_trap_over : (context : Context) (t : BlockType) (a : Wrapped) (vs : List PrimitiveTypeInfo) → has_arity context.info t ≡ true →
+      WrappedPushes context a (arity_of context.info t).starts (vs ++ (arity_of context.info t).ends) →
+      WrappedPushes context (leaving t a trap) (arity_of context.info t).starts (arity_of context.info t).ends
+  pub before_sure_branch : (context : Context) (t : BlockType) (a : Wrapped) (vs : List PrimitiveTypeInfo) → has_arity context.info t ≡ true →
+      WrappedPushes context a (arity_of context.info t).starts (vs ++ ((arity_of context.info t).ends ++ primitive.I32 ∷ [])) →
+      WrappedPushes context (exits t a trap) (arity_of context.info t).starts (arity_of context.info t).ends
   pub before_exit : (context : Context) (t : BlockType) (a b : Wrapped) → has_arity context.info t ≡ true →
       WrappedPushes context a (arity_of context.info t).starts ((arity_of context.info t).ends ++ primitive.I32 ∷ []) →
       WrappedPushes context b (arity_of context.info t).ends (arity_of context.info t).ends →
@@ -68,6 +78,12 @@ abbrev pub PushedCodeChecksAs : Type 0
 PushedCodeChecksAs =
     (context after : Context) (own : List Instruction) (c : Wrapped) (us : List PrimitiveTypeInfo) → Pushes context own [] us →
     WrappedPushes after c [] us → WrappedChecksAs context after own c
+
+-- Code that pushes something has an operator.
+abbrev pub PushingCodeIsThere : Type 0
+PushingCodeIsThere =
+    (context : Context) (c : Wrapped) (t : PrimitiveTypeInfo) (us : List PrimitiveTypeInfo) → WrappedPushes context c [] (t ∷ us) →
+    has_operators c ≡ true
 
 -- ---- runs
 
@@ -104,7 +120,8 @@ pub record PureCode : Type 0 where
 
 -- What runs as the instructions that it replaces: instructions that do; code that does, in a block or a loop; as the part of a conditional that a
 -- constant chooses; before a branch to the end of its block, where the instructions push what the block gives, also under a pure condition, whatever that
--- is; in a loop before a jump back under a pure condition that is always zero; and for a select of pure code, a conditional.
+-- is, or under a constant that isn't zero, with a trap behind; above pure code that such a branch drops; in a loop before a jump back under a pure condition
+-- that is always zero; and for a select of pure code, a conditional.
 pub record WrappedCodeRuns : Type 0 where
   pub plain_code : (context : Context) (requests : List PrimitiveTypeInfo) (own code : List Instruction) → RunsAs context requests own code →
       WrappedRunsAs context requests own (plain code)
@@ -112,8 +129,8 @@ pub record WrappedCodeRuns : Type 0 where
       WrappedRunsAs context requests own c → WrappedRunsAs context requests own (block t c)
   pub in_loop : (context : Context) (requests : List PrimitiveTypeInfo) (own : List Instruction) (t : BlockType) (c : Wrapped) →
       WrappedRunsAs context requests own c → WrappedRunsAs context requests own (loop t c)
-  pub in_first : (context : Context) (requests : List PrimitiveTypeInfo) (own : List Instruction) (t : BlockType) (one : Instruction) (c d : Wrapped) →
-      integer_row one ≡ constant integer.I32 1 → WrappedRunsAs context requests own c →
+  pub in_first : (context : Context) (requests : List PrimitiveTypeInfo) (own : List Instruction) (t : BlockType) (one : Instruction) (n : ℕ)
+      (c d : Wrapped) → suc n < 2 ^ 32 → integer_row one ≡ constant integer.I32 (suc n) → WrappedRunsAs context requests own c →
       WrappedRunsAs context requests own (both (plain (one ∷ [])) (choice t c d))
   pub in_second : (context : Context) (requests : List PrimitiveTypeInfo) (own : List Instruction) (t : BlockType) (none : Instruction) (c d : Wrapped) →
       integer_row none ≡ constant integer.I32 0 → WrappedRunsAs context requests own d →
@@ -121,6 +138,18 @@ pub record WrappedCodeRuns : Type 0 where
   pub before_branch : (context : Context) (requests : List PrimitiveTypeInfo) (own : List Instruction) (t : BlockType) (c dead : Wrapped) →
       (arity_of context.info t).starts ≡ [] → Pushes context own [] (arity_of context.info t).ends → WrappedRunsAs context requests own c →
       WrappedRunsAs context requests own (leaving t c dead)
+  pub before_branch_over : (context : Context) (requests : List PrimitiveTypeInfo) (own : List Instruction) (t : BlockType) (below : List Instruction)
+      (c dead : Wrapped) (u : PrimitiveTypeInfo) → (arity_of context.info t).starts ≡ [] → Pushes context own [] (arity_of context.info t).ends →
+      IsPure context u below → WrappedRunsAs context requests own c → WrappedRunsAs context requests own (leaving t (both (plain below) c) dead)
+  pub before_sure_branch : (context : Context) (requests : List PrimitiveTypeInfo) (own : List Instruction) (t : BlockType) (c : Wrapped)
+      (one : Instruction) (n : ℕ) → (arity_of context.info t).starts ≡ [] → Pushes context own [] (arity_of context.info t).ends → suc n < 2 ^ 32 →
+      integer_row one ≡ constant integer.I32 (suc n) → WrappedRunsAs context requests own c →
+      WrappedRunsAs context requests own (exits t (both c (plain (one ∷ []))) trap)
+  pub before_sure_branch_over : (context : Context) (requests : List PrimitiveTypeInfo) (own : List Instruction) (t : BlockType)
+      (below : List Instruction) (c : Wrapped) (one : Instruction) (n : ℕ) (u : PrimitiveTypeInfo) → (arity_of context.info t).starts ≡ [] →
+      Pushes context own [] (arity_of context.info t).ends → IsPure context u below → suc n < 2 ^ 32 →
+      integer_row one ≡ constant integer.I32 (suc n) → WrappedRunsAs context requests own c →
+      WrappedRunsAs context requests own (exits t (both (plain below) (both c (plain (one ∷ [])))) trap)
   pub before_condition : (context : Context) (requests : List PrimitiveTypeInfo) (own : List Instruction) (t : BlockType) (c : Wrapped)
       (condition : List Instruction) → (arity_of context.info t).starts ≡ [] → Pushes context own [] (arity_of context.info t).ends →
       IsPure context primitive.I32 condition → WrappedRunsAs context requests own c →

@@ -1,6 +1,6 @@
 -- Code that stands between two places of a body, with blocks, loops and conditionals of its own: how it is written, run, and checked
 -- (WebAssembly Core Specification 3.0, Execution, Instructions, Control Instructions, and Appendix, Validation Algorithm; the form: this project).
-use Rattle.std.specs.Prelude.{◌≡◌, ◌≢◌, ℕ, zero, suc, ◌-◌, List, [], ◌∷◌, ◌++◌, length, map, take, Option, Some, option_map, option_and_then, slice_get}
+use Rattle.std.specs.Prelude.{◌≡◌, ◌≢◌, ℕ, zero, suc, ◌-◌, Bool, true, false, ◌||◌, List, [], ◌∷◌, ◌++◌, length, map, take, Option, Some, option_map, option_and_then, slice_get}
 use Rattle.std.specs.List.{All}
 use Rattle.wasm_code.specs.Instruction.{Instruction}
 use Rattle.wasm_code.specs.declared.immediate.BlockType.{BlockType}
@@ -45,6 +45,13 @@ written (leaving t a dead) back = op.Block t ∷ written a (op.Br 0 ∷ written 
 written (exits t a b) back = op.Block t ∷ written a (op.BrIf 0 ∷ written b (op.End ∷ back))
 written (once t a) back = op.Loop t ∷ written a (op.BrIf 0 ∷ op.End ∷ back)
 written trap back = op.Unreachable ∷ back
+
+-- there is one at least
+abbrev pub has_operators : Wrapped → Bool
+has_operators (plain []) = false
+has_operators (plain (i ∷ code)) = true
+has_operators (both a b) = has_operators a || has_operators b
+has_operators c = true
 
 -- ---- how it runs
 

@@ -1,8 +1,9 @@
 //! What holds where instructions are replaced by code with control flow of its own. A function here does nothing: its contract is the law.
 
+ghost use Rattle.wrapped_code.specs.Handlers.{ReadCodeHasNoHandlers};
 ghost use Rattle.wrapped_code.specs.Laws.{ValuesInBlocks, WrappedCodeDoes, WrappedModulesDoMore, WrappedModulesStayValid};
 ghost use Rattle.wrapped_code.specs.Tables.{TablesLoseNothing};
-ghost use Rattle.wrapped_code.specs.Ways.{PureCode, PushedCodeChecksAs, WrappedCodePushes, WrappedCodeRuns};
+ghost use Rattle.wrapped_code.specs.Ways.{PureCode, PushedCodeChecksAs, PushingCodeIsThere, WrappedCodePushes, WrappedCodeRuns};
 
 use peephole_programs::laws::{
     one_function_is_rewritten, standard_control_is_sound, valid_modules_do_more,
@@ -26,10 +27,12 @@ pub fn wrapped_code_does_as_before()
     valid_bodies_stay_valid();
 }
 
-/// What wrapped code pushes (`push`), and that it is checked as instructions that push the same (`alike`).
+/// What wrapped code pushes (`push`), that it is checked as instructions that push the same (`alike`), and that it has an operator
+/// where it pushes something (`there`).
 pub fn wrapped_code_pushes()
     ensures push { WrappedCodePushes }
     ensures alike { PushedCodeChecksAs }
+    ensures there { PushingCodeIsThere }
 {}
 
 /// Blocks, loops, conditionals and branches around code that runs as the instructions run as they do.
@@ -54,4 +57,9 @@ pub fn tables_lose_nothing()
 /// Constants, variables and integer operators that never trap are pure.
 pub fn some_code_is_pure()
     ensures { PureCode }
+{}
+
+/// A body that was read has no block that catches exceptions.
+pub fn read_code_has_no_handlers()
+    ensures { ReadCodeHasNoHandlers }
 {}
