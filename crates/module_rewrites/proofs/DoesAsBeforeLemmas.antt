@@ -27,10 +27,10 @@ use Rattle.peephole_programs.specs.validation.Sound.{IsValid}
 use Rattle.peephole_programs.specs.control.Standard.{by_asked}
 use Rattle.peephole_programs.specs.validation.StaysValid.{StaysValid}
 use Rattle.peephole_programs.specs.control.Wider.{wider_module, wider}
-use Rattle.body_rewrites.specs.Changed.{DoesAsBody}
+use Rattle.body_rewrites.specs.Doing.{DoesAsBody}
 use Rattle.body_rewrites.specs.declared.rewrite.Rewrite.{Rewrite}
-use Rattle.body_splices.specs.OwnBytes.{own_bytes, structural_bytes, without_offsets}
-use Rattle.module_rewrites.specs.Structure.{HasStructure, HasLabels, AreLabelled, asking_bytes}
+use Rattle.body_splices.specs.OwnBytes.{own_bytes, without_offsets}
+use Rattle.module_rewrites.specs.Structure.{asking_operators, HasAsking, HasLabels, AreLabelled, texts_of}
 use Rattle.module_rewrites.specs.Function.{IsFunction, parameters_of}
 use Rattle.module_rewrites.specs.ReadAgain.{HasFunction}
 use Rattle.module_rewrites.specs.Mutated.{MutatesEntry, IsMutated}
@@ -219,8 +219,8 @@ does_after law exact a b c h k = record { functions = λ info layout old is mark
           after = follow_one_another law info b c x.more y.more old x.functions y.functions x.after y.after;
           imported = y.imported ∙ x.imported;
           indices = λ h. x.indices (y.indices h);
-          structure = λ n theirs h. x.structure n theirs
-              (y.structure n theirs (subst (λ (m : Module). HasStructure c m y.again n theirs) (sym twice) h));
+          asking = λ n theirs h. x.asking n theirs
+              (y.asking n theirs (subst (λ (m : Module). HasAsking c m y.again n theirs) (sym twice) h));
           labels = λ beyonds l. subst (λ (m : Module). AreLabelled c m y.again beyonds) twice (y.labels beyonds (x.labels beyonds l));
           unread = λ n entry at cannot. unread_twice a b c info layout old x y n entry at cannot;
           made = λ making is. subst (IsMadeOf c y.again.sections) (made_twice x.more y.more making)
@@ -251,12 +251,12 @@ one_function one bytes info layout n locals types expression operators body f h 
     let (same, located) = one_body one bytes info layout n locals types expression h.expression operators h.located f h.is in
     (same, ap without_offsets located ∙ h.are)
 
--- so have its structural operators
-one_structure : OneReading → (bytes : List ℕ) (info : Module) (layout : Layout) (n : ℕ) (xs ys : List (Operator × List ℕ)) →
-    HasStructure bytes info layout n xs → HasStructure bytes info layout n ys → xs ≡ ys
-one_structure one bytes info layout n xs ys f g =
+-- so have its operators that ask more
+one_asking : OneReading → (bytes : List ℕ) (info : Module) (layout : Layout) (n : ℕ) (xs ys : List (Operator × List ℕ)) →
+    HasAsking bytes info layout n xs → HasAsking bytes info layout n ys → xs ≡ ys
+one_asking one bytes info layout n xs ys f g =
     let (same, located) = one_body one bytes info layout n f.locals g.locals f.expression g.expression f.located g.located f.is g.is in
-    sym f.are ∙ (ap (λ (os : List (Operator × ℕ)). structural_bytes (own_bytes bytes os)) located ∙ g.are)
+    sym f.are ∙ (ap (λ (os : List (Operator × ℕ)). asking_operators (own_bytes bytes os)) located ∙ g.are)
 
 -- ---- a rewritten function among the others
 
@@ -282,29 +282,23 @@ module _ (one : OneReading) (law : OfPrograms) (alike : MadeAlike) {scope : Scop
       let same : h.n ≡ n = let e = h.index in omega (arith, e) in
       let there = subst (λ (k : ℕ). HasFunction bytes info layout k (b.params ++ b.locals) b.operators) same h.function in
       let (locals, operators) = one_function one bytes info layout n m.locals (b.params ++ b.locals) m.expression m.operators b.operators m.function there in
-      let does : DoesAsBody (context_for info b) more b.operators written =
-      subst (λ (p : List PrimitiveTypeInfo × List Operator). DoesAsBody (context_in info p.0) more p.1 written)
-      (ap₂ (λ (ts : List PrimitiveTypeInfo) (os : List Operator). (ts, os)) locals operators) body_does in
-      law.pieces info new more b (with_operators written b) refl refl
-      (subst (λ (ts : List PrimitiveTypeInfo). RunsPieceByPiece (context_for info b) ts b.operators written) (append-nil more) (does.pieces []))
-      (subst (λ (ts : List PrimitiveTypeInfo). StaysValid (context_for info b) (wider new ts (context_for info b)) b.operators written)
-      (append-nil more) (does.valid new []))
+      body_does info new b (ap (context_in info) locals) operators
 
-  -- structural operators had their bytes before
-  had_before : (k : ℕ) (texts : List (Operator × List ℕ)) → HasStructure new (wider_module new more info) m.again.again k texts →
-      HasStructure bytes info layout k texts
+  -- operators that ask more had their bytes before
+  had_before : (k : ℕ) (texts : List (Operator × List ℕ)) → HasAsking new (wider_module new more info) m.again.again k texts →
+      HasAsking bytes info layout k texts
   had_before k texts h = elim (eqb_tells k n) [
     | inl (is, same) ↦
-        let here = subst (λ (i : ℕ). HasStructure new (wider_module new more info) m.again.again i texts) same h in
-        let alike : m.again.structure ≡ texts =
-        one_structure one new (wider_module new more info) m.again.again n m.again.structure texts m.again.has here in
-        subst (λ (i : ℕ). HasStructure bytes info layout i texts) (sym same) (subst (HasStructure bytes info layout n) alike m.again.had)
+        let here = subst (λ (i : ℕ). HasAsking new (wider_module new more info) m.again.again i texts) same h in
+        let alike : m.again.asking ≡ texts =
+        one_asking one new (wider_module new more info) m.again.again n m.again.asking texts m.again.has here in
+        subst (λ (i : ℕ). HasAsking bytes info layout i texts) (sym same) (subst (HasAsking bytes info layout n) alike m.again.had)
     | inr (is, differ) ↦ (m.again.others_have k texts differ).1 h
   ]
 
   labels_stay : (beyonds : Beyonds) → AreLabelled bytes info layout beyonds → AreLabelled new (wider_module new more info) m.again.again beyonds
   labels_stay beyonds labelled k texts h =
-      subst (λ (i : ℕ). HasLabels (asking_bytes texts) (beyonds (i + k))) (sym m.again.imported) (labelled k texts (had_before k texts h))
+      subst (λ (i : ℕ). HasLabels (texts_of texts) (beyonds (i + k))) (sym m.again.imported) (labelled k texts (had_before k texts h))
 
   unread_stay : (k : ℕ) (entry : Entry) → slice_get layout.entries k ≡ Some entry → CannotRead bytes info layout k →
       HasContents new m.again.again.entries k (slice_range bytes entry.contents entry.end)
@@ -366,7 +360,7 @@ module _ (one : OneReading) (law : OfPrograms) (alike : MadeAlike) {scope : Scop
           after = do_as_before law info new more old functions both_do;
           imported = m.again.imported;
           indices = m.again.indices.0;
-          structure = had_before;
+          asking = had_before;
           labels = labels_stay;
           unread = unread_stay;
           made = λ making is. alike bytes info layout n (slice_range bytes m.function.entry.contents m.expression ++ m.body) more new

@@ -9,7 +9,8 @@ use Rattle.std.proofs.lemmas.Option.{same_Some}
 use Rattle.rand_core.specs.Stream.{Stream}
 use Rattle.wasm_code.specs.Body.{SpellsCode}
 use Rattle.wasm_code.specs.declared.operator.Operator.{Operator}
-use Rattle.body_splices.specs.OwnBytes.{IsBodyIn, own_bytes, structural_bytes}
+use Rattle.body_splices.specs.OwnBytes.{IsBodyIn, own_bytes}
+use Rattle.module_rewrites.specs.Structure.{asking_operators}
 use Rattle.body_splices.specs.Laws.{OwnBytesStay}
 use Rattle.wasm_types.specs.Module.{Module, merged}
 use Rattle.wasm_types.specs.declared.types.PrimitiveTypeInfo.{PrimitiveTypeInfo}
@@ -156,6 +157,8 @@ own_asks context operators own.TeeToSet start at (made.Global t g) h = absurd h
 own_asks context operators own.DropNop start at (made.Global t g) h = absurd h
 own_asks context operators own.SetToTee start at (made.Global t g) h = absurd h
 own_asks context operators (own.Access n) start at (made.Global t g) h = absurd h
+own_asks context operators (own.Wrap w) start at (made.Global t g) h = absurd h
+own_asks context operators (own.Unwrap w) start at (made.Global t g) h = absurd h
 own_asks context operators o start at made.Nothing h = inl refl
 own_asks context operators o start at (made.Constant t n) h = inl refl
 own_asks context operators o start at (made.Sum t n) h = inl refl
@@ -163,6 +166,8 @@ own_asks context operators o start at made.Nop h = inl refl
 own_asks context operators o start at (made.SetAndGet n) h = inl refl
 own_asks context operators o start at (made.Tee n) h = inl refl
 own_asks context operators o start at (made.Access a w) h = inl refl
+own_asks context operators o start at (made.Wrapped w t) h = inl refl
+own_asks context operators o start at (made.Inner from end) h = inl refl
 
 row_asks : (context : Context) (operators : Operators) (line : Line) (at : ℕ) (change : Change) (w : Widths) → MakesBy context operators line at change w →
     AsksForNumbers change.asks
@@ -246,8 +251,8 @@ module _ (scope : Scope) (bytes : List ℕ) (info : Module) (layout : Layout) (n
       let numbers : AsksForNumbers globals = asks_for_numbers appends in
       let spells : SpellsCode 0 body w.spliced.again =
       subst (λ (b : List ℕ). SpellsCode 0 b w.spliced.again) (sym w.spliced.appended) w.spliced.spells in
-      let structure : structural_bytes (own_bytes body w.spliced.again) ≡ structural_bytes (own_bytes bytes operators) =
-      ap (λ (b : List ℕ). structural_bytes (own_bytes b w.spliced.again)) w.spliced.appended ∙ w.structure in
+      let asking : asking_operators (own_bytes body w.spliced.again) ≡ asking_operators (own_bytes bytes operators) =
+      ap (λ (b : List ℕ). asking_operators (own_bytes b w.spliced.again)) w.spliced.appended ∙ w.asking in
       record {
         locals = locals;
         expression = expression;
@@ -259,7 +264,7 @@ module _ (scope : Scope) (bytes : List ℕ) (info : Module) (layout : Layout) (n
         after = after;
         rewritten = appends;
         written = is;
-        again = read_again stay f body w.spliced.again globals new spells structure (plain_types globals numbers)
+        again = read_again stay f body w.spliced.again globals new spells asking (plain_types globals numbers)
             (law bytes info layout n (slice_range bytes f.entry.contents expression ++ body) globals new known is
             f.is.indices.imports f.is.indices.globals (some_types globals numbers));
       }

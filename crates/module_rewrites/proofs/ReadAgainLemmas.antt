@@ -13,11 +13,11 @@ use Rattle.wasm_module.specs.Module.{IsModule, Layout}
 use Rattle.wasm_module.specs.declared.unknown.Unknown.{Unknown}
 use Rattle.wasm_module.specs.Reread.{HasContents, IsReread}
 use Rattle.peephole_programs.specs.control.Wider.{wider_module}
-use Rattle.body_splices.specs.OwnBytes.{own_bytes, structural_bytes, without_offsets}
+use Rattle.body_splices.specs.OwnBytes.{own_bytes, without_offsets}
 use Rattle.body_splices.specs.Laws.{OwnBytesStay}
 use Rattle.module_rewrites.specs.Function.{IsFunction, KnowsIndices, parameters_of}
 use Rattle.module_rewrites.specs.ReadAgain.{HasFunction, IsReadAgain}
-use Rattle.module_rewrites.specs.Structure.{HasStructure}
+use Rattle.module_rewrites.specs.Structure.{asking_operators, HasAsking}
 
 -- ---- a body that stands somewhere else
 
@@ -149,11 +149,11 @@ begins_with : (bytes text : List ℕ) (from to : ℕ) → slice_range bytes from
 begins_with bytes text from to is =
     sym (take-append-drop (to - from) (drop from bytes)) ∙ ap (λ (xs : List ℕ). xs ++ drop (to - from) (drop from bytes)) is
 
--- A body's structural operators have their bytes where it stands somewhere else.
-structure_there : OwnBytesStay → (input text : List ℕ) (from to : ℕ) (operators : List (Operator × ℕ)) → slice_range input from to ≡ text →
+-- A body's operators that ask more have their bytes where it stands somewhere else.
+asking_there : OwnBytesStay → (input text : List ℕ) (from to : ℕ) (operators : List (Operator × ℕ)) → slice_range input from to ≡ text →
     SpellsCode from text operators → {bytes : List ℕ} {info : Module} {layout : Layout} {n : ℕ} {locals : List PrimitiveTypeInfo} {names : List Operator}
-    (p : IsPlaced bytes info layout n locals names text) → HasStructure bytes info layout n (structural_bytes (own_bytes input operators))
-structure_there stay input text from to operators is spells {bytes} {info} {layout} {n} {locals} {names} p =
+    (p : IsPlaced bytes info layout n locals names text) → HasAsking bytes info layout n (asking_operators (own_bytes input operators))
+asking_there stay input text from to operators is spells {bytes} {info} {layout} {n} {locals} {names} p =
     let h = p.function in
     let there : SpellsCode h.expression text h.located =
     subst (λ (x : List ℕ). SpellsCode h.expression x h.located) p.text_is h.is.body in
@@ -162,7 +162,7 @@ structure_there stay input text from to operators is spells {bytes} {info} {layo
       expression = h.expression;
       located = h.located;
       is = h.is;
-      are = ap structural_bytes (sym (stay input bytes text (drop (to - from) (drop from input))
+      are = ap asking_operators (sym (stay input bytes text (drop (to - from) (drop from input))
           (drop (h.is.entry.end - h.expression) (drop h.expression bytes)) from h.expression operators h.located (begins_with input text from to is) (begins_with bytes text h.expression h.is.entry.end p.text_is)
           spells there));
     }
@@ -188,17 +188,17 @@ function_moved bytes info layout new other again k locals operators indices same
     subst (λ (os : List Operator). HasFunction new other again k locals os) h.are
     (entry_moved bytes info layout new other again k locals h.expression h.located indices same h.is c).function
 
--- Its structural operators have their bytes there.
-pub structure_moved : OwnBytesStay → (bytes : List ℕ) (info : Module) (layout : Layout) (new : List ℕ) (other : Module) (again : Layout) (k : ℕ)
+-- Its operators that ask more have their bytes there.
+pub asking_moved : OwnBytesStay → (bytes : List ℕ) (info : Module) (layout : Layout) (new : List ℕ) (other : Module) (again : Layout) (k : ℕ)
     (texts : List (Operator × List ℕ)) → KnowsIndices again →
     parameters_of other (again.imported_functions + k) ≡ parameters_of info (layout.imported_functions + k) →
-    (h : HasStructure bytes info layout k texts) → HasContents new again.entries k (slice_range bytes h.is.entry.contents h.is.entry.end) →
-    HasStructure new other again k texts
-structure_moved stay bytes info layout new other again k texts indices same h c =
+    (h : HasAsking bytes info layout k texts) → HasContents new again.entries k (slice_range bytes h.is.entry.contents h.is.entry.end) →
+    HasAsking new other again k texts
+asking_moved stay bytes info layout new other again k texts indices same h c =
     let back = h.is.locals_are.back in
     let text : slice_range bytes h.expression h.is.entry.end ≡ back = body_text bytes info layout k h.locals h.expression h.located h.is in
-    subst (λ (ts : List (Operator × List ℕ)). HasStructure new other again k ts) h.are
-    (structure_there stay bytes back h.expression h.is.entry.end h.located text
+    subst (λ (ts : List (Operator × List ℕ)). HasAsking new other again k ts) h.are
+    (asking_there stay bytes back h.expression h.is.entry.end h.located text
     (subst (λ (x : List ℕ). SpellsCode h.expression x h.located) text h.is.body)
     (entry_moved bytes info layout new other again k h.locals h.expression h.located indices same h.is c))
 
@@ -241,23 +241,23 @@ module _ {bytes : List ℕ} {info : Module} {layout : Layout} {n : ℕ} {content
       function_moved new other r.again bytes info layout k locals operators (indices_again r.again layout (sym r.unknown) h.is.is.indices)
       (sym (same_parameters k)) h (contents_back k differ h.is.entry h.is.is.at)
 
-  others_have : OwnBytesStay → (k : ℕ) (texts : List (Operator × List ℕ)) → k ≢ n → HasStructure bytes info layout k texts →
-      HasStructure new other r.again k texts
+  others_have : OwnBytesStay → (k : ℕ) (texts : List (Operator × List ℕ)) → k ≢ n → HasAsking bytes info layout k texts →
+      HasAsking new other r.again k texts
   others_have stay k texts differ h =
-      structure_moved stay bytes info layout new other r.again k texts (indices_again layout r.again r.unknown h.is.is.indices) (same_parameters k) h
+      asking_moved stay bytes info layout new other r.again k texts (indices_again layout r.again r.unknown h.is.is.indices) (same_parameters k) h
       (r.others k h.is.entry differ h.is.is.at)
 
-  others_had : OwnBytesStay → (k : ℕ) (texts : List (Operator × List ℕ)) → k ≢ n → HasStructure new other r.again k texts →
-      HasStructure bytes info layout k texts
+  others_had : OwnBytesStay → (k : ℕ) (texts : List (Operator × List ℕ)) → k ≢ n → HasAsking new other r.again k texts →
+      HasAsking bytes info layout k texts
   others_had stay k texts differ h =
-      structure_moved stay new other r.again bytes info layout k texts (indices_again r.again layout (sym r.unknown) h.is.is.indices)
+      asking_moved stay new other r.again bytes info layout k texts (indices_again r.again layout (sym r.unknown) h.is.is.indices)
       (sym (same_parameters k)) h (contents_back k differ h.is.entry h.is.is.at)
 
 -- The body that was written, behind the locals as they stood.
 pub read_again : OwnBytesStay → {bytes : List ℕ} {info : Module} {layout : Layout} {n : ℕ} {locals : List PrimitiveTypeInfo} {expression : ℕ}
     {operators : List (Operator × ℕ)} (f : IsFunction bytes info layout n locals expression operators) (body : List ℕ) (written : List (Operator × ℕ))
     (more : List PrimitiveTypeInfo) (new : List ℕ) → SpellsCode 0 body written →
-    structural_bytes (own_bytes body written) ≡ structural_bytes (own_bytes bytes operators) → map (merged true) more ≡ more →
+    asking_operators (own_bytes body written) ≡ asking_operators (own_bytes bytes operators) → map (merged true) more ≡ more →
     IsReread bytes info layout n (slice_range bytes f.entry.contents expression ++ body) more new →
     IsReadAgain bytes info layout n locals (without_offsets written) more new
 read_again stay {bytes} {info} {layout} {n} {locals} {expression} {operators} f body written more new spells structure plain r =
@@ -276,10 +276,10 @@ read_again stay {bytes} {info} {layout} {n} {locals} {expression} {operators} f 
       count = r.count;
       function = there.function;
       others = λ k types os differ. (others_there r k types os differ, others_back r k types os differ);
-      structure = structural_bytes (own_bytes bytes operators);
+      asking = asking_operators (own_bytes bytes operators);
       had = record { locals = locals; expression = expression; located = operators; is = f; are = refl };
-      has = subst (λ (ts : List (Operator × List ℕ)). HasStructure new other r.again n ts) structure
-          (structure_there stay body body 0 (length body) written whole spells there);
+      has = subst (λ (ts : List (Operator × List ℕ)). HasAsking new other r.again n ts) structure
+          (asking_there stay body body 0 (length body) written whole spells there);
       others_have = λ k theirs differ. (others_have r stay k theirs differ, others_had r stay k theirs differ);
       indices = (indices_again r.again layout (sym r.unknown), indices_again layout r.again r.unknown);
       contents = λ k old differ at. r.others k old differ at;

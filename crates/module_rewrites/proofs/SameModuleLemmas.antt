@@ -18,9 +18,9 @@ use Rattle.peephole_programs.specs.control.Wider.{wider_module}
 use Rattle.body_splices.specs.Laws.{OwnBytesStay}
 use Rattle.module_rewrites.specs.DoesAsBefore.{AreFunctions, IsModuleAfter, DoesAsBefore}
 use Rattle.module_rewrites.specs.Function.{KnowsIndices, parameters_of}
-use Rattle.module_rewrites.specs.Structure.{HasStructure, HasLabels, AreLabelled, asking_bytes}
+use Rattle.module_rewrites.specs.Structure.{HasAsking, HasLabels, AreLabelled, texts_of}
 use Rattle.module_rewrites.proofs.DoesAsBeforeLemmas.{OfPrograms, do_as_before}
-use Rattle.module_rewrites.proofs.ReadAgainLemmas.{get_as_long, function_moved, structure_moved}
+use Rattle.module_rewrites.proofs.ReadAgainLemmas.{get_as_long, function_moved, asking_moved}
 
 module _ (law : OfPrograms) (stay : OwnBytesStay) {bytes : List ℕ} {info : Module} {layout : Layout} {new : List ℕ}
     (s : IsSameModule bytes info layout new) where
@@ -56,14 +56,14 @@ module _ (law : OfPrograms) (stay : OwnBytesStay) {bytes : List ℕ} {info : Mod
       let same : there.entry ≡ entry = same_Some _ _ (sym there.at ∙ here) in
       record { entry = old; at = at; text_is = sym (there.text_is ∙ ap (λ (e : Entry). slice_range new e.contents e.end) same) }
 
-  had_before : (k : ℕ) (texts : List (Operator × List ℕ)) → HasStructure new other s.again k texts → HasStructure bytes info layout k texts
+  had_before : (k : ℕ) (texts : List (Operator × List ℕ)) → HasAsking new other s.again k texts → HasAsking bytes info layout k texts
   had_before k texts h =
-      structure_moved stay new other s.again bytes info layout k texts (indices_back h.is.is.indices) (sym (same_parameters k)) h
+      asking_moved stay new other s.again bytes info layout k texts (indices_back h.is.is.indices) (sym (same_parameters k)) h
       (contents_back k h.is.entry h.is.is.at)
 
   labels_there : (beyonds : Beyonds) → AreLabelled bytes info layout beyonds → AreLabelled new other s.again beyonds
   labels_there beyonds labelled k texts h =
-      subst (λ (i : ℕ). HasLabels (asking_bytes texts) (beyonds (i + k))) (sym s.imported) (labelled k texts (had_before k texts h))
+      subst (λ (i : ℕ). HasLabels (texts_of texts) (beyonds (i + k))) (sym s.imported) (labelled k texts (had_before k texts h))
 
   made_there : ((making : Making) → IsMadeOf bytes layout.sections making → IsMadeOf new s.again.sections making) →
       (making : Making) → IsMadeOf bytes layout.sections making → IsMadeOf new s.again.sections (with_more_globals [] making)
@@ -82,7 +82,7 @@ module _ (law : OfPrograms) (stay : OwnBytesStay) {bytes : List ℕ} {info : Mod
     after = do_as_before law info new [] functions functions (law.themselves info new [] functions);
     imported = s.imported;
     indices = indices_back;
-    structure = had_before;
+    asking = had_before;
     labels = labels_there;
     unread = λ n entry at cannot. s.entries n entry at;
     made = made_there alike;

@@ -1,11 +1,11 @@
--- The bytes of structural operators of a body by hand, and the labels among them.
+-- The bytes of operators of a body by hand that ask more than they carry, and the labels among them.
 use Rattle.std.proofs.Common.{◌≡◌, List, [], ◌∷◌, ℕ, arith, refl}
 use Rattle.wasm_code.specs.declared.immediate.Imm.TheVariants.{Index}
 use Rattle.wasm_code.specs.declared.operator.Operator.{Operator}
 use Rattle.wasm_code.specs.declared.operator.Operator.TheVariants.{Instr, BrTable, End}
 use Rattle.wasm_code.specs.Number.{SpellsUnsigned}
-use Rattle.body_splices.specs.OwnBytes.{own_bytes, structural_bytes}
-use Rattle.module_rewrites.specs.Structure.{SpellsTable, asking_bytes}
+use Rattle.body_splices.specs.OwnBytes.{own_bytes}
+use Rattle.module_rewrites.specs.Structure.{SpellsTable, asking_operators}
 
 -- local.get 0; br_table 1 0; end, where the last operand is the default label
 abbrev body : List ℕ
@@ -14,12 +14,8 @@ body = 0x20 ∷ 0x00 ∷ 0x0e ∷ 0x01 ∷ 0x01 ∷ 0x00 ∷ 0x0b ∷ []
 abbrev operators : List (Operator × ℕ)
 operators = (Instr (record { row = 4; imm = Index 0 }), 0) ∷ (BrTable 1, 2) ∷ (End, 6) ∷ []
 
--- the instruction's bytes aren't listed
-structure_is : structural_bytes (own_bytes body operators) ≡ (BrTable 1, 0x0e ∷ 0x01 ∷ 0x01 ∷ 0x00 ∷ []) ∷ (End, 0x0b ∷ []) ∷ []
-structure_is = refl
-
 -- the branch by a table alone asks
-asking_is : asking_bytes (structural_bytes (own_bytes body operators)) ≡ (0x0e ∷ 0x01 ∷ 0x01 ∷ 0x00 ∷ []) ∷ []
+asking_is : asking_operators (own_bytes body operators) ≡ (BrTable 1, 0x0e ∷ 0x01 ∷ 0x01 ∷ 0x00 ∷ []) ∷ []
 asking_is = refl
 
 one : SpellsUnsigned 32 (0x01 ∷ []) 1

@@ -19,7 +19,7 @@ use Rattle.peephole_programs.specs.control.Standard.{Beyond, by_asked}
 use Rattle.peephole_programs.specs.control.Wider.{wider_module, wider, IsMore}
 use Rattle.module_rewrites.specs.Function.{IsFunction, KnowsIndices, parameters_of}
 use Rattle.module_rewrites.specs.ReadAgain.{HasFunction}
-use Rattle.module_rewrites.specs.Structure.{HasStructure, AreLabelled}
+use Rattle.module_rewrites.specs.Structure.{HasAsking, AreLabelled}
 
 -- ---- a module's functions
 
@@ -77,8 +77,8 @@ abbrev pub CannotRead : (bytes : List ℕ) → Module → Layout → (n : ℕ) �
 CannotRead bytes info layout n =
     (locals : List PrimitiveTypeInfo) (expression : ℕ) (operators : List (Operator × ℕ)) → IsFunction bytes info layout n locals expression operators → ⊥
 
--- The new bytes are the module with globals more, whose functions do as those did. Structural operators have the bytes that they had, so that the labels of
--- branches by a table that stand in the old bytes stand in the new ones; entries that can't be read contain what they contained; and an instance of the new
+-- The new bytes are the module with globals more, whose functions do as those did. Operators that ask more than they carry have the bytes that they had, so that
+-- the labels of branches by a table that stand in the old bytes stand in the new ones; entries that can't be read contain what they contained; and an instance of the new
 -- module is made of what one of the old one is made of, with the further globals behind, which begin as zeros.
 pub record IsModuleAfter (bytes : List ℕ) (info : Module) (layout : Layout) (old : Functions) (new : List ℕ) : Type 0 where
   pub more : List PrimitiveTypeInfo
@@ -89,8 +89,8 @@ pub record IsModuleAfter (bytes : List ℕ) (info : Module) (layout : Layout) (o
   pub after : FunctionsDoAsBefore info new more old functions
   pub imported : again.imported_functions ≡ layout.imported_functions
   pub indices : KnowsIndices again → KnowsIndices layout
-  pub structure : (n : ℕ) (theirs : List (Operator × List ℕ)) → HasStructure new (wider_module new more info) again n theirs →
-      HasStructure bytes info layout n theirs
+  pub asking : (n : ℕ) (theirs : List (Operator × List ℕ)) → HasAsking new (wider_module new more info) again n theirs →
+      HasAsking bytes info layout n theirs
   pub labels : (beyonds : Beyonds) → AreLabelled bytes info layout beyonds → AreLabelled new (wider_module new more info) again beyonds
   pub unread : (n : ℕ) (entry : Entry) → slice_get layout.entries n ≡ Some entry → CannotRead bytes info layout n →
       HasContents new again.entries n (slice_range bytes entry.contents entry.end)

@@ -9,7 +9,7 @@ use Rattle.wasm_module.specs.Reread.{HasContents}
 use Rattle.peephole_programs.specs.control.Wider.{wider_module}
 use Rattle.body_splices.specs.OwnBytes.{without_offsets}
 use Rattle.module_rewrites.specs.Function.{IsFunction, KnowsIndices}
-use Rattle.module_rewrites.specs.Structure.{HasStructure}
+use Rattle.module_rewrites.specs.Structure.{HasAsking}
 
 -- The n-th code entry is a function with these types of parameters and locals, and these operators, wherever they stand.
 pub record HasFunction (bytes : List ℕ) (info : Module) (layout : Layout) (n : ℕ) (locals : List PrimitiveTypeInfo) (operators : List Operator) :
@@ -20,8 +20,8 @@ pub record HasFunction (bytes : List ℕ) (info : Module) (layout : Layout) (n :
   pub are : without_offsets located ≡ operators
 
 -- The new bytes are a module: its index spaces are the old one's with these globals behind. Its n-th code entry is a function with these locals and operators;
--- every other one is the function that it was, or none that can be read, as before. In each the structural operators have the
--- bytes that they had, and every other entry contains what it contained.
+-- every other one is the function that it was, or none that can be read, as before. In each the operators
+-- that ask more than they carry have the bytes that they had, and every other entry contains what it contained.
 pub record IsReadAgain (bytes : List ℕ) (info : Module) (layout : Layout) (n : ℕ) (locals : List PrimitiveTypeInfo) (operators : List Operator)
     (more : List PrimitiveTypeInfo) (new : List ℕ) : Type 0 where
   pub again : Layout
@@ -31,11 +31,11 @@ pub record IsReadAgain (bytes : List ℕ) (info : Module) (layout : Layout) (n :
   pub function : HasFunction new (wider_module new more info) again n locals operators
   pub others : (k : ℕ) (types : List PrimitiveTypeInfo) (body : List Operator) → k ≢ n →
       HasFunction bytes info layout k types body ↔ HasFunction new (wider_module new more info) again k types body
-  pub structure : List (Operator × List ℕ)
-  pub had : HasStructure bytes info layout n structure
-  pub has : HasStructure new (wider_module new more info) again n structure
+  pub asking : List (Operator × List ℕ)
+  pub had : HasAsking bytes info layout n asking
+  pub has : HasAsking new (wider_module new more info) again n asking
   pub others_have : (k : ℕ) (theirs : List (Operator × List ℕ)) → k ≢ n →
-      HasStructure bytes info layout k theirs ↔ HasStructure new (wider_module new more info) again k theirs
+      HasAsking bytes info layout k theirs ↔ HasAsking new (wider_module new more info) again k theirs
   pub indices : KnowsIndices again ↔ KnowsIndices layout
   pub contents : (k : ℕ) (old : Entry) → k ≢ n → slice_get layout.entries k ≡ Some old →
       HasContents new again.entries k (slice_range bytes old.contents old.end)

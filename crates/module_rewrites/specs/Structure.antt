@@ -1,9 +1,9 @@
--- The bytes of a function's structural operators, and the labels of branches by a table among them
--- (WebAssembly Core Specification 3.0, Binary Format, Instructions, Control Instructions; what is structural: this project).
-use Rattle.std.specs.Prelude.{◌≡◌, ℕ, ◌+◌, List, [], ◌∷◌, ◌++◌, length, Some, slice_get}
+-- The bytes of a function's operators that ask more than they carry, and the labels of branches by a table among them
+-- (WebAssembly Core Specification 3.0, Binary Format, Instructions, Control Instructions; what an operator carries: this project).
+use Rattle.std.specs.Prelude.{◌≡◌, ℕ, ◌+◌, List, [], ◌∷◌, ◌++◌, length, map, Some, slice_get}
 use Rattle.wasm_code.specs.Number.{SpellsUnsigned}
 use Rattle.wasm_code.specs.declared.operator.Operator.{Operator}
-use Rattle.body_splices.specs.OwnBytes.{own_bytes, structural_bytes, and_where}
+use Rattle.body_splices.specs.OwnBytes.{own_bytes, bytes_where}
 use Rattle.wasm_types.specs.Module.{Module}
 use Rattle.wasm_types.specs.declared.types.PrimitiveTypeInfo.{PrimitiveTypeInfo}
 use Rattle.wasm_module.specs.Module.{Layout}
@@ -11,18 +11,21 @@ use Rattle.peephole_programs.specs.hosts.Embedder.{Beyonds}
 use Rattle.peephole_programs.specs.control.Standard.{Beyond, asks_beyond}
 use Rattle.module_rewrites.specs.Function.{IsFunction}
 
--- The n-th code entry is a function with these structural operators, each with its bytes, in their order.
-pub record HasStructure (bytes : List ℕ) (info : Module) (layout : Layout) (n : ℕ) (structure : List (Operator × List ℕ)) : Type 0 where
+-- the operators that ask more than they carry, such as the labels of a branch by a table, in their order, each with its bytes
+abbrev pub asking_operators : List (Operator × List ℕ) → List (Operator × List ℕ)
+asking_operators ps = bytes_where asks_beyond ps
+
+-- The n-th code entry is a function with these operators that ask more than they carry, each with its bytes, in their order.
+pub record HasAsking (bytes : List ℕ) (info : Module) (layout : Layout) (n : ℕ) (asking : List (Operator × List ℕ)) : Type 0 where
   pub locals : List PrimitiveTypeInfo
   pub expression : ℕ
   pub located : List (Operator × ℕ)
   pub is : IsFunction bytes info layout n locals expression located
-  pub are : structural_bytes (own_bytes bytes located) ≡ structure
+  pub are : asking_operators (own_bytes bytes located) ≡ asking
 
--- the bytes of those operators that ask `Beyond` what they do, in their order
-abbrev pub asking_bytes : List (Operator × List ℕ) → List (List ℕ)
-asking_bytes [] = []
-asking_bytes (p ∷ ps) = and_where (asks_beyond p.0) p.1 (asking_bytes ps)
+-- their bytes
+abbrev pub texts_of : List (Operator × List ℕ) → List (List ℕ)
+texts_of ps = map (λ (p : Operator × List ℕ). p.1) ps
 
 -- ---- labels
 
@@ -56,5 +59,5 @@ HasLabels texts beyond =
 -- The labels of every branch by a table are those that stand in the module's bytes.
 abbrev pub AreLabelled : (bytes : List ℕ) → Module → Layout → Beyonds → Type 0
 AreLabelled bytes info layout beyonds =
-    (n : ℕ) (structure : List (Operator × List ℕ)) → HasStructure bytes info layout n structure →
-    HasLabels (asking_bytes structure) (beyonds (layout.imported_functions + n))
+    (n : ℕ) (asking : List (Operator × List ℕ)) → HasAsking bytes info layout n asking →
+    HasLabels (texts_of asking) (beyonds (layout.imported_functions + n))
