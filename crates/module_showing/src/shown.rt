@@ -150,10 +150,9 @@ fn lines_of(
     let Some(function) = function_of(alloc, old, &module.info, &module.layout, index)? else {
         return Ok(text);
     };
-    if !is_in_block(&function.operators, at) {
-        return Ok(text);
+    if is_in_block(&function.operators, at) {
+        add_block(&mut text, &function.operators, at)?;
     }
-    add_block(&mut text, &function.operators, at)?;
     let Some(rewritten) = module_of(alloc, new)? else {
         return Ok(text);
     };
@@ -213,8 +212,8 @@ fn write_text<W: Write>(output: &mut W, text: &str) -> Result<(), ShowError>
 /// row; the lines behind it are indented: the function's name, in quotes, where the module has one; the operator's block, by the
 /// indexes of its first operator and of what is behind its last one; and what was rewritten and what stands in its place, both from
 /// the first operator that isn't the same, or the first of its operands, drawn as trees, or one operator a line where there are more
-/// than 256, or `nothing` where there are none. Where `old` has no such function that can be read, or no such operator in a block,
-/// the lines that there would be of these are left out, and where `new` has no such function, what was rewritten.
+/// than 256, or `nothing` where there are none. Where `old` has no such function that can be read, the lines that there would be of it
+/// are left out, and so is the block's where the operator ends one, and where `new` has no such function, what was rewritten.
 ///
 /// It takes time linear in the modules. Nothing is written for want of memory (`Memory`).
 pub fn write_shown<W: Write>(

@@ -143,8 +143,34 @@ const TURNED_FACTORS: &str = "function 0 operator 6 rule commute
 /// What is shown of a function that isn't there.
 const ABSENT: &str = "function 1 operator 5 rule fold\n";
 
-/// What is shown of an operator without a block.
-const BLOCKLESS: &str = "function 0 operator 2 rule fold\n";
+/// A function that drops 5.
+const FIVE: &[u8] = b"\0asm\x01\0\0\0\x01\x04\x01\x60\0\0\x03\x02\x01\0\
+    \x0a\x07\x01\x05\0\x41\x05\x1a\x0b";
+
+/// The same with 5 in a block.
+const FIVE_IN_BLOCK: &[u8] = b"\0asm\x01\0\0\0\x01\x04\x01\x60\0\0\x03\x02\x01\0\
+    \x0a\x0a\x01\x08\0\x02\x7f\x41\x05\x0b\x1a\x0b";
+
+/// What is shown of these.
+const IN_BLOCK: &str = "function 0 operator 0 rule in_block
+  block 0..2
+  before
+    i32.const 5
+  after
+    block (result i32)
+    i32.const 5
+    end
+";
+
+/// What is shown of the other way round: the operator is the block's end.
+const DROP_BLOCK: &str = "function 0 operator 2 rule drop_block
+  before
+    block (result i32)
+    i32.const 5
+    end
+  after
+    i32.const 5
+";
 
 /// A rewrite by the first row of the rule with that name, of the operator.
 fn rewrite(name: &str, operator: usize) -> Rewrite {
@@ -231,9 +257,11 @@ fn shows_operands_of_operands(rt: HostRuntime) -> Result<(), Fail> {
 }
 
 #[test]
-fn shows_no_block_where_none_is(rt: HostRuntime) -> Result<(), Fail> {
-    let text = shown(rt.alloc(), PARTS, FOLDED, 0, rewrite("fold", 2))?;
-    assert!(rt; text.as_slice() == BLOCKLESS.as_bytes());
+fn shows_control_flow(rt: HostRuntime) -> Result<(), Fail> {
+    let text = shown(rt.alloc(), FIVE, FIVE_IN_BLOCK, 0, rewrite("in_block", 0))?;
+    assert!(rt; text.as_slice() == IN_BLOCK.as_bytes());
+    let back = shown(rt.alloc(), FIVE_IN_BLOCK, FIVE, 0, rewrite("drop_block", 2))?;
+    assert!(rt; back.as_slice() == DROP_BLOCK.as_bytes());
     Ok(())
 }
 

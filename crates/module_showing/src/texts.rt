@@ -3,7 +3,7 @@
 use crate::floats::Float;
 use instruction_names::instruction_name;
 use std::fmt;
-use wasm_code::{AbstractHeapType, HeapType, Imm, Instr, MemArg, Operator};
+use wasm_code::{AbstractHeapType, BlockType, HeapType, Imm, Instr, MemArg, Operator};
 
 /// The text of an operator: of an instruction as WebAssembly's text format has it, with the alignment of each memory argument, and
 /// numbers of floats in hexadecimal; of any other operator its form here.
@@ -118,10 +118,33 @@ impl fmt::Display for InstrText {
     }
 }
 
+// The type of a block.
+#[derive(Clone, Copy)]
+struct BlockText(BlockType);
+
+impl fmt::Display for BlockText {
+    fn fmt<W: fmt::Write>(&self, f: &mut fmt::Formatter<W>) -> fmt::Result {
+        match self.0 {
+            BlockType::Empty => Ok(()),
+            BlockType::Value(t) => write!(f, " (result {})", t.name()),
+            BlockType::FuncType(index) => write!(f, " (type {index})"),
+            BlockType::Reference => f.write_str(" (result ref)"),
+        }
+    }
+}
+
 impl fmt::Display for Text {
     fn fmt<W: fmt::Write>(&self, f: &mut fmt::Formatter<W>) -> fmt::Result {
         match self.0 {
             Operator::Instr(instr) => write!(f, "{}", InstrText(instr)),
+            Operator::Block(t) => write!(f, "block{}", BlockText(t)),
+            Operator::Loop(t) => write!(f, "loop{}", BlockText(t)),
+            Operator::If(t) => write!(f, "if{}", BlockText(t)),
+            Operator::Else => f.write_str("else"),
+            Operator::End => f.write_str("end"),
+            Operator::Br(label) => write!(f, "br {label}"),
+            Operator::BrIf(label) => write!(f, "br_if {label}"),
+            Operator::Unreachable => f.write_str("unreachable"),
             other => write!(f, "{other:?}"),
         }
     }
