@@ -36,11 +36,12 @@ use Rattle.body_rewrites.specs.Rewrites.{MakesBy, Makes, IsLineChange}
 use Rattle.body_rewrites.specs.declared.asked.Asked.{Asked}
 use Rattle.body_rewrites.specs.declared.here.Here.{Here}
 use Rattle.body_rewrites.specs.Asking.{IsAskedSo, IsHere}
-use Rattle.body_rewrites.specs.Roots.{class_of, IsClassAt, part_root, first_root, side_root, access_root, own_root, root_by, root_of, HasRoot, fits}
+use Rattle.body_rewrites.specs.Roots.{class_of, class_in, class_told, IsClassAt, one_row, part_root, first_root, side_root, access_root, own_root, root_by, root_of, HasRoot, fits}
 use Rattle.body_rewrites.specs.Trees.{IsTree}
 use Rattle.body_rewrites.proofs.AccessLemmas.{access_start}
 use Rattle.body_rewrites.proofs.OwnAccessLemmas.{they_stand_from}
 use Rattle.body_rewrites.proofs.StandsLemmas.{Operators}
+use Rattle.body_rewrites.proofs.WrapLemmas.{ends_with_end}
 use Rattle.body_rewrites.proofs.OperationCodeLemmas.{operation_class}
 use Rattle.body_rewrites.proofs.OwnAloneLemmas.{folded_at}
 
@@ -64,22 +65,27 @@ module _ (context : Context) (operators : Operators) (at : ℕ) where
       let same : k ≡ at = omega arith in
       subst (λ n. HasInstruction operators n i) same has
 
+  -- an instruction of such a class stands there
+  InClasses : (class : ℕ) → Root → Type 0
+  InClasses class (Classes first last) = (first ≤ class) × (class ≤ last)
+  InClasses class r = ⊥
+
+  has_class : (r : Root) (i : Instruction) → HasInstruction operators at i → InClasses (class_of i.row) r → HasRoot context operators at r
+  has_class (Classes first last) i has (from, to) =
+      let same : class_told operators at ≡ class_of i.row = ap class_in has in
+      (subst (λ n. first ≤ n) (sym same) from, subst (λ n. n ≤ last) (sym same) to)
+  has_class Tree i has h = absurd h
+  has_class Anything i has h = absurd h
+
   part_at : (p : Part) (k : ℕ) → HasPart context operators p k (at + 1) → HasRoot context operators at (part_root p)
   part_at (Hole n) k (last, t, ends, tree) = tree_ends k last t ends tree
-  part_at (Constant integer.I32 e) k (n, i, ends, has, (small, is)) = (
-    constant_code integer.I32 n,
-    subst (HasInstruction operators at) is (stands_here k i ends has),
-    omega arith,
-    omega arith,
-  )
-  part_at (Constant integer.I64 e) k (n, i, ends, has, (small, is)) = (
-    constant_code integer.I64 n,
-    subst (HasInstruction operators at) is (stands_here k i ends has),
-    omega arith,
-    omega arith,
-  )
+  part_at (Constant integer.I32 e) k (n, i, ends, has, (small, is)) =
+      has_class (Classes 36 36) (constant_code integer.I32 n) (subst (HasInstruction operators at) is (stands_here k i ends has)) (omega arith, omega arith)
+  part_at (Constant integer.I64 e) k (n, i, ends, has, (small, is)) =
+      has_class (Classes 37 37) (constant_code integer.I64 n) (subst (HasInstruction operators at) is (stands_here k i ends has)) (omega arith, omega arith)
   part_at (Drawn t) k h = absurd h
-  part_at (Apply o) k (ends, has) = (operator_code o, stands_here k (operator_code o) ends has, omega arith, omega arith)
+  part_at (Apply o) k (ends, has) =
+      has_class (one_row (row_number o)) (operator_code o) (stands_here k (operator_code o) ends has) (omega arith, omega arith)
 
   first_at : (ps : List Part) (ks : List ℕ) → AreCut context operators ps ks (at + 1) → HasRoot context operators at (first_root ps)
   first_at [] ks c = tt
@@ -97,49 +103,52 @@ module _ (context : Context) (operators : Operators) (at : ℕ) where
       HasRoot context operators at (side_root kind (record { row = row; conversion = c }))
   side_ends Load row Nothing start m e h =
       let ends : at + 1 ≡ suc start = omega (arith, e) in
-      (code_with row m, stands_here start (code_with row m) ends h.0, omega arith, omega arith)
+      has_class (one_row row) (code_with row m) (stands_here start (code_with row m) ends h.0) (omega arith, omega arith)
   side_ends Constant row Nothing start m e h =
       let ends : at + 1 ≡ suc start = omega (arith, e) in
-      (code_with row m, stands_here start (code_with row m) ends h.0, omega arith, omega arith)
+      has_class (one_row row) (code_with row m) (stands_here start (code_with row m) ends h.0) (omega arith, omega arith)
   side_ends Load row (By o) start m e h =
       let ends : at + 1 ≡ suc (start + 1) = omega (arith, e) in
-      (operator_code o, stands_here (start + 1) (operator_code o) ends h.1.0, omega arith, omega arith)
+      has_class (one_row (row_number o)) (operator_code o) (stands_here (start + 1) (operator_code o) ends h.1.0) (omega arith, omega arith)
   side_ends Constant row (By o) start m e h =
       let ends : at + 1 ≡ suc (start + 1) = omega (arith, e) in
-      (operator_code o, stands_here (start + 1) (operator_code o) ends h.1.0, omega arith, omega arith)
+      has_class (one_row (row_number o)) (operator_code o) (stands_here (start + 1) (operator_code o) ends h.1.0) (omega arith, omega arith)
   side_ends Load row (With t n o) start m e h =
       let ends : at + 1 ≡ suc (start + 1 + 1) = omega (arith, e) in
-      (operator_code o, stands_here (start + 1 + 1) (operator_code o) ends h.1.1.0, omega arith, omega arith)
+      has_class (one_row (row_number o)) (operator_code o) (stands_here (start + 1 + 1) (operator_code o) ends h.1.1.0) (omega arith, omega arith)
   side_ends Constant row (With t n o) start m e h =
       let ends : at + 1 ≡ suc (start + 1 + 1) = omega (arith, e) in
-      (operator_code o, stands_here (start + 1 + 1) (operator_code o) ends h.1.1.0, omega arith, omega arith)
+      has_class (one_row (row_number o)) (operator_code o) (stands_here (start + 1 + 1) (operator_code o) ends h.1.1.0) (omega arith, omega arith)
   side_ends Store row Nothing start m e h =
       let ends : at + 1 ≡ suc start = omega (arith, e) in
-      (code_with row m, stands_here start (code_with row m) ends h.0, omega arith, omega arith)
+      has_class (one_row row) (code_with row m) (stands_here start (code_with row m) ends h.0) (omega arith, omega arith)
   side_ends Store row (By o) start m e h =
       let ends : at + 1 ≡ suc (start + 1) = omega (arith, e) in
-      (code_with row m, stands_here (start + 1) (code_with row m) ends h.1.0, omega arith, omega arith)
+      has_class (one_row row) (code_with row m) (stands_here (start + 1) (code_with row m) ends h.1.0) (omega arith, omega arith)
   side_ends Store row (With t n o) start m e h =
       let ends : at + 1 ≡ suc (start + 1 + 1) = omega (arith, e) in
-      (code_with row m, stands_here (start + 1 + 1) (code_with row m) ends h.1.1.0, omega arith, omega arith)
+      has_class (one_row row) (code_with row m) (stands_here (start + 1 + 1) (code_with row m) ends h.1.1.0) (omega arith, omega arith)
 
   own_at : (own : own_rules.Own) (start : ℕ) (m : Made) → Rewrites context operators own start at m → HasRoot context operators at (own_root own)
-  own_at Unfold start (made.Sum integer.I32 n) (e, h) = (constant_code integer.I32 n, h.has, omega arith, omega arith)
-  own_at Unfold start (made.Sum integer.I64 n) (e, h) = (constant_code integer.I64 n, h.has, omega arith, omega arith)
+  own_at Unfold start (made.Sum integer.I32 n) (e, h) = has_class (Classes 36 37) (constant_code integer.I32 n) h.has (omega arith, omega arith)
+  own_at Unfold start (made.Sum integer.I64 n) (e, h) = has_class (Classes 36 37) (constant_code integer.I64 n) h.has (omega arith, omega arith)
   own_at ThroughGlobal start (made.Global t g) (tree, number, first, few) = (start, t, tree)
   own_at WithNop start made.Nop (t, tree) = (start, t, tree)
   own_at Fold start (made.Constant t n) f =
-      (operator_code (Whole f.operation), folded_at operators start at t n f, operation_class f.operation, class_small (row_number (Whole f.operation)))
-  own_at Forget start made.Nothing h = (drop_code, h.dropped, omega arith, omega arith)
-  own_at TeeToSet start (made.SetAndGet n) (e, h) = (tee_local n, h, omega arith, omega arith)
-  own_at DropNop start made.Nothing (e, h) = (nop_code, h, omega arith, omega arith)
-  own_at SetToTee start (made.Tee n) (e, h, g) = (get_local n, g, omega arith, omega arith)
+      has_class (Classes 40 446) (operator_code (Whole f.operation)) (folded_at operators start at t n f)
+      (operation_class f.operation, class_small (row_number (Whole f.operation)))
+  own_at Forget start made.Nothing h = has_class (Classes 2 2) drop_code h.dropped (omega arith, omega arith)
+  own_at TeeToSet start (made.SetAndGet n) (e, h) = has_class (Classes 6 6) (tee_local n) h (omega arith, omega arith)
+  own_at DropNop start made.Nothing (e, h) = has_class (Classes 0 0) nop_code h (omega arith, omega arith)
+  own_at SetToTee start (made.Tee n) (e, h, g) = has_class (Classes 4 4) (get_local n) g (omega arith, omega arith)
   own_at (Accesses n) start (made.Access a w) f =
       subst (λ o. HasRoot context operators at (access_root o)) (sym f.listed)
       (side_ends a.kind a.left.row a.left.conversion start f.immediate (access_start context operators n start at a w f)
       (they_stand_from operators (left_code a f.immediate) start (at + 1) f.ends f.stands))
   own_at (Wraps w) start (made.Wrapped v t) (e, u, n, tree) = (start, u, tree)
-  own_at (Unwraps w) start (made.Inner from end) h = tt
+  own_at (Unwraps w) start (made.Inner from end) h =
+      let none : class_told operators at ≡ 446 = ap class_in (ends_with_end operators w h.value end at h.ends h.behind) in
+      (omega (arith, none), omega (arith, none))
   own_at own start m h = absurd h
 
   -- ---- what makes something has its root there
@@ -160,8 +169,7 @@ module _ (context : Context) (operators : Operators) (at : ℕ) where
   module _ (class : ℕ) (is_class : IsClassAt operators at class) (is_tree : Bool)
       (told : IsTreeTold context operators at is_tree) where
     root_fits : (root : Root) → HasRoot context operators at root → fits class is_tree root ≡ true
-    root_fits (Classes first last) (i, has, from, to) =
-        let same = is_class i has in
+    root_fits (Classes first last) (from, to) =
         both_true (nat_le first class) (nat_le class last) (le-leb first class (omega arith)) (le-leb class last (omega arith))
     root_fits Tree (start, t, tree) = go is_tree told
       where

@@ -8,7 +8,7 @@ use Rattle.std.proofs.lemmas.List.Elements.{All-nil, All-cons}
 use Rattle.wasm_code.specs.Instruction.{Instruction}
 use Rattle.wasm_code.specs.declared.immediate.ValType.{ValType}
 use Rattle.wasm_code.specs.declared.operator.Operator.{Operator}
-use Rattle.wasm_code.specs.declared.operator.Operator.TheVariants.{Instr}
+use Rattle.wasm_code.specs.declared.operator.Operator.TheVariants.{Instr, End}
 use Rattle.body_splices.specs.declared.piece.Piece.{Piece}
 use Rattle.body_splices.specs.declared.piece.Piece.TheVariants.{Kept}
 use Rattle.body_splices.specs.OwnBytes.{none_of, without_offsets}
@@ -188,3 +188,23 @@ pub inner_count : (operators : Operators) (from end : ℕ) → from ≤ end → 
     length (pieces_operators (without_offsets operators) (Kept from end ∷ [])) ≡ end - from
 inner_count operators from end ordered inside =
     ap length (append-nil (slice_range (without_offsets operators) from end) ∙ range_alone operators from end) ∙ length_in operators from end inside
+
+-- ---- the last of them is an end
+
+-- the last item of each
+last_end : (operators : Operators) (end at : ℕ) (t : ValType) → at ≡ end → HasItem operators end item.End t →
+    slice_get (without_offsets operators) at ≡ Some End
+last_end operators end at t e h = ap (slice_get (without_offsets operators)) e ∙ (h.has ∙ ap (λ (o : Operator). Some o) h.is)
+
+pub ends_with_end : (operators : Operators) (w : Wrap) (t : ValType) (end at : ℕ) → end + length (back_of w) ≡ at + 1 →
+    HaveItems operators end (back_of w) t → slice_get (without_offsets operators) at ≡ Some End
+ends_with_end operators InBlock t end at e h = last_end operators end at t (omega (arith, e)) h.0
+ends_with_end operators InLoop t end at e h = last_end operators end at t (omega (arith, e)) h.0
+ends_with_end operators InIf t end at e h = last_end operators (end + 1 + 1) at t (omega (arith, e)) h.1.1.0
+ends_with_end operators InElse t end at e h = last_end operators end at t (omega (arith, e)) h.0
+ends_with_end operators LeaveBlock t end at e h = last_end operators (end + 1) at t (omega (arith, e)) h.1.0
+ends_with_end operators LeaveOver t end at e h = last_end operators (end + 1) at t (omega (arith, e)) h.1.0
+ends_with_end operators LeaveDead t end at e h = last_end operators (end + 1 + 1) at t (omega (arith, e)) h.1.1.0
+ends_with_end operators MayLeave t end at e h = last_end operators (end + 1 + 1) at t (omega (arith, e)) h.1.1.0
+ends_with_end operators SurelyLeave t end at e h = last_end operators (end + 1 + 1 + 1) at t (omega (arith, e)) h.1.1.1.0
+ends_with_end operators Once t end at e h = last_end operators (end + 1 + 1) at t (omega (arith, e)) h.1.1.0

@@ -16,7 +16,7 @@ use Rattle.body_rewrites.specs.declared.root.Root.{Root}
 use Rattle.body_rewrites.specs.Alone.{form_of}
 use Rattle.body_rewrites.specs.Cutting.{IsTreeTold}
 use Rattle.body_rewrites.specs.Rewrites.{asked_widths, IsAsked}
-use Rattle.body_rewrites.specs.Roots.{root_of, fits, IsClassAt, class_told}
+use Rattle.body_rewrites.specs.Roots.{root_of, fits, IsClassAt}
 
 -- ---- lines
 
@@ -82,7 +82,6 @@ ready_lines exact = filter (is_ready exact) all_asked
 pub record IsHere (context : Context) (operators : List (Operator × ℕ)) (here : Here) : Type 0 where
   pub inside : here.at < length operators
   pub class_is : IsClassAt operators here.at here.class
-  pub told : here.class ≡ class_told operators here.at
   pub tree_is : IsTreeTold context operators here.at here.is_tree
 
 -- ---- which of them are asked where an instruction of a class stands

@@ -38,10 +38,6 @@ use Rattle.body_rewrites.specs.Places.{left_parts}
 abbrev pub class_of : (row : ℕ) → ℕ
 class_of row = if nat_lt row 446 then row else 446
 
--- it is that of the instruction that stands at the operator, if one does
-abbrev pub IsClassAt : List (Operator × ℕ) → (at class : ℕ) → Type 0
-IsClassAt operators at class = (i : Instruction) → HasInstruction operators at i → class ≡ class_of i.row
-
 -- that of the operator there
 abbrev pub class_in : Option Operator → ℕ
 class_in (Some (Instr i)) = class_of i.row
@@ -49,6 +45,10 @@ class_in o = 446
 
 abbrev pub class_told : List (Operator × ℕ) → (at : ℕ) → ℕ
 class_told operators at = class_in (slice_get (map (λ (o : Operator × ℕ). o.0) operators) at)
+
+-- it is that of the operator there
+abbrev pub IsClassAt : List (Operator × ℕ) → (at class : ℕ) → Type 0
+IsClassAt operators at class = class ≡ class_told operators at
 
 -- ---- roots
 
@@ -112,7 +112,7 @@ own_root own.DropNop = root.Classes 0 0
 own_root own.SetToTee = root.Classes 4 4
 own_root (own.Access n) = access_root (access_at n)
 own_root (own.Wrap w) = root.Tree
-own_root (own.Unwrap w) = root.Any
+own_root (own.Unwrap w) = root.Classes 446 446
 
 abbrev pub root_by : Line → Widths → Root
 root_by line (Own o) = own_root o
@@ -126,8 +126,7 @@ root_of line = root_by line line.row.widths
 
 -- that stands at the operator
 abbrev pub HasRoot : Context → List (Operator × ℕ) → (at : ℕ) → Root → Type 0
-HasRoot context operators at (root.Classes first last) =
-    (i : Instruction) × HasInstruction operators at i × (first ≤ class_of i.row) × (class_of i.row ≤ last)
+HasRoot context operators at (root.Classes first last) = (first ≤ class_told operators at) × (class_told operators at ≤ last)
 HasRoot context operators at root.Tree = (start : ℕ) × (t : PrimitiveTypeInfo) × IsTree context operators start at t
 HasRoot context operators at root.Any = Unit {0}
 

@@ -2,7 +2,7 @@
 ghost use Rattle.std.specs.Prelude.{◌≡◌, ◌≤◌};
 ghost use Rattle.rewrite_rules.specs.declared.pattern.Operator.TheVariants as operator;
 ghost use Rattle.rewrite_rules.specs.Instance.{row_number};
-ghost use Rattle.body_rewrites.specs.Roots.{class_of, class_told, IsClassAt, one_row, constant_root, step_root, first_root, conversion_root, side_root, access_root, own_root, root_of, fits};
+ghost use Rattle.body_rewrites.specs.Roots.{class_of, IsClassAt, one_row, constant_root, step_root, first_root, conversion_root, side_root, access_root, own_root, root_of, fits};
 ghost use Rattle.body_rewrites.specs.Places.{left_parts};
 
 use crate::parts::count_of;
@@ -26,7 +26,6 @@ fn class_of(row: u16) -> usize
 /// The class of the instruction that stands at the operator; any where none does.
 pub(crate) fn class_at(operators: &[OperatorAndByteOffset], at: usize) -> usize
     ensures is { IsClassAt operators.now at result }
-    ensures told { result ≡ class_told operators.now at }
     ensures small { result ≤ 446 }
 {
     match instr_at(operators, at) {
@@ -125,7 +124,7 @@ fn own_root(own: Own) -> Root
         Own::SetToTee => Root::Classes(4, 4),
         Own::Access(number) => access_root(access_at(number)),
         Own::Wrap(_) => Root::Tree,
-        Own::Unwrap(_) => Root::Any,
+        Own::Unwrap(_) => Root::Classes(446, 446),
     }
 }
 
