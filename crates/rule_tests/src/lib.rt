@@ -22,3 +22,5 @@ mod rules;
 mod table;
 #[cfg(test)]
 mod texts;
+#[cfg(test)]
+mod wraps;

@@ -26,6 +26,9 @@ type Told = (u16, u64, u64);
 
 const KEPT: u16 = 1000;
 
+/// A structural operator.
+const STRUCTURAL: u16 = 1001;
+
 /// A rule, at an operator, by the word 2: the first operator that is replaced, the pieces, and how many globals are asked for.
 type Case = (Own, usize, usize, &'static [Told], usize);
 
@@ -62,6 +65,7 @@ fn told(piece: Piece) -> Told {
             };
             (instr.row(), number, rest)
         }
+        Piece::Structural(_) => (STRUCTURAL, 0, 0),
     }
 }
 

@@ -1,0 +1,165 @@
+//! Values in control flow of their own, and the same taken away again, on bodies written by hand.
+
+use body_rewrites::{Body, Rewrite, rewrite_body, trees_of};
+use peephole_machine::IntegerType;
+use rewrite_rules::{Rule, row_count};
+use std::alloc::Global;
+use std::test::Fail;
+use wasm_code::{Function, read_body};
+use wasm_types::{ModuleInfo, PrimitiveTypeInfo};
+
+/// `i32.const 5`, `drop`, `end`.
+const FIVE: &[u8] = b"\x41\x05\x1a\x0b";
+
+/// A rule and the one that takes back what it makes, what the first one makes of `FIVE` by the word 2, and the index of the operator with
+/// which that ends.
+type Case = (&'static str, &'static str, &'static [u8], usize);
+
+const CASES: [Case; 10] = [
+    ("in_block", "drop_block", b"\x02\x7f\x41\x05\x0b\x1a\x0b", 2),
+    ("in_loop", "drop_loop", b"\x03\x7f\x41\x05\x0b\x1a\x0b", 2),
+    (
+        "in_if",
+        "drop_if",
+        b"\x41\x03\x04\x7f\x41\x05\x05\0\x0b\x1a\x0b",
+        5,
+    ),
+    (
+        "in_else",
+        "drop_else",
+        b"\x41\0\x04\x7f\0\x05\x41\x05\x0b\x1a\x0b",
+        5,
+    ),
+    (
+        "leave_block",
+        "drop_leave",
+        b"\x02\x7f\x41\x05\x0c\0\x0b\x1a\x0b",
+        3,
+    ),
+    (
+        "leave_over",
+        "drop_leave_over",
+        b"\x02\x7f\x41\x02\x41\x05\x0c\0\x0b\x1a\x0b",
+        4,
+    ),
+    (
+        "leave_dead",
+        "drop_leave_dead",
+        b"\x02\x7f\x41\x05\x0c\0\0\x0b\x1a\x0b",
+        4,
+    ),
+    (
+        "may_leave",
+        "drop_may_leave",
+        b"\x02\x7f\x41\x05\x41\x02\x0d\0\x0b\x1a\x0b",
+        4,
+    ),
+    (
+        "surely_leave",
+        "drop_surely_leave",
+        b"\x02\x7f\x41\x02\x41\x05\x41\x03\x0d\0\0\x0b\x1a\x0b",
+        6,
+    ),
+    (
+        "once",
+        "drop_once",
+        b"\x03\x7f\x41\x05\x41\0\x0d\0\x0b\x1a\x0b",
+        4,
+    ),
+];
+
+/// A rule, an operator, a body with locals of i32, i64, f32, f64 and v128, and what it makes of it by the word 2, or none.
+type Other = (
+    &'static str,
+    usize,
+    &'static [u8],
+    Option<&'static [u8]>,
+);
+
+const OTHERS: [Other; 12] = [
+    // A value of each other type; a tree of several operators; and one in a block that stands there.
+    ("in_block", 0, b"\x20\x01\x1a\x0b", Some(b"\x02\x7e\x20\x01\x0b\x1a\x0b")),
+    ("in_block", 0, b"\x20\x02\x1a\x0b", Some(b"\x02\x7d\x20\x02\x0b\x1a\x0b")),
+    ("in_loop", 0, b"\x20\x03\x1a\x0b", Some(b"\x03\x7c\x20\x03\x0b\x1a\x0b")),
+    ("in_loop", 0, b"\x20\x04\x1a\x0b", Some(b"\x03\x7b\x20\x04\x0b\x1a\x0b")),
+    ("in_block", 2, b"\x20\0\x20\0\x6a\x1a\x0b", Some(b"\x02\x7f\x20\0\x20\0\x6a\x0b\x1a\x0b")),
+    ("in_block", 1, b"\x02\x7f\x41\x05\x0b\x1a\x0b", Some(b"\x02\x7f\x02\x7f\x41\x05\x0b\x0b\x1a\x0b")),
+    // A reference, no value, the body's own end; another type; more than a value inside; a jump back that may be taken.
+    ("in_block", 0, b"\xd0\x70\x1a\x0b", None),
+    ("in_block", 1, FIVE, None),
+    ("drop_block", 2, b"\x02\x7f\x41\x05\x0b", None),
+    ("drop_block", 2, b"\x02\x7e\x41\x05\x0b\x1a\x0b", None),
+    ("drop_block", 3, b"\x02\x7f\x01\x41\x05\x0b\x1a\x0b", None),
+    ("drop_once", 4, b"\x03\x7f\x41\x05\x41\x01\x0d\0\x0b\x1a\x0b", None),
+];
+
+/// The first row of the rule with that name.
+fn row_of(name: &str) -> Option<usize> {
+    for number in 0..row_count() {
+        if let Some(rule) = Rule::of_row(number) {
+            if rule.name() == name {
+                return Some(number);
+            }
+        }
+    }
+    None
+}
+
+/// What the rule makes of the body at the operator, by the word 2; nothing where it makes none.
+fn rewritten(
+    alloc: Global,
+    name: &str,
+    operator: usize,
+    bytes: &[u8],
+) -> Result<Option<Function>, Fail> {
+    let row = row_of(name).ok_or("no such rule")?;
+    let info = ModuleInfo::new(alloc, &[]);
+    let locals = [
+        PrimitiveTypeInfo::I32,
+        PrimitiveTypeInfo::I64,
+        PrimitiveTypeInfo::F32,
+        PrimitiveTypeInfo::F64,
+        PrimitiveTypeInfo::V128,
+    ];
+    let operators = read_body(alloc, bytes, 0, bytes.len())?;
+    let trees = trees_of(alloc, &locals, &info, &operators)?;
+    let body = Body {
+        info: &info,
+        locals: &locals,
+        operators: &operators,
+        trees: &trees,
+    };
+    let rewrite = Rewrite {
+        operator,
+        row,
+        width: IntegerType::I32,
+    };
+    let mut sink = Function::new(alloc);
+    let asks = rewrite_body(alloc, &body, bytes, rewrite, 2, &mut sink)?;
+    Ok(asks.map(|_| sink))
+}
+
+#[test]
+fn wraps_a_value_and_takes_it_back(rt: HostRuntime) -> Result<(), Fail> {
+    let alloc = rt.alloc();
+    for (name, back, wanted, end) in CASES {
+        let wrapped = rewritten(alloc, name, 0, FIVE)?.ok_or("it isn't wrapped")?;
+        assert!(rt; wrapped.bytes() == wanted, "{name}");
+        let again = rewritten(alloc, back, end, wanted)?.ok_or("it isn't taken back")?;
+        assert!(rt; again.bytes() == FIVE, "{back}");
+    }
+    Ok(())
+}
+
+#[test]
+fn wraps_values_alone(rt: HostRuntime) -> Result<(), Fail> {
+    let alloc = rt.alloc();
+    for (name, operator, bytes, wanted) in OTHERS {
+        let made = rewritten(alloc, name, operator, bytes)?;
+        assert!(rt; made.is_some() == wanted.is_some(), "{name} {operator}");
+        if let Some(sink) = made {
+            assert!(rt; sink.bytes() == wanted.unwrap_or(b""), "{name} {operator}");
+        }
+    }
+    Ok(())
+}
