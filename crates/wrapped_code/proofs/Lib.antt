@@ -16,6 +16,9 @@ mod PureLemmas
 mod ValueLemmas
 mod OverLemmas
 mod WayLemmas
+mod UnwrapLemmas
+mod UncheckLemmas
+mod UnwrapDoesLemmas
 mod BlockLemmas
 mod PlaceOfLemmas
 mod Examples

@@ -1,7 +1,7 @@
 //! What holds where instructions are replaced by code with control flow of its own. A function here does nothing: its contract is the law.
 
 ghost use Rattle.wrapped_code.specs.Handlers.{ReadCodeHasNoHandlers};
-ghost use Rattle.wrapped_code.specs.Laws.{ValuesInBlocks, WrappedCodeDoes, WrappedModulesDoMore, WrappedModulesStayValid};
+ghost use Rattle.wrapped_code.specs.Laws.{UnwrappedCodeDoes, ValuesInBlocks, WrappedCodeDoes, WrappedModulesDoMore, WrappedModulesStayValid};
 ghost use Rattle.wrapped_code.specs.Tables.{TablesLoseNothing};
 ghost use Rattle.wrapped_code.specs.Ways.{PureCode, PushedCodeChecksAs, PushingCodeIsThere, WrappedCodePushes, WrappedCodeRuns};
 
@@ -25,6 +25,16 @@ pub fn wrapped_code_does_as_before()
     valid_modules_do_more();
     validity_goes_by_types();
     valid_bodies_stay_valid();
+}
+
+/// The other way round: a function in which wrapped code was replaced by instructions does as it did.
+pub fn unwrapped_code_does_as_before()
+    ensures { UnwrappedCodeDoes }
+{
+    standard_control_is_sound();
+    validity_goes_by_types();
+    valid_bodies_stay_valid();
+    valid_code_runs();
 }
 
 /// What wrapped code pushes (`push`), that it is checked as instructions that push the same (`alike`), and that it has an operator
