@@ -15,6 +15,7 @@ mod PushLemmas
 mod PureLemmas
 mod ValueLemmas
 mod OverLemmas
+mod AloneLemmas
 mod WayLemmas
 mod UnwrapLemmas
 mod UncheckLemmas
@@ -22,4 +23,5 @@ mod UnwrapDoesLemmas
 mod BlockLemmas
 mod PlaceOfLemmas
 mod Examples
+mod UnwrapExamples
 mod HandlerExamples

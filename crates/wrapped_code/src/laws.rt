@@ -3,7 +3,7 @@
 ghost use Rattle.wrapped_code.specs.Handlers.{ReadCodeHasNoHandlers};
 ghost use Rattle.wrapped_code.specs.Laws.{UnwrappedCodeDoes, ValuesInBlocks, WrappedCodeDoes, WrappedModulesDoMore, WrappedModulesStayValid};
 ghost use Rattle.wrapped_code.specs.Tables.{TablesLoseNothing};
-ghost use Rattle.wrapped_code.specs.Ways.{PureCode, PushedCodeChecksAs, PushingCodeIsThere, WrappedCodePushes, WrappedCodeRuns};
+ghost use Rattle.wrapped_code.specs.Ways.{CodeIsAlone, PureCode, PushedCodeChecksAs, PushingCodeIsThere, WrappedCodePushes, WrappedCodeRuns};
 
 use peephole_programs::laws::{
     one_function_is_rewritten, standard_control_is_sound, valid_modules_do_more,
@@ -68,6 +68,13 @@ pub fn tables_lose_nothing()
 pub fn some_code_is_pure()
     ensures { PureCode }
 {}
+
+/// Code that pushes one value does the same above every stack, and leaves the values of what it doesn't write.
+pub fn typed_code_is_alone()
+    ensures { CodeIsAlone }
+{
+    valid_code_runs();
+}
 
 /// A body that was read has no block that catches exceptions.
 pub fn read_code_has_no_handlers()
