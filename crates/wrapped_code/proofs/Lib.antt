@@ -15,8 +15,13 @@ mod PushLemmas
 mod PureLemmas
 mod ValueLemmas
 mod OverLemmas
+mod AloneLemmas
 mod WayLemmas
+mod UnwrapLemmas
+mod UncheckLemmas
+mod UnwrapDoesLemmas
 mod BlockLemmas
 mod PlaceOfLemmas
 mod Examples
+mod UnwrapExamples
 mod HandlerExamples

@@ -1,9 +1,9 @@
 //! What holds where instructions are replaced by code with control flow of its own. A function here does nothing: its contract is the law.
 
 ghost use Rattle.wrapped_code.specs.Handlers.{ReadCodeHasNoHandlers};
-ghost use Rattle.wrapped_code.specs.Laws.{ValuesInBlocks, WrappedCodeDoes, WrappedModulesDoMore, WrappedModulesStayValid};
+ghost use Rattle.wrapped_code.specs.Laws.{UnwrappedCodeDoes, ValuesInBlocks, WrappedCodeDoes, WrappedModulesDoMore, WrappedModulesStayValid};
 ghost use Rattle.wrapped_code.specs.Tables.{TablesLoseNothing};
-ghost use Rattle.wrapped_code.specs.Ways.{PureCode, PushedCodeChecksAs, PushingCodeIsThere, WrappedCodePushes, WrappedCodeRuns};
+ghost use Rattle.wrapped_code.specs.Ways.{CodeIsAlone, PureCode, PushedCodeChecksAs, PushingCodeIsThere, WrappedCodePushes, WrappedCodeRuns};
 
 use peephole_programs::laws::{
     one_function_is_rewritten, standard_control_is_sound, valid_modules_do_more,
@@ -25,6 +25,16 @@ pub fn wrapped_code_does_as_before()
     valid_modules_do_more();
     validity_goes_by_types();
     valid_bodies_stay_valid();
+}
+
+/// The other way round: a function in which wrapped code was replaced by instructions does as it did.
+pub fn unwrapped_code_does_as_before()
+    ensures { UnwrappedCodeDoes }
+{
+    standard_control_is_sound();
+    validity_goes_by_types();
+    valid_bodies_stay_valid();
+    valid_code_runs();
 }
 
 /// What wrapped code pushes (`push`), that it is checked as instructions that push the same (`alike`), and that it has an operator
@@ -58,6 +68,13 @@ pub fn tables_lose_nothing()
 pub fn some_code_is_pure()
     ensures { PureCode }
 {}
+
+/// Code that pushes one value does the same above every stack, and leaves the values of what it doesn't write.
+pub fn typed_code_is_alone()
+    ensures { CodeIsAlone }
+{
+    valid_code_runs();
+}
 
 /// A body that was read has no block that catches exceptions.
 pub fn read_code_has_no_handlers()
