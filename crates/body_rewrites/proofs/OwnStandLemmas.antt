@@ -27,6 +27,7 @@ use Rattle.peephole_programs.specs.control.Laws.{ReplacedCodeIsInOnePiece}
 use Rattle.peephole_programs.specs.hosts.EmbedderLaws.{PiecesDo}
 use Rattle.peephole_programs.specs.validation.StaysValid.{ReplacedCodeStaysValid}
 use Rattle.wrapped_code.specs.Laws.{WrappedCodeDoes, UnwrappedCodeDoes}
+use Rattle.wrapped_code.specs.Ways.{PushingCodeIsThere}
 use Rattle.rewrite_rules.specs.Wrap.{WrapsAreRight}
 use Rattle.body_rewrites.specs.Changes.{Change, pieces_code, KeepsCode, MayStand}
 use Rattle.body_rewrites.specs.Own.{Rewrites, new, made_pieces, made_asks, change_of, IsOwnChange}
@@ -197,7 +198,7 @@ module _ (laws : BesidesKeepCode) (context : Context) (operators : Operators) (a
 
 -- ---- each rule
 
-module _ (laws : BesidesKeepCode) (wraps : WrapsAreRight) (wrapped : WrappedCodeDoes) (unwrapped : UnwrappedCodeDoes) (one_piece : ReplacedCodeIsInOnePiece)
+module _ (laws : BesidesKeepCode) (wraps : WrapsAreRight) (wrapped : WrappedCodeDoes) (unwrapped : UnwrappedCodeDoes) (pushing : PushingCodeIsThere) (one_piece : ReplacedCodeIsInOnePiece)
     (valid : ReplacedCodeStaysValid) (do_as : PiecesDo) (context : Context) (operators : Operators) (at : ℕ) where
   abbrev Stand : ℕ → Made → Type 0
   Stand start m = MayStand context operators at (change_of at (record { start = start; made = m }))
@@ -209,7 +210,7 @@ module _ (laws : BesidesKeepCode) (wraps : WrapsAreRight) (wrapped : WrappedCode
 
   may_stand : (own : Own) (start : ℕ) (m : Made) → Rewrites context operators own start at m → Stand start m
   may_stand (Wraps w) start (made.Wrapped v t) (e, u, value, tree) = wrap_stands wraps context operators at wrapped v t u value start tree
-  may_stand (Unwraps w) start (made.Inner from end) h = unwrap_stands wraps context operators at unwrapped w start from end h
+  may_stand (Unwraps w) start (made.Inner from end) h = unwrap_stands wraps context operators at unwrapped pushing w start from end h
   may_stand Unfold start m r = kept Unfold start m tt r
   may_stand ThroughGlobal start m r = kept ThroughGlobal start m tt r
   may_stand WithNop start m r = kept WithNop start m tt r

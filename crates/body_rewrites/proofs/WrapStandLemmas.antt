@@ -23,7 +23,7 @@ use Rattle.peephole_programs.specs.hosts.Embedder.{with_operators}
 use Rattle.peephole_programs.specs.modules.Program.{Body, context_for}
 use Rattle.peephole_programs.specs.validation.StaysValid.{Pushes}
 use Rattle.wrapped_code.specs.Wrapped.{Wrapped, written, WrappedRunsAs, WrappedChecksAs}
-use Rattle.wrapped_code.specs.Ways.{WrappedPushes}
+use Rattle.wrapped_code.specs.Ways.{WrappedPushes, PushingCodeIsThere}
 use Rattle.wrapped_code.specs.Handlers.{none_handle}
 use Rattle.wrapped_code.specs.Laws.{WrappedCodeDoes, UnwrappedCodeDoes}
 use Rattle.rewrite_rules.specs.declared.wrap.Wrap.{Wrap}
@@ -167,7 +167,7 @@ module _ (wraps : WrapsAreRight) (context : Context) (operators : Operators) (at
 
   -- ---- what is taken away
 
-  module _ (unwrapped : UnwrappedCodeDoes) (w : Wrap) (start from end : ℕ) (h : IsWrapped context operators w start at from end) where
+  module _ (unwrapped : UnwrappedCodeDoes) (pushing : PushingCodeIsThere) (w : Wrap) (start from end : ℕ) (h : IsWrapped context operators w start at from end) where
     abbrev taken : Change
     taken = change_of at (record { start = start; made = made.Inner from end })
 
@@ -237,6 +237,7 @@ module _ (wraps : WrapsAreRight) (context : Context) (operators : Operators) (at
           head = first.head;
           own = first.own;
           code = code;
+          there = pushing context code h.type [] unwrap_may.pushes_so;
           old_is = sym is ∙ (wrapped_is ∙ ap (λ (l : List Operator). around ++ l) (sym (unwrap_may.written_is rest)));
           new_is = left_is word ∙ ap (λ (is : List Instruction). around ++ (map instr_of is ++ rest)) first.is;
           pushed = h.type ∷ [];

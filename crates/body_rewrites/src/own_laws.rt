@@ -5,7 +5,9 @@ ghost use Rattle.body_rewrites.specs.Own.{OwnChangesMayStand};
 use peephole_programs::laws::{pieces_do_as_before, replaced_code_is_in_one_piece};
 use peephole_programs::validity::replaced_code_stays_valid;
 use rewrite_rules::laws::{besides_keep_code, wraps_are_right};
-use wrapped_code::laws::{unwrapped_code_does_as_before, wrapped_code_does_as_before};
+use wrapped_code::laws::{
+    unwrapped_code_does_as_before, wrapped_code_does_as_before, wrapped_code_pushes,
+};
 
 /// What a rule beside the table makes may stand in the place of what stood there, and at an operator it makes one thing at most.
 pub fn own_changes_may_stand()
@@ -15,6 +17,7 @@ pub fn own_changes_may_stand()
     wraps_are_right();
     wrapped_code_does_as_before();
     unwrapped_code_does_as_before();
+    wrapped_code_pushes();
     replaced_code_is_in_one_piece();
     replaced_code_stays_valid();
     pieces_do_as_before();
