@@ -108,3 +108,11 @@ uint64_t lanes(uint32_t x, uint64_t y)
     digest = taken(digest, (y & ~255ull) | (x & 255));
     return taken(digest, picked.all);
 }
+
+// What stands in control flow of its own is `x` four times, and `y` six times.
+uint64_t flow(uint32_t x, uint64_t y) {
+    uint64_t digest = 0;
+    for (int i = 0; i < 4; i++) digest = taken(digest, x);
+    for (int i = 0; i < 6; i++) digest = taken(digest, y);
+    return digest;
+}
