@@ -80,6 +80,7 @@ found_in lists part n l begins ends = sym (ap (slice_get (joined lists)) e ∙ (
   where
     e : n ≡ n - 0
     e = omega arith
+
     go : (b : Bool) → ltb (suc part) (length lists) ≡ b →
         slice_get (joined (drop part lists)) (n - get_or (starts 0 lists) part 0) ≡ slice_get (get_or lists part []) (n - get_or (starts 0 lists) part 0)
     go true h =
