@@ -16,7 +16,7 @@ none_past [] part n l = refl
 none_past (es ∷ lists) zero n l = absurd (omega arith)
 none_past (es ∷ lists) (suc part) n l = none_past lists part n (omega arith)
 
-pub elsewhere : (part n : ℕ) → 81 ≤ part → None ≡ slice_get (part_at part) n
+pub elsewhere : (part n : ℕ) → 82 ≤ part → None ≡ slice_get (part_at part) n
 unfolding parts
 elsewhere part n l = none_past parts part n l
 
@@ -80,6 +80,7 @@ found_in lists part n l begins ends = sym (ap (slice_get (joined lists)) e ∙ (
   where
     e : n ≡ n - 0
     e = omega arith
+
     go : (b : Bool) → ltb (suc part) (length lists) ≡ b →
         slice_get (joined (drop part lists)) (n - get_or (starts 0 lists) part 0) ≡ slice_get (get_or lists part []) (n - get_or (starts 0 lists) part 0)
     go true h =

@@ -28,4 +28,5 @@ pub mod InstructionLemmas
 pub mod GrowingLemmas
 pub mod ApplyingLemmas
 pub mod AccessFormedLemmas
+pub mod WrapLemmas
 pub mod beside

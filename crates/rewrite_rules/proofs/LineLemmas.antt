@@ -31,7 +31,7 @@ use Rattle.rewrite_rules.proofs.MeaningLemmas.{AreLeft, does, all_good, code_typ
 
 module _ (push : TypedCodePushes) (stay : RowTypesStay) (context : Context) where
   -- typed code in the module with further globals
-  after_wider : (input : List ℕ) (more : List PrimitiveTypeInfo) (code : List Instruction) (ts us : List PrimitiveTypeInfo) →
+  pub after_wider : (input : List ℕ) (more : List PrimitiveTypeInfo) (code : List Instruction) (ts us : List PrimitiveTypeInfo) →
       types_after context code ts ≡ Some us → types_after (wider input more context) code ts ≡ Some us
   after_wider input more [] ts us e = e
   after_wider input more (i ∷ code) ts us e =
@@ -45,7 +45,7 @@ module _ (push : TypedCodePushes) (stay : RowTypesStay) (context : Context) wher
       ap (option_and_then (types_after (wider input more context) code)) first ∙ after_wider input more code ms us l
 
   -- it pushes its types
-  pushes : (code : List Instruction) (ts us : List PrimitiveTypeInfo) → types_after context code ts ≡ Some us → Pushes context code ts us
+  pub pushes : (code : List Instruction) (ts us : List PrimitiveTypeInfo) → types_after context code ts ≡ Some us → Pushes context code ts us
   pushes [] ts us e = subst (Pushes context [] ts) (let same : ts ≡ us = cc in same) (push.nothing context ts)
   pushes (i ∷ code) ts us e =
       let (ms, k, l) = and_then_some (types_after context code) (types_behind context i ts) us e in

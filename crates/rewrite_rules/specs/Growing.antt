@@ -4,7 +4,7 @@ use Rattle.peephole_machine.specs.declared.integer.IntegerType.{IntegerType}
 use Rattle.rewrite_rules.specs.declared.growth.Growth as code
 use Rattle.rewrite_rules.specs.declared.growth.Growth.TheVariants.{Shrinks, Keeps, Grows}
 use Rattle.rewrite_rules.specs.declared.table.Own as beside
-use Rattle.rewrite_rules.specs.declared.table.Own.TheVariants.{Unfold, ThroughGlobal, WithNop, Fold, Forget, TeeToSet, DropNop, SetToTee, Access}
+use Rattle.rewrite_rules.specs.declared.table.Own.TheVariants.{Unfold, ThroughGlobal, WithNop, Fold, Forget, TeeToSet, DropNop, SetToTee, Access, Wrap, Unwrap}
 use Rattle.rewrite_rules.specs.declared.table.Row.{Row}
 use Rattle.rewrite_rules.specs.declared.table.Step.{Step}
 use Rattle.rewrite_rules.specs.declared.table.Step.TheVariants.{Operand, End}
@@ -43,6 +43,8 @@ own_growth TeeToSet = Grows
 own_growth DropNop = Shrinks
 own_growth SetToTee = Shrinks
 own_growth (Access n) = growth_told (access_at n)
+own_growth (Wrap w) = Grows
+own_growth (Unwrap w) = Shrinks
 
 -- It is what each of the row's lines that is well formed does; of a rule beside the table, what that does.
 pub record GrowsAs (row : Row) (growth : code.Growth) : Type 0 where

@@ -20,3 +20,4 @@ pub mod Growing
 pub mod Texts
 pub mod Access
 pub mod Beside
+pub mod Wrap

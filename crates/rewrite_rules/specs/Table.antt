@@ -32,6 +32,7 @@ use Rattle.rewrite_rules.specs.declared.table.TheConstants.{LANE_SPLATS, LANE_BI
 use Rattle.rewrite_rules.specs.declared.table.TheConstants.{EXTENSIONS, EXTENSION_MASKS, EXTENSION_MOVES, SIGN_TESTS, POWER_TESTS, ZERO_COUNTS, HALVES, UNDONE}
 use Rattle.rewrite_rules.specs.declared.table.TheConstants.{FLOAT_LANE_ORDERS, FLOAT_LANE_OPPOSITES, FLOAT_LANE_CHOICES, SATURATED_LANES, LANE_COUNTS, NARROWED_LANES}
 use Rattle.rewrite_rules.specs.declared.table.TheConstants.{LANE_CONVERSIONS, CONVERSIONS, REPLACED_BITS, MASKED_LANES, UNMASKED_LANES, SWIZZLES, WIDE_ACCESSES, FLOAT_LANE_BOUNDS}
+use Rattle.rewrite_rules.specs.declared.table.TheConstants.{CONTROL}
 use Rattle.rewrite_rules.specs.Pattern.{Kind, fixed, any, operands_of, Pattern, Patterns, hole, constant, drawn, apply, none, ◌▹◌}
 use Rattle.rewrite_rules.specs.Instance.{row_number, immediate_of}
 use Rattle.rewrite_rules.specs.Parts.{parts_of}
@@ -191,7 +192,8 @@ parts =
     ACCESS_BITS ∷ ACCESS_WIDTHS ∷ LOAD_SIGNS ∷ STORE_SIGNS ∷ ALIGNMENTS ∷ CONSTANTS ∷
     EXTENSIONS ∷ EXTENSION_MASKS ∷ EXTENSION_MOVES ∷ SIGN_TESTS ∷ POWER_TESTS ∷ ZERO_COUNTS ∷ HALVES ∷ UNDONE ∷
     FLOAT_LANE_ORDERS ∷ FLOAT_LANE_OPPOSITES ∷ FLOAT_LANE_CHOICES ∷ SATURATED_LANES ∷ LANE_COUNTS ∷ NARROWED_LANES ∷
-    LANE_CONVERSIONS ∷ CONVERSIONS ∷ REPLACED_BITS ∷ MASKED_LANES ∷ UNMASKED_LANES ∷ SWIZZLES ∷ WIDE_ACCESSES ∷ FLOAT_LANE_BOUNDS ∷ []
+    LANE_CONVERSIONS ∷ CONVERSIONS ∷ REPLACED_BITS ∷ MASKED_LANES ∷ UNMASKED_LANES ∷ SWIZZLES ∷ WIDE_ACCESSES ∷ FLOAT_LANE_BOUNDS ∷
+    CONTROL ∷ []
 
 abbrev pub part_at : ℕ → List Entry
 part_at n = get_or parts n []

@@ -98,6 +98,8 @@ impl Own {
                 Some(access) => access.growth(),
                 None => Growth::Grows,
             },
+            Own::Wrap(_) => Growth::Grows,
+            Own::Unwrap(_) => Growth::Shrinks,
         }
     }
 }

@@ -11,8 +11,10 @@ ghost use Rattle.rewrite_rules.specs.Table.{SidesAreParts, PartsAreInstructions}
 ghost use Rattle.rewrite_rules.specs.Operands.{TypesAreTold};
 ghost use Rattle.rewrite_rules.specs.Holes.{HolesAreTold};
 ghost use Rattle.rewrite_rules.specs.Beside.{BesidesKeepCode};
+ghost use Rattle.rewrite_rules.specs.Wrap.{WrapsAreRight};
 
 use peephole_programs::validity::{typed_rows_check, validity_goes_by_types};
+use wrapped_code::laws::{wrapped_code_pushes, wrapped_code_runs};
 
 /// What a line asks of the operands in its holes is computed once from its two sides.
 pub fn needs_are_enough()
@@ -76,6 +78,15 @@ pub fn besides_keep_code()
     typed_rows_check();
     validity_goes_by_types();
     lines_keep_code();
+}
+
+/// Every way to wrap a value in control flow makes code of it that does as it does, and is valid where that is.
+pub fn wraps_are_right()
+    ensures { WrapsAreRight }
+{
+    typed_rows_check();
+    wrapped_code_pushes();
+    wrapped_code_runs();
 }
 
 /// What each of the accesses that are listed writes is well formed: rows and immediates go together, and an alignment that is at most

@@ -18,6 +18,7 @@ mod rule;
 mod standing;
 mod table;
 mod texts;
+mod wrap;
 
 pub use access::{Access, AccessKind, AccessSide, Conversion, access_at};
 pub use applying::Found;
@@ -32,3 +33,4 @@ pub use rule::{Rule, UnknownRule};
 pub use standing::TableRow;
 pub use table::{Condition, Own, Row, Side, Step, Widths, width_by};
 pub use texts::Term;
+pub use wrap::{Wrap, WrapItem, value_of};

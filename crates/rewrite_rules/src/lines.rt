@@ -6,18 +6,18 @@ ghost use Rattle.rewrite_rules.specs.Lines.{shown, shown_at};
 ghost use Rattle.rewrite_rules.specs.Names.{begin_at};
 
 use crate::table::{
-    ABSORBED, ACCESS_BITS, ACCESS_WIDTHS, AGAIN, ALIGNMENTS, ALONE, BACK, CONSTANTS, CONVERSIONS,
-    COUNTED, EQUALS, EXTENDED_LANES, EXTENSION_MASKS, EXTENSION_MOVES, EXTENSIONS, FLOAT_BITS,
-    FLOAT_COPIES, FLOAT_LANE_BOUNDS, FLOAT_LANE_CHOICES, FLOAT_LANE_OPPOSITES, FLOAT_LANE_ORDERS,
-    FLOAT_ORDERS, FLOAT_SELVES, FLOAT_SIGNS, FLOAT_TESTS, FLOAT_TURNS, FLOATS, FORMS, FRONT,
-    GROUPS, HALVES, LANE_BITS, LANE_BOUNDS, LANE_CHOICES, LANE_COMPLEMENTS, LANE_CONVERSIONS,
-    LANE_COUNTS, LANE_FLOATS, LANE_MAGNITUDES, LANE_NEGATIVES, LANE_OPPOSITES, LANE_ORDERS,
-    LANE_REPEATS, LANE_SHIFTS, LANE_SPLATS, LANE_SUMS, LANE_TURNS, LANE_ZEROS, LOAD_SIGNS, LONGER,
-    MASKED_LANES, NARROWED_LANES, NEUTRAL, OPPOSITES, ORDERS, PARTS, POWER_TESTS, POWERS,
-    REPLACED_BITS, Row, SATURATED_LANES, SETTLED, SHORTER, SIGN_TESTS, SIGNED_LANES, SIGNS,
-    SPLAT_BITS, STORE_SIGNS, SWIZZLES, TESTS, TURNED, TWICE, TableLine, UNDONE, UNMASKED_LANES,
-    VECTOR_BITS, VECTOR_DECIDED, VECTOR_FORMS, WIDE_ACCESSES, WIDE_COMPLEMENTS, WIDE_OPPOSITES,
-    WIDE_ORDERS, ZERO_COUNTS,
+    ABSORBED, ACCESS_BITS, ACCESS_WIDTHS, AGAIN, ALIGNMENTS, ALONE, BACK, CONSTANTS, CONTROL,
+    CONVERSIONS, COUNTED, EQUALS, EXTENDED_LANES, EXTENSION_MASKS, EXTENSION_MOVES, EXTENSIONS,
+    FLOAT_BITS, FLOAT_COPIES, FLOAT_LANE_BOUNDS, FLOAT_LANE_CHOICES, FLOAT_LANE_OPPOSITES,
+    FLOAT_LANE_ORDERS, FLOAT_ORDERS, FLOAT_SELVES, FLOAT_SIGNS, FLOAT_TESTS, FLOAT_TURNS, FLOATS,
+    FORMS, FRONT, GROUPS, HALVES, LANE_BITS, LANE_BOUNDS, LANE_CHOICES, LANE_COMPLEMENTS,
+    LANE_CONVERSIONS, LANE_COUNTS, LANE_FLOATS, LANE_MAGNITUDES, LANE_NEGATIVES, LANE_OPPOSITES,
+    LANE_ORDERS, LANE_REPEATS, LANE_SHIFTS, LANE_SPLATS, LANE_SUMS, LANE_TURNS, LANE_ZEROS,
+    LOAD_SIGNS, LONGER, MASKED_LANES, NARROWED_LANES, NEUTRAL, OPPOSITES, ORDERS, PARTS,
+    POWER_TESTS, POWERS, REPLACED_BITS, Row, SATURATED_LANES, SETTLED, SHORTER, SIGN_TESTS,
+    SIGNED_LANES, SIGNS, SPLAT_BITS, STORE_SIGNS, SWIZZLES, TESTS, TURNED, TWICE, TableLine,
+    UNDONE, UNMASKED_LANES, VECTOR_BITS, VECTOR_DECIDED, VECTOR_FORMS, WIDE_ACCESSES,
+    WIDE_COMPLEMENTS, WIDE_OPPOSITES, WIDE_ORDERS, ZERO_COUNTS,
 };
 
 // The lines of each constant, each of which stands once in memory.
@@ -182,6 +182,8 @@ static SWIZZLES_LINES: [TableLine; SWIZZLES.len()] = SWIZZLES;
 static WIDE_ACCESSES_LINES: [TableLine; WIDE_ACCESSES.len()] = WIDE_ACCESSES;
 
 static FLOAT_LANE_BOUNDS_LINES: [TableLine; FLOAT_LANE_BOUNDS.len()] = FLOAT_LANE_BOUNDS;
+
+static CONTROL_LINES: [TableLine; CONTROL.len()] = CONTROL;
 
 // The line with that number among these.
 fn line_in(lines: &'static [TableLine], number: usize) -> Option<&'static TableLine>
@@ -677,6 +679,12 @@ fn in_float_lane_bounds(number: usize) -> Option<&'static TableLine>
     line_in(&FLOAT_LANE_BOUNDS_LINES, number)
 }
 
+fn in_control(number: usize) -> Option<&'static TableLine>
+    ensures { shown_at result ≡ slice_get CONTROL number }
+{
+    line_in(&CONTROL_LINES, number)
+}
+
 // The same, by the number of the constant.
 fn line_of(part: usize, number: usize) -> Option<&'static TableLine>
     ensures { shown_at result ≡ slice_get (part_at part) number }
@@ -763,17 +771,18 @@ fn line_of(part: usize, number: usize) -> Option<&'static TableLine>
         78 => in_swizzles(number),
         79 => in_wide_accesses(number),
         80 => in_float_lane_bounds(number),
+        81 => in_control(number),
         _ => None,
     }
 }
 
 // Where the lines of each constant begin in the table.
-const STARTS: [usize; 81] = [
+const STARTS: [usize; 82] = [
     0, 15, 25, 35, 46, 62, 70, 77, 83, 95, 105, 120, 126, 137, 148, 165, 181, 196, 212, 216, 230,
     249, 269, 289, 307, 319, 339, 351, 375, 387, 406, 424, 445, 469, 489, 505, 525, 541, 561, 577,
     597, 613, 625, 649, 673, 697, 721, 741, 765, 789, 809, 833, 857, 871, 887, 913, 933, 953, 1001,
     1007, 1032, 1052, 1060, 1070, 1074, 1080, 1084, 1094, 1106, 1114, 1122, 1140, 1164, 1172, 1188,
-    1208, 1232, 1256, 1280, 1282, 1290,
+    1208, 1232, 1256, 1280, 1282, 1290, 1298,
 ];
 
 // The number of the constant among whose lines one with that number stands; behind them all, the last one.
@@ -824,7 +833,7 @@ pub(crate) fn name_at(number: usize) -> Option<&'static str>
 }
 
 // How many lines there are.
-const LINE_COUNT: usize = 1298;
+const LINE_COUNT: usize = 1318;
 
 /// How many rows there are.
 pub fn row_count() -> usize

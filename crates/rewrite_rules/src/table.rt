@@ -1,12 +1,14 @@
 //! The rules as data: a row says how code is rewritten, its sides in postfix, operands before their operator.
 //!
 //! A rule has the lines from the one that has its name up to the next name. A new one is lines here and, in `proofs/identities/`, a lemma
-//! on numbers for each. An access is a line here too, and what it writes stands in `access.rt`.
+//! on numbers for each. An access is a line here too, and what it writes stands in `access.rt`; so is a way to wrap a value, whose operators
+//! stand in `wrap.rt`.
 
 ghost use Rattle.std.specs.Prelude.{◌≡◌};
 ghost use Rattle.rewrite_rules.specs.Table.{part_for, width_by};
 
 use crate::pattern::{Number, Operator, Part};
+use crate::wrap::Wrap;
 use peephole_machine::{Binary, Comparison, IntegerType, Operation, Unary};
 use wasm_types::PrimitiveTypeInfo;
 
@@ -105,6 +107,10 @@ pub enum Own {
     SetToTee,
     /// An instruction with an immediate as another one: the access with that number.
     Access(u8),
+    /// A value in control flow of its own.
+    Wrap(Wrap),
+    /// The same taken away again.
+    Unwrap(Wrap),
 }
 
 /// What is asked of the number of a constant, by its index.
@@ -451,6 +457,24 @@ macro_rules! own {
         (
             name!($($name)?),
             Widths::Own(Own::Access($number)),
+            None,
+            [Step::End; 7],
+            [Step::End; 7],
+        )
+    };
+    ($name:literal: Wrap $wrap:ident) => {
+        (
+            Some($name),
+            Widths::Own(Own::Wrap(Wrap::$wrap)),
+            None,
+            [Step::End; 7],
+            [Step::End; 7],
+        )
+    };
+    ($name:literal: Unwrap $wrap:ident) => {
+        (
+            Some($name),
+            Widths::Own(Own::Unwrap(Wrap::$wrap)),
             None,
             [Step::End; 7],
             [Step::End; 7],
@@ -2078,4 +2102,28 @@ pub const FLOAT_LANE_BOUNDS: [TableLine; 8] = [
     row!(for (V128): [x (f64x2.neg) y (f64x2.neg) (f64x2.pmax) (f64x2.neg)] => [x y (f64x2.pmin)]),
     row!(for (V128): [x (f32x4.neg) y (f32x4.neg) (f32x4.pmin) (f32x4.neg)] => [x y (f32x4.pmax)]),
     row!(for (V128): [x (f64x2.neg) y (f64x2.neg) (f64x2.pmin) (f64x2.neg)] => [x y (f64x2.pmax)]),
+];
+
+/// Values in control flow of their own, and back.
+pub const CONTROL: [TableLine; 20] = [
+    own!("in_block": Wrap InBlock),
+    own!("drop_block": Unwrap InBlock),
+    own!("in_loop": Wrap InLoop),
+    own!("drop_loop": Unwrap InLoop),
+    own!("in_if": Wrap InIf),
+    own!("drop_if": Unwrap InIf),
+    own!("in_else": Wrap InElse),
+    own!("drop_else": Unwrap InElse),
+    own!("leave_block": Wrap LeaveBlock),
+    own!("drop_leave": Unwrap LeaveBlock),
+    own!("leave_over": Wrap LeaveOver),
+    own!("drop_leave_over": Unwrap LeaveOver),
+    own!("leave_dead": Wrap LeaveDead),
+    own!("drop_leave_dead": Unwrap LeaveDead),
+    own!("may_leave": Wrap MayLeave),
+    own!("drop_may_leave": Unwrap MayLeave),
+    own!("surely_leave": Wrap SurelyLeave),
+    own!("drop_surely_leave": Unwrap SurelyLeave),
+    own!("once": Wrap Once),
+    own!("drop_once": Unwrap Once),
 ];

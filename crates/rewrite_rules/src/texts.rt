@@ -6,6 +6,7 @@ use crate::access::{Access, AccessKind, AccessSide, Conversion, access_at};
 use crate::operator_names::{binary_name, comparison_name, name_behind, type_in_front, type_name};
 use crate::pattern::{Number, Operator};
 use crate::table::{Condition, Own, Row, Side, Step, Widths};
+use crate::wrap::{Wrap, WrapItem};
 use instruction_names::instruction_name;
 use std::fmt;
 use wasm_code::row_info;
@@ -309,6 +310,39 @@ impl fmt::Display for Access {
     }
 }
 
+/// Its text is its instruction, as the text format has it; of a constant its number, as `0`, `n` for one that isn't zero, and `r` for any.
+impl fmt::Display for WrapItem {
+    fn fmt<W: fmt::Write>(&self, f: &mut fmt::Formatter<W>) -> fmt::Result {
+        match *self {
+            WrapItem::Block => f.write_str("block"),
+            WrapItem::Loop => f.write_str("loop"),
+            WrapItem::If => f.write_str("if"),
+            WrapItem::Else => f.write_str("else"),
+            WrapItem::End => f.write_str("end"),
+            WrapItem::Branch => f.write_str("br 0"),
+            WrapItem::BranchIf => f.write_str("br_if 0"),
+            WrapItem::Unreachable => f.write_str("unreachable"),
+            WrapItem::Zero => f.write_str("0"),
+            WrapItem::NonZero => f.write_str("n"),
+            WrapItem::Any => f.write_str("r"),
+        }
+    }
+}
+
+/// Its text is that of its operators, with `x` in the place of the value, as `block x end`.
+impl fmt::Display for Wrap {
+    fn fmt<W: fmt::Write>(&self, f: &mut fmt::Formatter<W>) -> fmt::Result {
+        for item in self.front() {
+            write!(f, "{item} ")?;
+        }
+        f.write_str("x")?;
+        for item in self.back() {
+            write!(f, " {item}")?;
+        }
+        Ok(())
+    }
+}
+
 impl fmt::Display for Own {
     fn fmt<W: fmt::Write>(&self, f: &mut fmt::Formatter<W>) -> fmt::Result {
         match *self {
@@ -324,6 +358,8 @@ impl fmt::Display for Own {
                 Some(access) => write!(f, "{access}"),
                 None => Ok(()),
             },
+            Own::Wrap(wrap) => write!(f, "x → {wrap}"),
+            Own::Unwrap(wrap) => write!(f, "{wrap} → x"),
         }
     }
 }
