@@ -789,7 +789,8 @@ const STARTS: [usize; 82] = [
 fn part_of(number: usize) -> usize
     ensures inside { result < length STARTS }
     ensures begins { get_or STARTS result 0 ≤ number }
-    ensures ends { (after : ℕ) → after ≡ result + 1 → after < length STARTS → number < get_or STARTS after 0 }
+    ensures ends { (after : ℕ) → after ≡ result + 1 → after < length STARTS
+        → number < get_or STARTS after 0 }
 {
     let mut low = 0;
     let mut high = STARTS.len();

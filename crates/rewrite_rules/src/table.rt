@@ -1,8 +1,8 @@
 //! The rules as data: a row says how code is rewritten, its sides in postfix, operands before their operator.
 //!
 //! A rule has the lines from the one that has its name up to the next name. A new one is lines here and, in `proofs/identities/`, a lemma
-//! on numbers for each. An access is a line here too, and what it writes stands in `access.rt`; so is a way to wrap a value, whose operators
-//! stand in `wrap.rt`.
+//! on numbers for each. An access is a line here too, and what it writes stands in `access.rt`; a way to wrap a value is one, and its
+//! operators stand in `wrap.rt`.
 
 ghost use Rattle.std.specs.Prelude.{◌≡◌};
 ghost use Rattle.rewrite_rules.specs.Table.{part_for, width_by};
