@@ -4,6 +4,7 @@ use Rattle.std.specs.Prelude.{slice_get}
 use Rattle.std.proofs.lemmas.Nat.{pow_pos}
 use Rattle.std.proofs.lemmas.Int.{of_z-to_z}
 use Rattle.std.proofs.lemmas.Option.{same_Some}
+use Rattle.rewrite_rules.specs.Wrap.{value_of as wrapped_type}
 use Rattle.std.proofs.lemmas.List.{same_from_push}
 use Rattle.std.proofs.Math.Nat.{mod-lt, mod-eq_of_lt}
 use mir.Val.{bits}
@@ -190,7 +191,7 @@ module _ (context : Context) (operators : Operators) where
   one_site (Accesses n) s k at (made.Access a w) l r q = absurd q
   one_site (Wraps w) s k at (made.Wrapped v t) (made.Wrapped x y) (e, u, n, a) (f, z, p, b) = (
       one_start context operators s k at u z a b,
-      ap₂ (λ v t. made.Wrapped v t) (e ∙ sym f) (same_Some t y (sym n ∙ (ap value_of (one_type s k at u z a b) ∙ p))),
+      ap₂ (λ v t. made.Wrapped v t) (e ∙ sym f) (same_Some t y (sym n ∙ (ap wrapped_type (one_type s k at u z a b) ∙ p))),
     )
   one_site (Wraps w) s k at (made.Wrapped v t) l r q = absurd q
   one_site (Unwraps w) s k at (made.Inner from end) (made.Inner other behind) a b =

@@ -200,15 +200,15 @@ module _ (laws : BesidesKeepCode) (context : Context) (operators : Operators) (a
 
 module _ (laws : BesidesKeepCode) (wraps : WrapsAreRight) (wrapped : WrappedCodeDoes) (unwrapped : UnwrappedCodeDoes) (pushing : PushingCodeIsThere) (one_piece : ReplacedCodeIsInOnePiece)
     (valid : ReplacedCodeStaysValid) (do_as : PiecesDo) (context : Context) (operators : Operators) (at : ℕ) where
-  abbrev Stand : ℕ → Made → Type 0
-  Stand start m = MayStand context operators at (change_of at (record { start = start; made = m }))
+  abbrev MadeStands : ℕ → Made → Type 0
+  MadeStands start m = MayStand context operators at (change_of at (record { start = start; made = m }))
 
-  kept : (own : Own) (start : ℕ) (m : Made) → KeepsInPlace own → Rewrites context operators own start at m → Stand start m
+  kept : (own : Own) (start : ℕ) (m : Made) → KeepsInPlace own → Rewrites context operators own start at m → MadeStands start m
   kept own start m keeps r =
       keeps_may_stand one_piece valid do_as context operators at (change_of at (record { start = start; made = m }))
       (stand_at laws context operators at own start m keeps r)
 
-  may_stand : (own : Own) (start : ℕ) (m : Made) → Rewrites context operators own start at m → Stand start m
+  may_stand : (own : Own) (start : ℕ) (m : Made) → Rewrites context operators own start at m → MadeStands start m
   may_stand (Wraps w) start (made.Wrapped v t) (e, u, value, tree) = wrap_stands wraps context operators at wrapped v t u value start tree
   may_stand (Unwraps w) start (made.Inner from end) h = unwrap_stands wraps context operators at unwrapped pushing w start from end h
   may_stand Unfold start m r = kept Unfold start m tt r

@@ -66,7 +66,7 @@ module _ (context : Context) (operators : Operators) (at : ℕ) where
       subst (λ n. HasInstruction operators n i) same has
 
   -- an instruction of such a class stands there
-  InClasses : (class : ℕ) → Root → Type 0
+  abbrev InClasses : (class : ℕ) → Root → Type 0
   InClasses class (Classes first last) = (first ≤ class) × (class ≤ last)
   InClasses class r = ⊥
 

@@ -43,6 +43,7 @@ use Rattle.body_rewrites.specs.Rewrites.{IsLineChange, IsMadeBy, MakesBy, growth
 use Rattle.body_rewrites.specs.Rewrites as bodies
 use Rattle.body_rewrites.specs.ToldGrowth.{IsAsTold}
 use Rattle.body_rewrites.specs.Writing.{by_line}
+use Rattle.body_rewrites.proofs.WrapLemmas.{wrapped_sizes}
 use Rattle.body_rewrites.proofs.FormLemmas.{IsNotOwn, is_line}
 use Rattle.body_rewrites.proofs.FoundLemmas.{or_first, or_second}
 use Rattle.body_rewrites.proofs.GrowingLemmas as counted
@@ -324,6 +325,8 @@ own_word operators start at (made.Global t g) word = refl
 own_word operators start at (made.SetAndGet n) word = refl
 own_word operators start at (made.Tee n) word = refl
 own_word operators start at (made.Access a w) word = refl
+own_word operators start at (made.Wrapped w t) word = wrapped_sizes (without_offsets operators) start at w t word ∙ sym (wrapped_sizes (without_offsets operators) start at w t 0)
+own_word operators start at (made.Inner from end) word = refl
 
 line_word : (operators : Operators) (line : Line) (place : Place) (word : ℕ) →
     length (pieces_operators (without_offsets operators) ((by_line line place).pieces word))

@@ -1,6 +1,15 @@
 -- Where trees are wrapped, and where they are found wrapped.
-use Rattle.std.proofs.Common.{◌≡◌, ℕ, zero, suc, ◌+◌, ◌-◌, ◌<◌, ◌≤◌, List, [], ◌∷◌, length, drop, get_or, Option, Some, None, refl, sym, ap, subst, ◌∙◌, arith}
-use Rattle.std.specs.Prelude.{IfNone, IfSome}
+use Rattle.std.proofs.Common.{◌≡◌, ℕ, zero, suc, ◌+◌, ◌-◌, ◌^◌, ◌<◌, ◌≤◌, List, [], ◌∷◌, ◌++◌, length, map, take, drop, get_or, append_assoc, IsTrue, Option, Some, None, refl, sym, ap, ap₂, subst, ◌∙◌, arith}
+use Rattle.std.specs.Prelude.{nat_lt, slice_get}
+use Rattle.std.proofs.lemmas.Bool.{lt-ltb, ltb-true}
+use Rattle.std.proofs.lemmas.List.{map-append, take_more}
+use Rattle.std.proofs.lemmas.Option.{same_Some}
+use Rattle.wasm_code.specs.Instruction.{Instruction}
+use Rattle.wasm_code.specs.declared.operator.Operator.TheVariants.{Instr}
+use Rattle.body_splices.specs.declared.piece.Piece.{Piece}
+use Rattle.body_splices.specs.OwnBytes.{without_offsets}
+use Rattle.peephole_machine.specs.declared.integer.IntegerType.TheVariants as integer
+use Rattle.rewrite_rules.specs.declared.wrap.WrapItem.TheVariants as item
 use Rattle.wasm_code.specs.declared.immediate.ValType.{ValType}
 use Rattle.wasm_code.specs.declared.operator.Operator.{Operator}
 use Rattle.wasm_types.specs.declared.types.PrimitiveTypeInfo.{PrimitiveTypeInfo}
@@ -8,16 +17,16 @@ use Rattle.peephole_machine.specs.Values.{Context}
 use Rattle.rewrite_rules.specs.declared.table.Own.TheVariants.{Wrap as Wraps, Unwrap as Unwraps}
 use Rattle.rewrite_rules.specs.declared.wrap.Wrap.{Wrap}
 use Rattle.rewrite_rules.specs.declared.wrap.WrapItem.{WrapItem}
-use Rattle.rewrite_rules.specs.Wrap.{front_of, back_of, value_of}
+use Rattle.rewrite_rules.specs.Wrap.{front_of, back_of, value_of, IsItem}
 use Rattle.body_rewrites.specs.declared.own.Made.{Made}
 use Rattle.body_rewrites.specs.declared.own.Made.TheVariants as made
 use Rattle.body_rewrites.specs.declared.trees.Tree.{Tree}
 use Rattle.body_rewrites.specs.Trees.{IsTree, HasTree, IsTreeAt}
-use Rattle.body_rewrites.specs.Own.{IsWrapped, HasItem, HaveItems, Rewrites}
-use Rattle.body_rewrites.specs.OwnSites.{IsWrapRound, IsSiteOf}
+use Rattle.body_rewrites.specs.Own.{IsWrapped, HasItem, HaveItems, Rewrites, item_piece, item_pieces}
+use Rattle.body_rewrites.specs.OwnSites.{IsConstantOperator, IsWrapRound}
 use Rattle.body_rewrites.proofs.StandsLemmas.{Operators}
-use Rattle.body_rewrites.proofs.CodeLemmas.{one_start}
-use Rattle.body_rewrites.proofs.OwnAloneLemmas.{one_type}
+use Rattle.body_rewrites.proofs.CutLemmas.{one_start}
+use Rattle.body_rewrites.proofs.OwnAloneLemmas.{one_number, one_type}
 use Rattle.body_rewrites.proofs.WrapLemmas.{back_some}
 
 abbrev NoTree : Context → Operators → ℕ → Type 0
@@ -45,10 +54,13 @@ module _ (context : Context) (operators : Operators) (w : Wrap) where
 
 -- ---- items that stand
 
-pub drop_there : {X : Type 0} (xs : List X) (i : ℕ) (x : X) → i < length xs → x ≡ get_or xs i x → drop i xs ≡ x ∷ drop (i + 1) xs
-drop_there [] i x l e = absurd (omega arith)
-drop_there (y ∷ xs) zero x l e = ap (λ z. z ∷ xs) (sym e)
-drop_there (y ∷ xs) (suc i) x l e = drop_there xs i x (omega arith) e
+drop_next : {X : Type 0} (xs : List X) (i : ℕ) (d : X) → i < length xs → drop i xs ≡ get_or xs i d ∷ drop (suc i) xs
+drop_next [] i d l = absurd (omega arith)
+drop_next (y ∷ xs) zero d l = refl
+drop_next (y ∷ xs) (suc i) d l = drop_next xs i d (omega arith)
+
+drop_there : {X : Type 0} (xs : List X) (i : ℕ) (d : X) → i < length xs → drop i xs ≡ get_or xs i d ∷ drop (i + 1) xs
+drop_there xs i d l = let next : suc i ≡ i + 1 = omega arith in drop_next xs i d l ∙ ap (λ m. get_or xs i d ∷ drop m xs) next
 
 module _ (operators : Operators) (start : ℕ) (items : List WrapItem) (t : ValType) where
   -- from the i-th on
@@ -63,16 +75,16 @@ module _ (operators : Operators) (start : ℕ) (items : List WrapItem) (t : ValT
         λ h. subst (λ k. HaveItems operators k items t) (sym e) h,
       )
 
-  pub first_and_rest : (i : ℕ) (item : WrapItem) → i < length items → item ≡ get_or items i item → From i → HasItem operators (start + i) item t × From (i + 1)
-  first_and_rest i item l e h =
-      let k = subst (λ is. HaveItems operators (start + i) is t) (drop_there items i item l e) h in
+  pub first_and_rest : (i : ℕ) (d : WrapItem) → i < length items → From i → HasItem operators (start + i) (get_or items i d) t × From (i + 1)
+  first_and_rest i d l h =
+      let k = subst (λ is. HaveItems operators (start + i) is t) (drop_there items i d l) h in
       let next : start + i + 1 ≡ start + (i + 1) = omega arith in
       (k.0, subst (λ n. HaveItems operators n (drop (i + 1) items) t) next k.1)
 
-  pub first_then_rest : (i : ℕ) (item : WrapItem) → i < length items → item ≡ get_or items i item → HasItem operators (start + i) item t → From (i + 1) → From i
-  first_then_rest i item l e has rest =
+  pub first_then_rest : (i : ℕ) (d : WrapItem) → i < length items → HasItem operators (start + i) (get_or items i d) t → From (i + 1) → From i
+  first_then_rest i d l has rest =
       let next : start + (i + 1) ≡ start + i + 1 = omega arith in
-      subst (λ is. HaveItems operators (start + i) is t) (sym (drop_there items i item l e))
+      subst (λ is. HaveItems operators (start + i) is t) (sym (drop_there items i d l))
       (has, subst (λ n. HaveItems operators n (drop (i + 1) items) t) next rest)
 
   pub none_left : (i : ℕ) → length items ≤ i → From i
@@ -115,6 +127,7 @@ module _ (context : Context) (operators : Operators) (w : Wrap) (at : ℕ) where
       none start (record {
         value = h.value;
         value_is = ap value_of types ∙ h.value_is;
+        ordered = (let l = has.is.ordered in omega (arith, l));
         begins = h.begins ∙ sym starts;
         before = h.before;
         behind = subst (λ k. HaveItems operators k (back_of w) h.value) ends h.behind;
@@ -136,3 +149,52 @@ module _ (context : Context) (operators : Operators) (w : Wrap) (at : ℕ) where
     before = round.before;
     behind = round.behind;
   }
+
+-- ---- single operators
+
+same_code : {i j : Instruction} → Instr i ≡ Instr j → i ≡ j
+same_code e = cc
+
+-- the constant of a number that isn't zero
+pub nonzero_is : (o : Operator) (n : ℕ) (t : ValType) → IsConstantOperator o n → (0 < n → IsItem item.NonZero t o) × (IsItem item.NonZero t o → 0 < n)
+nonzero_is o zero t (few, is) = (
+  λ l. absurd (omega arith),
+  λ (m, small, e). let same = one_number integer.I32 integer.I32 zero (suc m) few small (same_code (sym is ∙ e)) in omega (arith, same),
+)
+nonzero_is o (suc n) t (few, is) = (λ l. (n, few, is), λ h. omega arith)
+
+pub nonzero_item : (i : WrapItem) (o : Operator) (n : ℕ) (t : ValType) → i ≡ item.NonZero → IsConstantOperator o n →
+    (IsTrue (nat_lt 0 n) → IsItem i t o) × (IsItem i t o → IsTrue (nat_lt 0 n))
+nonzero_item i o n t e is =
+    subst (λ j. (IsTrue (nat_lt 0 n) → IsItem j t o) × (IsItem j t o → IsTrue (nat_lt 0 n))) (sym e)
+    (λ h. (nonzero_is o n t is).0 (ltb-true 0 n h), λ h. lt-ltb 0 n ((nonzero_is o n t is).1 h))
+
+-- the item stands there where the operator is it
+pub item_there : (operators : Operators) (at : ℕ) (o : Operator) (i : WrapItem) (t : ValType) → slice_get (without_offsets operators) at ≡ Some o →
+    HasItem operators at i t → IsItem i t o
+item_there operators at o i t e h = subst (IsItem i t) (same_Some h.operator o (sym h.has ∙ e)) h.is
+
+pub no_item : (operators : Operators) (at : ℕ) (i : WrapItem) (t : ValType) → slice_get (without_offsets operators) at ≡ None → HasItem operators at i t → ⊥
+no_item operators at i t e h = none_some h.operator (sym e ∙ h.has)
+  where
+    none_some : (o : Operator) → ◌≡◌ {A = Option Operator} None (Some o) → ⊥
+    none_some o e = absurd cc
+
+-- ---- what is put
+
+pub one_more_piece : (is : List WrapItem) (t : ValType) (word i : ℕ) (d : WrapItem) (piece : Piece) (old mid new : List Piece) → i < length is →
+    piece ≡ item_piece t word (get_or is i d) → mid ≡ old ++ item_pieces t word (take i is) → new ≡ mid ++ piece ∷ [] →
+    new ≡ old ++ item_pieces t word (take (i + 1) is)
+one_more_piece is t word i d piece old mid new l e m n =
+    n ∙ (ap₂ (λ (ps qs : List Piece). ps ++ qs) m (ap (λ (p : Piece). p ∷ []) e)
+    ∙ (append_assoc old (item_pieces t word (take i is)) (item_piece t word (get_or is i d) ∷ [])
+    ∙ ap (λ (ps : List Piece). old ++ ps)
+    (sym (map-append (item_piece t word) (take i is) (get_or is i d ∷ [])) ∙ ap (map (item_piece t word)) (sym (take_more is i d l)))))
+
+-- the operator before what is behind a tree
+pub last_so : (w : Wrap) (at : ℕ) (behind : List WrapItem) → behind ≡ back_of w → length behind ≤ at →
+    at + 1 - length behind - 1 + 1 + length (back_of w) ≡ at + 1
+last_so w at behind e l =
+    let some = back_some w in
+    let same : length behind ≡ length (back_of w) = ap length e in
+    omega (arith, some, same, l)

@@ -1,5 +1,5 @@
 -- Operators of wrapped code: as pieces, and where they stand in a body.
-use Rattle.std.proofs.Common.{◌≡◌, ℕ, zero, suc, ◌+◌, ◌-◌, ◌%◌, ◌^◌, ◌<◌, ◌≤◌, true, List, [], ◌∷◌, ◌++◌, length, map, take, drop, Some, refl, sym, ap, ap₂, subst, ◌∙◌, arith, append_assoc, append-nil}
+use Rattle.std.proofs.Common.{◌≡◌, ℕ, zero, suc, ◌+◌, ◌-◌, ◌%◌, ◌^◌, ◌<◌, ◌≤◌, ◌&&◌, not, Bool, true, false, List, [], ◌∷◌, ◌++◌, length, map, take, drop, Some, refl, sym, ap, ap₂, subst, ◌∙◌, arith, append_assoc, append-nil}
 use Rattle.std.specs.Prelude.{slice_get, slice_range}
 use Rattle.std.specs.List.{All}
 use Rattle.std.proofs.Math.Nat.{mod-lt, mod-mod}
@@ -26,6 +26,7 @@ use Rattle.rewrite_rules.specs.Wrap.{front_of, back_of, IsItem, AreItems}
 use Rattle.body_rewrites.specs.Matching.{operators_in}
 use Rattle.body_rewrites.specs.Own.{HasItem, HaveItems, item_piece, item_pieces}
 use Rattle.body_rewrites.proofs.StandsLemmas.{Operators}
+use Rattle.body_rewrites.proofs.AlikeLemmas.{by_low}
 use Rattle.body_rewrites.proofs.MatchingLemmas.{length_in}
 use Rattle.body_rewrites.proofs.WritingLemmas.{range_alone}
 
@@ -71,10 +72,7 @@ few_items Once = omega arith
 
 -- the number of a constant counts by its low bits
 low_constant : (n : ℕ) → constant_code integer.I32 n ≡ constant_code integer.I32 (n % 2 ^ 32)
-low_constant n = ap (λ m. constant_of m) (sym (mod-mod n (2 ^ 32)))
-  where
-    abbrev constant_of : ℕ → Instruction
-    constant_of m = constant_code integer.I32 m
+low_constant n = by_low integer.I32 n (n % 2 ^ 32) (sym (mod-mod n (2 ^ 32)))
 
 -- the operator that an item is
 abbrev pub item_operator : ValType → (word : ℕ) → WrapItem → List Operator
@@ -92,10 +90,10 @@ items_are os t word (item.BranchIf ∷ is) = (refl, items_are os t word is)
 items_are os t word (item.Unreachable ∷ is) = (refl, items_are os t word is)
 items_are os t word (item.Zero ∷ is) = (refl, items_are os t word is)
 items_are os t word (item.NonZero ∷ is) =
-    let few = mod-lt word (2 ^ 32 - 1) (omega arith) in
+    let few : word % (2 ^ 32 - 1) < 2 ^ 32 - 1 = mod-lt word (omega arith) in
     ((word % (2 ^ 32 - 1), omega (arith, few), refl), items_are os t word is)
 items_are os t word (item.Any ∷ is) =
-    let few = mod-lt word (2 ^ 32) (omega arith) in
+    let few : word % 2 ^ 32 < 2 ^ 32 = mod-lt word (omega arith) in
     ((word % 2 ^ 32, few, ap (λ (i : Instruction). Instr i) (low_constant word)), items_are os t word is)
 
 pub items_within : (operators : Operators) (t : ValType) (word : ℕ) (is : List WrapItem) (ps : List Piece) → All (IsPieceIn operators) ps →
@@ -155,10 +153,13 @@ items_unasked (i ∷ is) t (o ∷ os) rest h =
 
 -- ---- where they stand
 
+take_next : {X : Type 0} (xs : List X) (k n : ℕ) (x : X) → slice_get xs k ≡ Some x → take (suc n) (drop k xs) ≡ x ∷ take n (drop (suc k) xs)
+take_next [] k n x e = absurd cc
+take_next (y ∷ xs) zero n x e = ap (λ z. z ∷ take n xs) (let same : y ≡ x = cc in same)
+take_next (y ∷ xs) (suc k) n x e = take_next xs k n x e
+
 take_there : {X : Type 0} (xs : List X) (k n : ℕ) (x : X) → slice_get xs k ≡ Some x → take (suc n) (drop k xs) ≡ x ∷ take n (drop (k + 1) xs)
-take_there [] k n x e = absurd cc
-take_there (y ∷ xs) zero n x e = ap (λ z. z ∷ take n xs) (let same : y ≡ x = cc in same)
-take_there (y ∷ xs) (suc k) n x e = take_there xs k n x e
+take_there xs k n x e = let next : suc k ≡ k + 1 = omega arith in take_next xs k n x e ∙ ap (λ m. x ∷ take n (drop m xs)) next
 
 pub items_stand : (operators : Operators) (start : ℕ) (is : List WrapItem) (t : ValType) → HaveItems operators start is t →
     AreItems is t (take (length is) (drop start (without_offsets operators)))
@@ -169,11 +170,10 @@ items_stand operators start (i ∷ is) t h =
 
 -- ---- counts
 
-pub wrapped_count : (operators : Operators) (start at : ℕ) (w : Wrap) (t : ValType) (word : ℕ) → length (operators_in operators start (at + 1)) ≡ at + 1 - start →
-    length (pieces_operators (without_offsets operators) (item_pieces t word (front_of w) ++ Kept start (at + 1) ∷ item_pieces t word (back_of w)))
-    ≡ length (front_of w) + (at + 1 - start + length (back_of w))
-wrapped_count operators start at w t word kept =
-    let os = without_offsets operators in
+pub wrapped_sizes : (os : List Operator) (start at : ℕ) (w : Wrap) (t : ValType) (word : ℕ) →
+    length (pieces_operators os (item_pieces t word (front_of w) ++ Kept start (at + 1) ∷ item_pieces t word (back_of w)))
+    ≡ length (front_of w) + (length (slice_range os start (at + 1)) + length (back_of w))
+wrapped_sizes os start at w t word =
     let front = item_pieces t word (front_of w) in
     let back = item_pieces t word (back_of w) in
     let before = items_length (front_of w) t (pieces_operators os front) (items_are os t word (front_of w)) in
@@ -182,7 +182,14 @@ wrapped_count operators start at w t word kept =
     ∙ (length-append (pieces_operators os front) (slice_range os start (at + 1) ++ pieces_operators os back)
     ∙ ap₂ (λ (n m : ℕ). n + m) before
     (length-append (slice_range os start (at + 1)) (pieces_operators os back)
-    ∙ ap₂ (λ (n m : ℕ). n + m) (ap length (range_alone operators start (at + 1)) ∙ kept) behind))
+    ∙ ap (λ (n : ℕ). length (slice_range os start (at + 1)) + n) behind))
+
+pub wrapped_count : (operators : Operators) (start at : ℕ) (w : Wrap) (t : ValType) (word : ℕ) → length (operators_in operators start (at + 1)) ≡ at + 1 - start →
+    length (pieces_operators (without_offsets operators) (item_pieces t word (front_of w) ++ Kept start (at + 1) ∷ item_pieces t word (back_of w)))
+    ≡ length (front_of w) + (at + 1 - start + length (back_of w))
+wrapped_count operators start at w t word kept =
+    wrapped_sizes (without_offsets operators) start at w t word
+    ∙ ap (λ (n : ℕ). length (front_of w) + (n + length (back_of w))) (ap length (range_alone operators start (at + 1)) ∙ kept)
 
 pub inner_count : (operators : Operators) (from end : ℕ) → from ≤ end → end ≤ length operators →
     length (pieces_operators (without_offsets operators) (Kept from end ∷ [])) ≡ end - from

@@ -4,7 +4,7 @@ use Rattle.std.specs.Option.{option_flatten}
 use Rattle.wasm_code.specs.Instruction.{Instruction}
 use Rattle.wasm_code.specs.declared.operator.Operator.{Operator}
 use Rattle.body_splices.specs.declared.piece.Piece.{Piece}
-use Rattle.body_splices.specs.declared.piece.Piece.TheVariants.{Kept, New}
+use Rattle.body_splices.specs.declared.piece.Piece.TheVariants.{Kept, New, Structural}
 use Rattle.body_splices.specs.OwnBytes.{without_offsets}
 use Rattle.body_splices.specs.Laws.{piece_operators, pieces_operators}
 use Rattle.body_rewrites.specs.declared.trees.Tree.{Tree}
@@ -20,10 +20,11 @@ pub record IsKeptRange (operators : List (Operator × ℕ)) (trees : List (Optio
   pub inside : kept.1 ≤ length operators
   pub told : (start end : ℕ) → start ≤ end → end ≤ length operators → HaveSameCode operators (start, end) kept → IsTreeIn trees start end
 
--- so is what the piece keeps
+-- so is what the piece keeps; and it is no structural operator
 abbrev pub IsKept : List (Operator × ℕ) → List (Option Tree) → Piece → Type 0
 IsKept operators trees (Kept start end) = IsKeptRange operators trees (start, end)
 IsKept operators trees (New i) = ⊤
+IsKept operators trees (Structural c) = ⊥
 
 -- These operators stand from `at` up to the one before the place that is told, which isn't past `end`; where none is told, what stands from `at` up to the one
 -- before `end` doesn't begin with them.

@@ -1,5 +1,5 @@
 -- How rules beside the table are found and written in a body: for private functions (this project).
-use Rattle.std.specs.Prelude.{◌≡◌, ℕ, ◌+◌, ◌^◌, ◌<◌, List, [], ◌∷◌, ◌++◌, length, map, ⊤, Option, Some, None, option_to_list}
+use Rattle.std.specs.Prelude.{◌≡◌, ℕ, ◌+◌, ◌^◌, ◌<◌, ◌≤◌, List, [], ◌∷◌, ◌++◌, length, map, ⊤, Option, Some, None, option_to_list}
 use Rattle.wasm_code.specs.Instruction.{Instruction, IsInstruction}
 use Rattle.wasm_code.specs.declared.immediate.Imm.{Imm}
 use Rattle.wasm_code.specs.declared.immediate.Imm.TheVariants as imm
@@ -106,6 +106,7 @@ IsConstantItem i = ⊥
 pub record IsWrapRound (operators : List (Operator × ℕ)) (w : Wrap) (tree : Tree) (end start : ℕ) : Type 0 where
   pub value : ValType
   pub value_is : value_of tree.gives ≡ Some value
+  pub ordered : tree.start ≤ end
   pub begins : start + length (front_of w) ≡ tree.start
   pub before : HaveItems operators start (front_of w) value
   pub behind : HaveItems operators end (back_of w) value

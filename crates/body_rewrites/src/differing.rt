@@ -103,6 +103,8 @@ fn behind_piece(
     match piece {
         Piece::Kept { start, end: last } => behind_kept(operators, trees, at, end, (start, last)),
         Piece::New(instr) => behind_new(operators, at, end, &instr),
+        // No line writes one.
+        Piece::Structural(_) => unreachable!(),
     }
 }
 

@@ -1,7 +1,8 @@
 //! `x` in control flow of its own → `x`.
-ghost use Rattle.std.specs.Prelude.{◌≡◌, ◌↔◌, ◌+◌, ◌<◌, ◌≤◌, ℕ, IfNone, IfSome, IsTrue, length};
+ghost use Rattle.std.specs.Prelude.{◌≡◌, ◌↔◌, ◌+◌, Some, None, slice_get, ◌<◌, ◌≤◌, ℕ, IfNone, IfSome, IsTrue, length};
 ghost use Rattle.peephole_machine.specs.Values.{Context};
 ghost use Rattle.wasm_code.specs.declared.immediate.BlockType.TheVariants.{Value};
+ghost use Rattle.body_splices.specs.OwnBytes.{without_offsets};
 ghost use Rattle.rewrite_rules.specs.Wrap.{IsItem, back_of};
 ghost use Rattle.rewrite_rules.specs.declared.wrap.WrapItem.TheVariants as item;
 ghost use Rattle.rewrite_rules.specs.declared.table.Own.TheVariants.{Unwrap};
@@ -121,13 +122,24 @@ fn is_item(operator: &Operator, item: WrapItem, t: ValType) -> bool
     }
 }
 
+// The operator that stands there.
+fn operator_at(operators: &[OperatorAndByteOffset], at: usize) -> Option<Operator>
+    ensures some { IfSome result (λ o. slice_get (without_offsets operators.now) at ≡ Some o) }
+    ensures none { IfNone result (slice_get (without_offsets operators.now) at ≡ None) }
+{
+    match operators.get(at) {
+        Some((operator, _)) => Some(*operator),
+        None => None,
+    }
+}
+
 // Whether the item stands there.
 fn has_item(operators: &[OperatorAndByteOffset], at: usize, item: WrapItem, t: ValType) -> bool
     ensures same { IsTrue result → HasItem operators.now at item t }
     ensures only { HasItem operators.now at item t → IsTrue result }
 {
-    match operators.get(at) {
-        Some((operator, _)) => is_item(operator, item, t),
+    match operator_at(operators, at) {
+        Some(operator) => is_item(&operator, item, t),
         None => false,
     }
 }
@@ -158,14 +170,13 @@ fn start_of(
     end: usize,
     wrap: Wrap,
 ) -> Option<usize>
-    requires behind { end + length (back_of wrap) ≤ length operators.now }
-    requires before { tree.start ≤ end }
+    requires { end + length (back_of wrap) ≤ length operators.now }
     ensures some { IfSome result (λ start. IsWrapRound operators.now wrap tree end start) }
     ensures none { IfNone result ((start : ℕ)
         → ¬ (IsWrapRound operators.now wrap tree end start)) }
 {
     let (front, back) = (wrap.front(), wrap.back());
-    if tree.start < front.len() {
+    if tree.start < front.len() || tree.start > end {
         return None;
     }
     let start = tree.start - front.len();

@@ -10,13 +10,13 @@ returns-in_default c = λ context operators trees.
     no_tree context operators c.args.wrap c.args.at
     (tree_told c.args.trees.now c.args.at None (sym c.in_default.is ∙ c.tree_at.ensures) context operators trees)
 
-pub returns-in_default-2 : goal.returns-in_default-2
-returns-in_default-2 c = λ context operators trees.
+pub returns-in_default-value_of : goal.returns-in_default-value_of
+returns-in_default-value_of c = λ context operators trees.
     no_value context operators c.args.wrap c.args.at c.in-Some.tree
     (tree_told c.args.trees.now c.args.at (Some c.in-Some.tree) (sym c.in-Some.is ∙ c.tree_at.ensures) context operators trees)
-    (sym c.in_default-2.is ∙ c.value_of.ensures)
+    (sym c.in_default-value_of.is ∙ c.value_of.ensures)
 
 pub returns : goal.returns
 returns c = λ context operators trees.
     let has = tree_told c.args.trees.now c.args.at (Some c.in-Some.tree) (sym c.in-Some.is ∙ c.tree_at.ensures) context operators trees in
-    (refl, c.in-Some.tree.gives, sym c.value_of.ensures ∙ c.in-Some-2.is, has.is)
+    (refl, c.in-Some.tree.gives, sym c.value_of.ensures ∙ c.in-Some-value_of.is, has.is)
