@@ -53,11 +53,12 @@ behind_parts xs a b l =
 
 none-append : (holds : Operator → Bool) (os rest : List Operator) → none_of holds os ≡ true → none_of holds rest ≡ true → none_of holds (os ++ rest) ≡ true
 none-append holds [] rest h k = k
-none-append holds (o ∷ os) rest h k = go (holds o) h
+none-append holds (o ∷ os) rest h k = go (holds o) (λ e. none-append holds os rest e k) h
   where
-    go : (b : Bool) → (not b && none_of holds os) ≡ true → (not b && none_of holds (os ++ rest)) ≡ true
-    go true e = absurd cc
-    go false e = none-append holds os rest e k
+    go : (b : Bool) → (none_of holds os ≡ true → none_of holds (os ++ rest) ≡ true) → (not b && none_of holds os) ≡ true →
+        (not b && none_of holds (os ++ rest)) ≡ true
+    go true more e = absurd cc
+    go false more e = more e
 
 -- the code of a tree has an instruction
 record HasFirst (code : List Instruction) : Type 0 where

@@ -1,5 +1,5 @@
 -- By the line of the rewrite, and what it makes.
-use Rattle.std.proofs.Common.{subst, arith}
+use Rattle.std.proofs.Common.{subst, ◌∙◌, arith}
 use Rattle.body_rewrites.specs.Places.{context_of}
 use Rattle.body_rewrites.specs.Rewrites.{Makes}
 use Rattle.body_rewrites.proofs.MadeLemmas.{same_line}
@@ -34,4 +34,17 @@ put-requires-clause-change c =
       may = c.changes_may_stand.ensures.stand (context_of c.args.body.now) c.args.body.now.operators.now c.args.rewrite.row c.in-Some.line
           c.args.rewrite.operator code.change is.0 code.makes;
       inside = omega (arith, c.if-rewrite-body.false);
+    }
+
+pub returns-clause-rewritten : goal.returns-clause-rewritten
+returns-clause-rewritten c =
+    let is = rw c.in-Some.is at c.line_of.ensures.some in
+    let code = rw c.in-Some-made.is at c.made.ensures.some in
+    let may = c.changes_may_stand.ensures.stand (context_of c.args.body.now) c.args.body.now.operators.now c.args.rewrite.row c.in-Some.line
+    c.args.rewrite.operator code.change is.0 code.makes in
+    record {
+      change = code.change;
+      made = record { line = c.in-Some.line; asked = is.0; width_is = is.1; makes = code.makes };
+      asks_are = c.asked.ensures ∙ code.written.asks_are;
+      written = c.in_ok-put.ensures.put code.change c.args.word code.written may;
     }

@@ -1,5 +1,5 @@
 -- By the tree right before what is behind it.
-use Rattle.std.proofs.Common.{◌≡◌, ◌+◌, ◌-◌, sym, subst, ap, ◌∙◌, arith}
+use Rattle.std.proofs.Common.{◌≡◌, ◌+◌, ◌-◌, sym, subst, ◌∙◌, arith}
 use Rattle.std.specs.Prelude.{Some, None, length}
 use Rattle.body_rewrites.specs.Own.{IsWrapped}
 use Rattle.body_rewrites.specs.OwnSites.{IsWrapRound}

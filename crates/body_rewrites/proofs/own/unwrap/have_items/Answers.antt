@@ -1,6 +1,5 @@
 -- One after another.
 use Rattle.std.proofs.Common.{sym, ◌∙◌}
-use Rattle.std.proofs.lemmas.Bool.{false≢true}
 use Rattle.rewrite_rules.specs.declared.wrap.WrapItem.TheVariants.{Block}
 use Rattle.body_rewrites.proofs.WrapFindLemmas.{at_first, first_and_rest, first_then_rest, none_left}
 use Rattle.body_rewrites.proofs.own.unwrap.have_items.Goals as goal

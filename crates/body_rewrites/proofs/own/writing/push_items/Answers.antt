@@ -1,5 +1,5 @@
 -- One after another.
-use Rattle.std.proofs.Common.{◌≡◌, ◌++◌, take, ap, sym, ◌∙◌, append-nil, arith}
+use Rattle.std.proofs.Common.{◌++◌, ap, sym, ◌∙◌, append-nil, arith}
 use Rattle.std.proofs.lemmas.List.{take_all}
 use Rattle.rewrite_rules.specs.declared.wrap.WrapItem.TheVariants.{Block}
 use Rattle.body_rewrites.specs.Own.{item_pieces}
