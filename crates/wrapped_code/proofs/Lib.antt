@@ -20,6 +20,9 @@ mod WayLemmas
 mod UnwrapLemmas
 mod UncheckLemmas
 mod UnwrapDoesLemmas
+mod AlikeLemmas
+mod ConditionLemmas
+mod TruthLemmas
 mod BlockLemmas
 mod PlaceOfLemmas
 mod Examples

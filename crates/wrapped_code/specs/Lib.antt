@@ -3,3 +3,4 @@ pub mod Handlers
 pub mod Laws
 pub mod Ways
 pub mod Tables
+pub mod Conditions
