@@ -23,8 +23,11 @@ mod UnwrapDoesLemmas
 mod AlikeLemmas
 mod ConditionLemmas
 mod TruthLemmas
+mod DeadRunLemmas
+mod DeadLemmas
 mod BlockLemmas
 mod PlaceOfLemmas
 mod Examples
 mod UnwrapExamples
 mod HandlerExamples
+mod ChangeExamples

@@ -4,3 +4,4 @@ pub mod Laws
 pub mod Ways
 pub mod Tables
 pub mod Conditions
+pub mod Dead

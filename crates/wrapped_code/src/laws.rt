@@ -1,6 +1,7 @@
 //! What holds where instructions are replaced by code with control flow of its own. A function here does nothing: its contract is the law.
 
 ghost use Rattle.wrapped_code.specs.Conditions.{ConditionsAsTrue, ConditionsMayChange};
+ghost use Rattle.wrapped_code.specs.Dead.{DeadCodeMayChange};
 ghost use Rattle.wrapped_code.specs.Handlers.{ReadCodeHasNoHandlers};
 ghost use Rattle.wrapped_code.specs.Laws.{UnwrappedCodeDoes, ValuesInBlocks, WrappedCodeDoes, WrappedModulesDoMore, WrappedModulesStayValid};
 ghost use Rattle.wrapped_code.specs.Tables.{TablesLoseNothing};
@@ -98,4 +99,13 @@ pub fn some_conditions_are_as_true()
     ensures { ConditionsAsTrue }
 {
     valid_code_runs();
+}
+
+/// A function without blocks that catch exceptions, in which code that is never reached was replaced, put in or taken out, does as
+/// it did.
+pub fn dead_code_may_change()
+    ensures { DeadCodeMayChange }
+{
+    validity_goes_by_types();
+    valid_bodies_stay_valid();
 }
