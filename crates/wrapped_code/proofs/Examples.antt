@@ -1,6 +1,6 @@
 -- A loop that counts down, whose difference stands in a block, in the part of a conditional, and before a conditional branch, run and checked by the
 -- definitions alone; and wrapped code that the standard's algorithm refuses.
-use Rattle.std.specs.Prelude.{◌≡◌, refl, ℕ, pos, List, [], ◌∷◌, Some, None}
+use Rattle.std.specs.Prelude.{◌≡◌, refl, ℕ, ◌^◌, pos, List, [], ◌∷◌, Some, None}
 use Rattle.wasm_code.specs.Instruction.{Instruction}
 use Rattle.wasm_code.specs.declared.immediate.BlockType.{BlockType}
 use Rattle.wasm_code.specs.declared.immediate.BlockType.TheVariants as type
@@ -13,31 +13,34 @@ use Rattle.wasm_types.specs.Module.{Module}
 use Rattle.wasm_types.specs.declared.types.PrimitiveTypeInfo.TheVariants as primitive
 use Rattle.peephole_machine.specs.declared.integer.IntegerType.TheVariants as integer
 use Rattle.peephole_machine.specs.Values.{whole, context_in, World, State, Ends}
-use Rattle.peephole_machine.specs.IntegerRow.{integer_row}
+use Rattle.peephole_machine.specs.IntegerRow.{constant, integer_row}
 use Rattle.peephole_programs.specs.control.Function.{structural, Done, At, runs}
 use Rattle.peephole_programs.specs.control.Standard.{Beyond, standard}
 use Rattle.peephole_programs.specs.validation.Algorithm.{check}
 use Rattle.peephole_programs.specs.validation.StandardSteps.{body_frame, standard_steps}
 use Rattle.wrapped_code.specs.Wrapped.{once, Wrapped, plain, both, block, loop, choice, leaving, exits, trap, written}
 
-abbrev get : Instruction
+abbrev pub get : Instruction
 get = record { row = 4; imm = imm.Index 0 }
 
-abbrev number : ℕ → Instruction
+abbrev pub number : ℕ → Instruction
 number n = record { row = 36; imm = imm.I32 (pos n) }
 
--- local.get 0; i32.const 1; i32.sub
-abbrev difference : Wrapped
-difference = plain (get ∷ number 1 ∷ record { row = 78; imm = imm.Nothing } ∷ [])
+abbrev pub minus : Instruction
+minus = record { row = 78; imm = imm.Nothing }
 
-abbrev one_i32 : BlockType
+-- local.get 0; i32.const 1; i32.sub
+abbrev pub difference : Wrapped
+difference = plain (get ∷ number 1 ∷ minus ∷ [])
+
+abbrev pub one_i32 : BlockType
 one_i32 = type.Value val.I32
 
 -- loop; the code; local.tee 0; br_if 0; end; local.get 0; end
-abbrev countdown : Wrapped → List Operator
+abbrev pub countdown : Wrapped → List Operator
 countdown c = op.Loop type.Empty ∷ written c (op.Instr (record { row = 6; imm = imm.Index 0 }) ∷ op.BrIf 0 ∷ op.End ∷ op.Instr get ∷ op.End ∷ [])
 
-abbrev in_block : Wrapped
+abbrev pub in_block : Wrapped
 in_block = block one_i32 difference
 
 -- i32.const 1; if (result i32); the difference; else; unreachable; end
@@ -59,7 +62,7 @@ before_jump = once one_i32 (both difference (plain (number 0 ∷ [])))
 spelled : countdown in_block ≡
     op.Loop type.Empty
     ∷ op.Block one_i32
-    ∷ op.Instr get ∷ op.Instr (number 1) ∷ op.Instr (record { row = 78; imm = imm.Nothing })
+    ∷ op.Instr get ∷ op.Instr (number 1) ∷ op.Instr minus
     ∷ op.End
     ∷ op.Instr (record { row = 6; imm = imm.Index 0 })
     ∷ op.BrIf 0
@@ -129,3 +132,11 @@ refused : (m : Module) (beyond : Beyond) →
     (countdown (block (type.Value val.I64) difference)) (body_frame (primitive.I32 ∷ []) ∷ []) ≡ None
 unfolding integer_row row_at table
 refused m beyond = refl
+
+-- a constant of more bits than its type has is cut to these, and may so be zero
+too_large : integer_row (number (2 ^ 32)) ≡ constant integer.I32 (2 ^ 32)
+unfolding integer_row row_at table
+too_large = refl
+
+zero_then : (whole integer.I32 (2 ^ 32)).number ≡ 0
+zero_then = refl

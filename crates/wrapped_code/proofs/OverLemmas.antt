@@ -40,8 +40,8 @@ length_known : (ts : List PrimitiveTypeInfo) → length (known ts) ≡ length ts
 length_known ts = length-map ts (λ (t : PrimitiveTypeInfo). Some t)
 
 -- the frame of code that needs nothing
-abbrev free : Frame
-free = record { opened = None; starts = []; ends = []; operands = []; unreachable = false }
+abbrev pub empty_frame : Frame
+empty_frame = record { opened = None; starts = []; ends = []; operands = []; unreachable = false }
 
 module _ (valid : ValidCodeRuns) (context : Context) where
   -- ---- above every stack
@@ -83,19 +83,21 @@ module _ (valid : ValidCodeRuns) (context : Context) where
       go d Stuck h next = absurd h
 
   module _ (own : List Instruction) (us : List PrimitiveTypeInfo) (pushes : Pushes context own [] us) where
-    own_ends : (s : State) → HasTypes context s → EndsIn context [] (with_types us free) (run own [] s)
+    pub own_ends : (s : State) → HasTypes context s → EndsIn context [] (with_types us empty_frame) (run own [] s)
     own_ends s typed =
-        valid context own free (with_types us free) [] [] s (pushes free) (record { operands_are = refl; reached = refl }) (All-nil IsValue) typed
+        valid context own empty_frame (with_types us empty_frame) [] [] s (pushes empty_frame)
+        (record { operands_are = refl; reached = refl }) (All-nil IsValue) typed
 
-    own_over : (stack : List Value) (s : State) → HasTypes context s → run own stack s ≡ above stack (run own [] s)
+    pub own_over : (stack : List Value) (s : State) → HasTypes context s → run own stack s ≡ above stack (run own [] s)
     own_over stack s typed =
         ap (λ (x : List Value). run own x s) (sym (append-nil stack)) ∙
-        run_over own free (with_types us free) stack [] s (pushes free) (record { operands_are = refl; reached = refl }) (All-nil IsValue) typed
+        run_over own empty_frame (with_types us empty_frame) stack [] s (pushes empty_frame)
+        (record { operands_are = refl; reached = refl }) (All-nil IsValue) typed
 
     pub never_stuck : (stack : List Value) (s : State) → HasTypes context s → run own stack s ≢ Stuck
     never_stuck stack s typed e = go (run own [] s) (own_ends s typed) (sym (own_over stack s typed) ∙ e)
       where
-        go : (o : Outcome) → EndsIn context [] (with_types us free) o → above stack o ≡ Stuck → ⊥
+        go : (o : Outcome) → EndsIn context [] (with_types us empty_frame) o → above stack o ≡ Stuck → ⊥
         go (Ends vs u) h z = absurd cc
         go (Traps cause gs r) h z = absurd cc
         go Stuck h z = absurd h
@@ -106,7 +108,7 @@ module _ (valid : ValidCodeRuns) (context : Context) where
     abbrev pub taken : (height : ℕ) → List Value → State → Outcome
     taken height vs u = Ends (unwound height (length us) vs) u
 
-    drops : (stack extra : List Value) (o : Outcome) → EndsIn context [] (with_types us free) o →
+    drops : (stack extra : List Value) (o : Outcome) → EndsIn context [] (with_types us empty_frame) o →
         then_run (above (stack ++ extra) o) (taken (length stack - 0)) ≡ above stack o
     drops stack extra (Ends xs u) (ws, is, values, b, typed) =
         let same : xs ≡ ws = is in

@@ -14,7 +14,8 @@ use Rattle.peephole_programs.specs.modules.Running.{DoesMore}
 use Rattle.peephole_programs.specs.modules.Program.{Body, context_for}
 use Rattle.peephole_programs.specs.validation.StaysValid.{Pushes}
 use Rattle.peephole_programs.specs.control.Wider.{wider_module, wider}
-use Rattle.wrapped_code.specs.Wrapped.{Wrapped, written, WrappedRunsAs, WrappedChecksAs}
+use Rattle.wrapped_code.specs.Wrapped.{Wrapped, written, has_operators, WrappedRunsAs, WrappedChecksAs}
+use Rattle.wrapped_code.specs.Ways.{WrappedPushes}
 use Rattle.wrapped_code.specs.Handlers.{none_handle}
 
 -- The new function is the old one, but that instructions that lie together, at least one, are replaced by wrapped code, which runs and is checked as they
@@ -68,3 +69,28 @@ ValuesInBlocks =
     (with_operators (front ++ (Block (Value t) ∷ (map (λ (i : Instruction). Instr i) code ++ (End ∷ back)))) old)
     × DoesAs m input more old
     (with_operators (front ++ (Loop (Value t) ∷ (map (λ (i : Instruction). Instr i) code ++ (End ∷ back)))) old)
+
+-- ---- the other way round
+
+-- The new function is the old one, but that wrapped code, at least one operator, is replaced by instructions, at least one, that push what it pushes, and as
+-- which it runs. No globals are asked for, and no block catches exceptions.
+pub record Unwraps (m : Module) (input : List ℕ) (old new : Body) : Type 0 where
+  pub params_are : old.params ≡ new.params
+  pub locals_are : old.locals ≡ new.locals
+  pub unhandled : none_handle old.operators ≡ true
+  pub front : List Operator
+  pub back : List Operator
+  pub head : Instruction
+  pub own : List Instruction
+  pub code : Wrapped
+  pub there : has_operators code ≡ true
+  pub old_is : old.operators ≡ front ++ written code back
+  pub new_is : new.operators ≡ front ++ (map (λ (i : Instruction). Instr i) (head ∷ own) ++ back)
+  pub pushed : List PrimitiveTypeInfo
+  pub pushes : Pushes (context_for m old) (head ∷ own) [] pushed
+  pub pushes_so : WrappedPushes (context_for m old) code [] pushed
+  pub runs : WrappedRunsAs (context_for m old) [] (head ∷ own) code
+
+-- Such a function does as the old one: what pushes types from nothing is never stuck there, so that neither function is where the other isn't.
+abbrev pub UnwrappedCodeDoes : Type 0
+UnwrappedCodeDoes = (m : Module) (input : List ℕ) (old new : Body) → Unwraps m input old new → DoesAs m input [] old new

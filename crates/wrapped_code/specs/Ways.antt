@@ -1,5 +1,5 @@
 -- Ways to wrap code: which code pushes what, and which runs as the instructions that it replaces (this project).
-use Rattle.std.specs.Prelude.{◌≡◌, ℕ, suc, ◌^◌, ◌<◌, true, List, [], ◌∷◌, ◌++◌, Some, is_some}
+use Rattle.std.specs.Prelude.{◌≡◌, ℕ, suc, ◌^◌, ◌<◌, ◌==◌, Bool, true, false, not, ◌&&◌, ◌||◌, List, [], ◌∷◌, ◌++◌, Some, is_some}
 use Rattle.std.specs.List.{All}
 use Rattle.wasm_code.specs.Instruction.{Instruction}
 use Rattle.wasm_code.specs.declared.immediate.BlockType.{BlockType}
@@ -8,9 +8,10 @@ use Rattle.wasm_types.specs.declared.types.PrimitiveTypeInfo.TheVariants as prim
 use Rattle.peephole_machine.specs.declared.integer.IntegerType.{IntegerType}
 use Rattle.peephole_machine.specs.declared.integer.IntegerType.TheVariants as integer
 use Rattle.peephole_machine.specs.Integer.{IntegerOperator}
+use Rattle.peephole_machine.specs.OtherRow.{changes}
 use Rattle.peephole_machine.specs.Agreement.{EndsTyped}
-use Rattle.peephole_machine.specs.Values.{type_of, Value, IsValue, Context, State, Variable, HasTypes, Outcome, Ends, above}
-use Rattle.peephole_machine.specs.IntegerRow.{constant, operation, get, select, variable_type, is_numeric, integer_row}
+use Rattle.peephole_machine.specs.Values.{type_of, Value, IsValue, Context, State, Variable, local, global, HasTypes, Outcome, Ends, above}
+use Rattle.peephole_machine.specs.IntegerRow.{IntegerRow, constant, operation, get, set, tee, select, other, variable_type, is_numeric, integer_row}
 use Rattle.peephole_machine.specs.Machine.{run}
 use Rattle.peephole_programs.specs.control.Function.{RunsAs}
 use Rattle.peephole_programs.specs.control.Blocks.{arity_of, has_arity}
@@ -101,9 +102,9 @@ pub record IsAlone (context : Context) (t : PrimitiveTypeInfo) (code : List Inst
   pub gives : (stack : List Value) (s : State) → All IsValue stack → HasTypes context s → run code stack s ≡ above stack (does s)
 
 -- It leaves that pure code's value as it is.
-abbrev pub LeavesValue : (context : Context) (t u : PrimitiveTypeInfo) (code other : List Instruction) → IsAlone context t code → IsPure context u other →
+abbrev pub LeavesValue : (context : Context) (t u : PrimitiveTypeInfo) (code beside : List Instruction) → IsAlone context t code → IsPure context u beside →
     Type 0
-LeavesValue context t u code other alone pure =
+LeavesValue context t u code beside alone pure =
     (s after : State) (vs : List Value) → HasTypes context s → alone.does s ≡ Ends vs after → pure.value after ≡ pure.value s
 
 -- Code that is pure: a constant, a variable's value, and an integer operator that never traps, on pure code.
@@ -117,6 +118,68 @@ pub record PureCode : Type 0 where
   pub of_two : (context : Context) (i : Instruction) (f : IntegerOperator) (t u : PrimitiveTypeInfo) (x y : List Instruction) →
       integer_row i ≡ operation f → f.operands ≡ t ∷ u ∷ [] → ((n k : ℕ) → is_some (f.value (n ∷ k ∷ [])) ≡ true) → IsPure context t x →
       IsPure context u y → IsPure context (type_of f.result) (x ++ (y ++ i ∷ []))
+
+-- ---- what typed code leaves as it is
+
+-- the same variable
+abbrev pub same_variable : Variable → Variable → Bool
+same_variable (local i) (local j) = i == j
+same_variable (global i) (global j) = i == j
+same_variable x y = false
+
+-- the row may write the variable: a global also where it is no integer row, and may change more than the stack
+abbrev pub row_writes : Variable → IntegerRow → Bool
+row_writes x (set y) = same_variable x y
+row_writes x (tee y) = same_variable x y
+row_writes (global n) (other i) = changes i
+row_writes x row = false
+
+-- one of the instructions may
+abbrev pub code_writes : Variable → List Instruction → Bool
+code_writes x [] = false
+code_writes x (i ∷ code) = row_writes x (integer_row i) || code_writes x code
+
+-- the row may change more than the stack: a variable, or what a world does
+abbrev pub row_changes : IntegerRow → Bool
+row_changes (set x) = true
+row_changes (tee x) = true
+row_changes (other i) = changes i
+row_changes row = false
+
+-- one of the instructions may
+abbrev pub code_changes : List Instruction → Bool
+code_changes [] = false
+code_changes (i ∷ code) = row_changes (integer_row i) || code_changes code
+
+-- the row is an integer row that writes nothing, and reads no variable that the code may write
+abbrev pub row_is_left : List Instruction → IntegerRow → Bool
+row_is_left code (get x) = not (code_writes x code)
+row_is_left code (set x) = false
+row_is_left code (tee x) = false
+row_is_left code (other i) = false
+row_is_left code row = true
+
+-- all of those beside it are so
+abbrev pub is_left : (code beside : List Instruction) → Bool
+is_left code [] = true
+is_left code (i ∷ beside) = row_is_left code (integer_row i) && is_left code beside
+
+-- Code that pushes one value does the same above every stack. It leaves a constant's value as it is; that of a variable that it doesn't write; that of integer
+-- rows over such ones; and all where it changes nothing.
+pub record CodeIsAlone : Type 0 where
+  pub alone : (context : Context) (t : PrimitiveTypeInfo) (code : List Instruction) → Pushes context code [] (t ∷ []) → IsAlone context t code
+  pub constant_stays : (context : Context) (t u : PrimitiveTypeInfo) (code : List Instruction) (i : Instruction) (k : IntegerType) (n : ℕ)
+      (alone : IsAlone context t code) (pure : IsPure context u (i ∷ [])) → integer_row i ≡ constant k n →
+      LeavesValue context t u code (i ∷ []) alone pure
+  pub variable_stays : (context : Context) (t u : PrimitiveTypeInfo) (code : List Instruction) (i : Instruction) (x : Variable)
+      (alone : IsAlone context t code) (pure : IsPure context u (i ∷ [])) → integer_row i ≡ get x → code_writes x code ≡ false →
+      LeavesValue context t u code (i ∷ []) alone pure
+  pub left_stays : (context : Context) (t u : PrimitiveTypeInfo) (code beside : List Instruction) (alone : IsAlone context t code)
+      (pure : IsPure context u beside) → is_left code beside ≡ true → LeavesValue context t u code beside alone pure
+  pub all_stays : (context : Context) (t u : PrimitiveTypeInfo) (code beside : List Instruction) (alone : IsAlone context t code)
+      (pure : IsPure context u beside) → code_changes code ≡ false → LeavesValue context t u code beside alone pure
+
+-- ---- code that does as instructions
 
 -- What runs as the instructions that it replaces: instructions that do; code that does, in a block or a loop; as the part of a conditional that a
 -- constant chooses; before a branch to the end of its block, where the instructions push what the block gives, also under a pure condition, whatever that

@@ -1,15 +1,17 @@
 //! What holds where instructions are replaced by code with control flow of its own. A function here does nothing: its contract is the law.
 
+ghost use Rattle.wrapped_code.specs.Conditions.{ConditionsAsTrue, ConditionsMayChange};
+ghost use Rattle.wrapped_code.specs.Dead.{DeadCodeMayChange};
 ghost use Rattle.wrapped_code.specs.Handlers.{ReadCodeHasNoHandlers};
-ghost use Rattle.wrapped_code.specs.Laws.{ValuesInBlocks, WrappedCodeDoes, WrappedModulesDoMore, WrappedModulesStayValid};
+ghost use Rattle.wrapped_code.specs.Laws.{UnwrappedCodeDoes, ValuesInBlocks, WrappedCodeDoes, WrappedModulesDoMore, WrappedModulesStayValid};
 ghost use Rattle.wrapped_code.specs.Tables.{TablesLoseNothing};
-ghost use Rattle.wrapped_code.specs.Ways.{PureCode, PushedCodeChecksAs, PushingCodeIsThere, WrappedCodePushes, WrappedCodeRuns};
+ghost use Rattle.wrapped_code.specs.Ways.{CodeIsAlone, PureCode, PushedCodeChecksAs, PushingCodeIsThere, WrappedCodePushes, WrappedCodeRuns};
 
 use peephole_programs::laws::{
     one_function_is_rewritten, standard_control_is_sound, valid_modules_do_more,
 };
 use peephole_programs::validity::{
-    valid_bodies_stay_valid, valid_code_runs, validity_goes_by_types,
+    replaced_code_stays_valid, valid_bodies_stay_valid, valid_code_runs, validity_goes_by_types,
 };
 
 /// A function in which instructions were replaced by wrapped code, and which has no block that catches exceptions, does as it did
@@ -25,6 +27,16 @@ pub fn wrapped_code_does_as_before()
     valid_modules_do_more();
     validity_goes_by_types();
     valid_bodies_stay_valid();
+}
+
+/// The other way round: a function in which wrapped code was replaced by instructions does as it did.
+pub fn unwrapped_code_does_as_before()
+    ensures { UnwrappedCodeDoes }
+{
+    standard_control_is_sound();
+    validity_goes_by_types();
+    valid_bodies_stay_valid();
+    valid_code_runs();
 }
 
 /// What wrapped code pushes (`push`), that it is checked as instructions that push the same (`alike`), and that it has an operator
@@ -59,7 +71,41 @@ pub fn some_code_is_pure()
     ensures { PureCode }
 {}
 
+/// Code that pushes one value does the same above every stack, and leaves the values of what it doesn't write.
+pub fn typed_code_is_alone()
+    ensures { CodeIsAlone }
+{
+    valid_code_runs();
+}
+
 /// A body that was read has no block that catches exceptions.
 pub fn read_code_has_no_handlers()
     ensures { ReadCodeHasNoHandlers }
 {}
+
+/// A function in which the condition of a branch or of a conditional was replaced by one that is zero where it is does as it did.
+pub fn conditions_may_change()
+    ensures { ConditionsMayChange }
+{
+    standard_control_is_sound();
+    validity_goes_by_types();
+    replaced_code_stays_valid();
+    valid_bodies_stay_valid();
+    valid_code_runs();
+}
+
+/// Some conditions are zero alike: also with `i32.const 0` and `i32.ne` behind them, or with `i32.eqz` twice.
+pub fn some_conditions_are_as_true()
+    ensures { ConditionsAsTrue }
+{
+    valid_code_runs();
+}
+
+/// A function without blocks that catch exceptions, in which code that is never reached was replaced, put in or taken out, does as
+/// it did.
+pub fn dead_code_may_change()
+    ensures { DeadCodeMayChange }
+{
+    validity_goes_by_types();
+    valid_bodies_stay_valid();
+}

@@ -1,0 +1,152 @@
+-- A function in which wrapped code was replaced by instructions does as it did.
+use Rattle.std.proofs.Common.{◌≡◌, ℕ, List, [], ◌∷◌, ◌++◌, refl, sym, ap, ap₂, ◌∙◌, subst}
+use Rattle.std.specs.Prelude.{map}
+use Rattle.wasm_code.specs.Instruction.{Instruction}
+use Rattle.wasm_code.specs.declared.operator.Operator.{Operator}
+use Rattle.wasm_code.specs.declared.operator.Operator.TheVariants as op
+use Rattle.wasm_types.specs.Module.{Module}
+use Rattle.wasm_types.specs.declared.types.PrimitiveTypeInfo.{PrimitiveTypeInfo}
+use Rattle.peephole_machine.specs.Values.{Context}
+use Rattle.peephole_programs.specs.control.Function.{structural, EndsAlike}
+use Rattle.peephole_programs.specs.modules.Program.{Body, context_for}
+use Rattle.peephole_programs.specs.control.Blocks.{role_of}
+use Rattle.peephole_programs.specs.control.Standard.{Beyond, asked_before, by_asked, standard}
+use Rattle.peephole_programs.specs.validation.Sound.{ValidCodeRuns, IsValid, HasTargets, HasDeeds, TargetsStay, DeedsStay}
+use Rattle.peephole_programs.specs.validation.StaysValid.{MoreGlobalsCheckAlike}
+use Rattle.peephole_programs.specs.control.Wider.{wider_module, wider}
+use Rattle.peephole_programs.specs.control.Laws.{StandardControlIsSound}
+use Rattle.peephole_programs.specs.hosts.Embedder.{DoesAs}
+use Rattle.wrapped_code.specs.Wrapped.{Wrapped, written}
+use Rattle.wrapped_code.specs.Handlers.{none_handle}
+use Rattle.wrapped_code.specs.Laws.{Unwraps, UnwrappedCodeDoes}
+use Rattle.wrapped_code.proofs.PlaceLemmas.{bones, past, coded_structure, written_structure, bones_append, past_counts, count, front_structure}
+use Rattle.wrapped_code.proofs.MovedLemmas.{moved, get_moved}
+use Rattle.wrapped_code.proofs.HandlerLemmas.{NoHandler, no_handler}
+use Rattle.wrapped_code.proofs.TableLemmas.{no_tables, tables_moved}
+use Rattle.wrapped_code.proofs.DoesLemmas.{uncaught, number_of, by_number, Fits}
+use Rattle.wrapped_code.proofs.UnwrapLemmas.{unwrapped_alike}
+use Rattle.wrapped_code.proofs.UncheckLemmas.{unwrapped_valid}
+
+-- ---- operators by their numbers
+
+module _ (front ys : List Operator) (c : Wrapped) where
+  abbrev xs : List Operator
+  xs = structural front
+
+  abbrev middle : List Operator
+  middle = bones c []
+
+  abbrev n : ℕ
+  n = count front
+
+  abbrev m : ℕ
+  m = past c 0
+
+  abbrev with_code : List Operator
+  with_code = xs ++ (middle ++ ys)
+
+  abbrev without : List Operator
+  without = xs ++ ys
+
+  numbers : (k : ℕ) → asked_before with_code (moved n m k) ≡ asked_before without k
+  numbers k = tables_moved xs middle ys n m refl (past_counts c []) (no_tables c []) k
+
+  no_handler_left : NoHandler with_code → NoHandler without
+  no_handler_left h k o at t = h (moved n m k) o (get_moved xs middle ys n m refl (past_counts c []) k ∙ at) t
+
+  targets_left : (info : Module) (beyond : Beyond) → HasTargets info with_code (by_asked with_code beyond) →
+      HasTargets info without (by_asked without beyond)
+  targets_left info beyond h k type table rest place call at e =
+      h (moved n m k) type table rest place call (get_moved xs middle ys n m refl (past_counts c []) k ∙ at)
+      (ap (λ j. beyond.target j place rest) (numbers k) ∙ e)
+
+  deeds_left : (info : Module) (beyond : Beyond) (results : List PrimitiveTypeInfo) → NoHandler without →
+      HasDeeds info results with_code (by_asked with_code beyond) → HasDeeds info results without (by_asked without beyond)
+  deeds_left info beyond results none h = record {
+    deeds = λ k o operands rest at part t a.
+        by_number info beyond xs ys c results without k (beyond.deed (asked_before without k) operands rest)
+        (subst (λ (j : ℕ). Fits info beyond xs ys c results j operands rest) (numbers k)
+        (λ t. number_of info beyond xs ys c results with_code (moved n m k) (beyond.deed (asked_before with_code (moved n m k)) operands rest)
+        (h.deeds (moved n m k) o operands rest (get_moved xs middle ys n m refl (past_counts c []) k ∙ at) part t a)) t);
+    caught = λ k mark rest o x at e. uncaught without (by_asked without beyond) k (role_of o) x (none k o at);
+  }
+
+-- ---- a function
+
+module _ (law : StandardControlIsSound) (alike_law : MoreGlobalsCheckAlike) (targets_stay : TargetsStay) (deeds_stay : DeedsStay)
+    (valid_law : ValidCodeRuns) (m : Module) (input : List ℕ) (old new : Body) (w : Unwraps m input old new) where
+  abbrev context : Context
+  context = context_for m old
+
+  abbrev old_body : List Operator
+  old_body = w.front ++ written w.code w.back
+
+  abbrev new_body : List Operator
+  new_body = w.front ++ (map (λ (i : Instruction). op.Instr i) (w.head ∷ w.own) ++ w.back)
+
+  abbrev ys : List Operator
+  ys = structural w.back
+
+  old_structure : structural old_body ≡ structural w.front ++ (bones w.code [] ++ ys)
+  old_structure =
+      front_structure w.front (written w.code w.back) ∙
+      ap (λ os. structural w.front ++ os) (written_structure w.code w.back ∙ bones_append w.code [] ys)
+
+  new_structure : structural new_body ≡ structural w.front ++ ys
+  new_structure =
+      front_structure w.front (map (λ (i : Instruction). op.Instr i) (w.head ∷ w.own) ++ w.back) ∙
+      ap (λ os. structural w.front ++ os) (coded_structure (w.head ∷ w.own) w.back)
+
+  unhandled : NoHandler (structural w.front ++ ys)
+  unhandled =
+      no_handler_left w.front ys w.code
+      (subst NoHandler old_structure (no_handler old_body (ap none_handle (sym w.old_is) ∙ w.unhandled)))
+
+  alike : (results : List PrimitiveTypeInfo) (beyond : Beyond) →
+      EndsAlike context [] (standard m results (structural old_body) (by_asked (structural old_body) beyond))
+      (standard m results (structural new_body) (by_asked (structural new_body) beyond)) old_body new_body
+  alike results beyond =
+      unwrapped_alike context law valid_law results beyond w.front w.back (w.head ∷ w.own) w.code w.runs w.pushed w.pushes
+      (subst NoHandler (sym new_structure) unhandled)
+
+  valid : (results : List PrimitiveTypeInfo) (beyond : Beyond) → IsValid context results (by_asked (structural old_body) beyond) old_body →
+      IsValid (wider input [] context) results (by_asked (structural new_body) beyond) new_body
+  valid results beyond =
+      unwrapped_valid alike_law input context results beyond w.front w.back w.head w.own w.code w.there w.pushed w.pushes w.pushes_so
+
+  targets : (beyond : Beyond) → HasTargets m (structural old_body) (by_asked (structural old_body) beyond) →
+      HasTargets (wider_module input [] m) (structural new_body) (by_asked (structural new_body) beyond)
+  targets beyond h =
+      targets_stay m input [] (structural new_body) (by_asked (structural new_body) beyond)
+      (subst (λ (os : List Operator). HasTargets m os (by_asked os beyond)) (sym new_structure)
+      (targets_left w.front ys w.code m beyond (subst (λ (os : List Operator). HasTargets m os (by_asked os beyond)) old_structure h)))
+
+  deeds : (results : List PrimitiveTypeInfo) (beyond : Beyond) → HasDeeds m results (structural old_body) (by_asked (structural old_body) beyond) →
+      HasDeeds (wider_module input [] m) results (structural new_body) (by_asked (structural new_body) beyond)
+  deeds results beyond h =
+      deeds_stay m input [] results (structural new_body) (by_asked (structural new_body) beyond)
+      (subst (λ (os : List Operator). HasDeeds m results os (by_asked os beyond)) (sym new_structure)
+      (deeds_left w.front ys w.code m beyond results unhandled
+      (subst (λ (os : List Operator). HasDeeds m results os (by_asked os beyond)) old_structure h)))
+
+  does_same : DoesAs m input [] old new
+  does_same = record {
+    params_are = w.params_are;
+    locals_are = w.locals_are;
+    alike = λ results beyond. subst (λ (x : List Operator × List Operator). EndsAlike context []
+        (standard m results (structural x.0) (by_asked (structural x.0) beyond)) (standard m results (structural x.1) (by_asked (structural x.1) beyond))
+        x.0 x.1) are (alike results beyond);
+    valid = λ results beyond. subst (λ (x : List Operator × List Operator). IsValid context results (by_asked (structural x.0) beyond) x.0 →
+        IsValid (wider input [] context) results (by_asked (structural x.1) beyond) x.1) are (valid results beyond);
+    targets = λ beyond. subst (λ (x : List Operator × List Operator). HasTargets m (structural x.0) (by_asked (structural x.0) beyond) →
+        HasTargets (wider_module input [] m) (structural x.1) (by_asked (structural x.1) beyond)) are (targets beyond);
+    deeds = λ results beyond. subst (λ (x : List Operator × List Operator). HasDeeds m results (structural x.0) (by_asked (structural x.0) beyond) →
+        HasDeeds (wider_module input [] m) results (structural x.1) (by_asked (structural x.1) beyond)) are (deeds results beyond);
+  }
+    where
+      are : ◌≡◌ {A = List Operator × List Operator} (old_body, new_body) (old.operators, new.operators)
+      are = ap₂ (λ (x y : List Operator). (x, y)) (sym w.old_is) (sym w.new_is)
+
+pub unwrapped_does : StandardControlIsSound → MoreGlobalsCheckAlike → TargetsStay → DeedsStay → ValidCodeRuns → UnwrappedCodeDoes
+unwrapped_does law alike_law targets_stay deeds_stay valid_law m input old new w =
+    does_same law alike_law targets_stay deeds_stay valid_law m input old new w
