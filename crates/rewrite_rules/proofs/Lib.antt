@@ -29,4 +29,5 @@ pub mod GrowingLemmas
 pub mod ApplyingLemmas
 pub mod AccessFormedLemmas
 pub mod WrapLemmas
+pub mod FlowLemmas
 pub mod beside

@@ -106,7 +106,7 @@ items_are (i ∷ items) v (o ∷ os) e =
 -- ---- types
 
 -- the type of values that are wrapped is the block's, whatever references have
-merged_is : (one_reference : Bool) (t : PrimitiveTypeInfo) (v : ValType) → value_of t ≡ Some v → merged one_reference (value_type v) ≡ t
+pub merged_is : (one_reference : Bool) (t : PrimitiveTypeInfo) (v : ValType) → value_of t ≡ Some v → merged one_reference (value_type v) ≡ t
 merged_is b primitive.I32 v e = let is : value.I32 ≡ v = cc in subst (λ u. merged b (value_type u) ≡ primitive.I32) is refl
 merged_is b primitive.I64 v e = let is : value.I64 ≡ v = cc in subst (λ u. merged b (value_type u) ≡ primitive.I64) is refl
 merged_is b primitive.F32 v e = let is : value.F32 ≡ v = cc in subst (λ u. merged b (value_type u) ≡ primitive.F32) is refl
@@ -121,7 +121,7 @@ merged_is b primitive.Empty v e = absurd cc
 abbrev number : ℕ → Instruction
 number n = constant_code integer.I32 n
 
-number_row : (n : ℕ) → n < 2 ^ 32 → integer_row (number n) ≡ row.constant integer.I32 n
+pub number_row : (n : ℕ) → n < 2 ^ 32 → integer_row (number n) ≡ row.constant integer.I32 n
 number_row n l =
     constant_row integer.I32 n ∙
     ap (λ m. row.constant integer.I32 m) (of_z-to_z w32 (n % 2 ^ 32) (mod-lt n (pow_pos 32)) ∙ mod-eq_of_lt l)

@@ -5,6 +5,7 @@ use Rattle.rewrite_rules.specs.declared.growth.Growth as code
 use Rattle.rewrite_rules.specs.declared.growth.Growth.TheVariants.{Shrinks, Keeps, Grows}
 use Rattle.rewrite_rules.specs.declared.table.Own as beside
 use Rattle.rewrite_rules.specs.declared.table.Own.TheVariants.{Unfold, ThroughGlobal, WithNop, Fold, Forget, TeeToSet, DropNop, SetToTee, Access, Wrap, Unwrap}
+use Rattle.rewrite_rules.specs.declared.table.Own.TheVariants.{SelectToIf, IfToSelect, TestCondition, DropConditionTest, DoubleCondition, DropDoubleCondition, PutDead, DropDead}
 use Rattle.rewrite_rules.specs.declared.table.Row.{Row}
 use Rattle.rewrite_rules.specs.declared.table.Step.{Step}
 use Rattle.rewrite_rules.specs.declared.table.Step.TheVariants.{Operand, End}
@@ -45,6 +46,14 @@ own_growth SetToTee = Shrinks
 own_growth (Access n) = growth_told (access_at n)
 own_growth (Wrap w) = Grows
 own_growth (Unwrap w) = Shrinks
+own_growth SelectToIf = Grows
+own_growth IfToSelect = Shrinks
+own_growth TestCondition = Grows
+own_growth DropConditionTest = Shrinks
+own_growth DoubleCondition = Grows
+own_growth DropDoubleCondition = Shrinks
+own_growth PutDead = Grows
+own_growth DropDead = Shrinks
 
 -- It is what each of the row's lines that is well formed does; of a rule beside the table, what that does.
 pub record GrowsAs (row : Row) (growth : code.Growth) : Type 0 where

@@ -21,3 +21,4 @@ pub mod Texts
 pub mod Access
 pub mod Beside
 pub mod Wrap
+pub mod Flow

@@ -100,6 +100,14 @@ impl Own {
             },
             Own::Wrap(_) => Growth::Grows,
             Own::Unwrap(_) => Growth::Shrinks,
+            Own::SelectToIf => Growth::Grows,
+            Own::IfToSelect => Growth::Shrinks,
+            Own::TestCondition => Growth::Grows,
+            Own::DropConditionTest => Growth::Shrinks,
+            Own::DoubleCondition => Growth::Grows,
+            Own::DropDoubleCondition => Growth::Shrinks,
+            Own::PutDead => Growth::Grows,
+            Own::DropDead => Growth::Shrinks,
         }
     }
 }

@@ -12,9 +12,13 @@ ghost use Rattle.rewrite_rules.specs.Operands.{TypesAreTold};
 ghost use Rattle.rewrite_rules.specs.Holes.{HolesAreTold};
 ghost use Rattle.rewrite_rules.specs.Beside.{BesidesKeepCode};
 ghost use Rattle.rewrite_rules.specs.Wrap.{WrapsAreRight};
+ghost use Rattle.rewrite_rules.specs.Flow.{SelectsAreConditionals, TestsAreConditions, DroppedCodePushesNothing, DroppedConstantsPushNothing};
 
 use peephole_programs::validity::{typed_rows_check, validity_goes_by_types};
-use wrapped_code::laws::{wrapped_code_pushes, wrapped_code_runs};
+use wrapped_code::laws::{
+    some_code_is_pure, some_conditions_are_as_true, typed_code_is_alone, wrapped_code_pushes,
+    wrapped_code_runs,
+};
 
 /// What a line asks of the operands in its holes is computed once from its two sides.
 pub fn needs_are_enough()
@@ -87,6 +91,39 @@ pub fn wraps_are_right()
     typed_rows_check();
     wrapped_code_pushes();
     wrapped_code_runs();
+}
+
+/// A select of constants and variables, whose condition writes nothing, may be a conditional.
+pub fn selects_are_conditionals()
+    ensures { SelectsAreConditionals }
+{
+    typed_rows_check();
+    wrapped_code_pushes();
+    wrapped_code_runs();
+    some_code_is_pure();
+    typed_code_is_alone();
+}
+
+/// A condition may be tested, and a test of it taken away.
+pub fn tests_are_conditions()
+    ensures { TestsAreConditions }
+{
+    typed_rows_check();
+    some_conditions_are_as_true();
+}
+
+/// Code that leaves one value, and a drop, push nothing.
+pub fn dropped_code_pushes_nothing()
+    ensures { DroppedCodePushesNothing }
+{
+    typed_rows_check();
+}
+
+/// A constant and a drop push nothing.
+pub fn dropped_constants_push_nothing()
+    ensures { DroppedConstantsPushNothing }
+{
+    typed_rows_check();
 }
 
 /// What each of the accesses that are listed writes is well formed: rows and immediates go together, and an alignment that is at most

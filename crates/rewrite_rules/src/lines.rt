@@ -834,7 +834,7 @@ pub(crate) fn name_at(number: usize) -> Option<&'static str>
 }
 
 // How many lines there are.
-const LINE_COUNT: usize = 1318;
+const LINE_COUNT: usize = 1326;
 
 /// How many rows there are.
 pub fn row_count() -> usize

@@ -111,6 +111,22 @@ pub enum Own {
     Wrap(Wrap),
     /// The same taken away again.
     Unwrap(Wrap),
+    /// A `select` as a conditional.
+    SelectToIf,
+    /// A conditional as a `select`.
+    IfToSelect,
+    /// The condition of a branch or of a conditional, and whether it isn't zero.
+    TestCondition,
+    /// That test left out.
+    DropConditionTest,
+    /// The condition of a branch or of a conditional, and twice whether it is zero.
+    DoubleCondition,
+    /// Both tests left out.
+    DropDoubleCondition,
+    /// A constant that is dropped, where it is never reached.
+    PutDead,
+    /// The same left out.
+    DropDead,
 }
 
 /// What is asked of the number of a constant, by its index.
@@ -2104,8 +2120,8 @@ pub const FLOAT_LANE_BOUNDS: [TableLine; 8] = [
     row!(for (V128): [x (f64x2.neg) y (f64x2.neg) (f64x2.pmin) (f64x2.neg)] => [x y (f64x2.pmax)]),
 ];
 
-/// Values in control flow of their own, and back.
-pub const CONTROL: [TableLine; 20] = [
+/// Values in control flow of their own, selects as conditionals, tests of conditions, code that is never reached, and back.
+pub const CONTROL: [TableLine; 28] = [
     own!("in_block": Wrap InBlock),
     own!("drop_block": Unwrap InBlock),
     own!("in_loop": Wrap InLoop),
@@ -2126,4 +2142,12 @@ pub const CONTROL: [TableLine; 20] = [
     own!("drop_surely_leave": Unwrap SurelyLeave),
     own!("once": Wrap Once),
     own!("drop_once": Unwrap Once),
+    own!("select_to_if": SelectToIf),
+    own!("if_to_select": IfToSelect),
+    own!("test_condition": TestCondition),
+    own!("drop_condition_test": DropConditionTest),
+    own!("double_condition": DoubleCondition),
+    own!("drop_double_condition": DropDoubleCondition),
+    own!("put_dead": PutDead),
+    own!("drop_dead": DropDead),
 ];

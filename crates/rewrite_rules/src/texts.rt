@@ -360,6 +360,20 @@ impl fmt::Display for Own {
             },
             Own::Wrap(wrap) => write!(f, "x → {wrap}"),
             Own::Unwrap(wrap) => write!(f, "{wrap} → x"),
+            Own::SelectToIf => f.write_str("select x y c → c if x else y end"),
+            Own::IfToSelect => f.write_str("c if x else y end → select x y c"),
+            Own::TestCondition => f.write_str("br_if c, if c → br_if (ne c 0), if (ne c 0)"),
+            Own::DropConditionTest => f.write_str("br_if (ne c 0), if (ne c 0) → br_if c, if c"),
+            Own::DoubleCondition => {
+                f.write_str("br_if c, if c → br_if (eqz (eqz c)), if (eqz (eqz c))")
+            }
+            Own::DropDoubleCondition => {
+                f.write_str("br_if (eqz (eqz c)), if (eqz (eqz c)) → br_if c, if c")
+            }
+            Own::PutDead => f.write_str("br, return, unreachable → the same, drop r"),
+            Own::DropDead => f.write_str(
+                "br, return, unreachable, drop r → the same without drop r",
+            ),
         }
     }
 }

@@ -180,7 +180,7 @@ module _ (law : MoreGlobalsCheckAlike) (input : List ℕ) (more : List Primitive
   all = wider input more context
 
   -- the operators of the back, whose numbers moved
-  back_checks : (m : ℕ) (os : List Operator) (k j : ℕ) (frames left : List Frame) → j ≡ k + m →
+  pub back_checks : (m : ℕ) (os : List Operator) (k j : ℕ) (frames left : List Frame) → j ≡ k + m →
       ((i : ℕ) (fs : List Frame) → k ≤ i → a i fs ≡ b (i + m) fs) → check context a k os frames ≡ Some left → check all b j os frames ≡ Some left
   back_checks m [] k j frames left e same h = h
   back_checks m (op.Instr i ∷ os) k j frames left e same h =

@@ -20,8 +20,14 @@ mod WayLemmas
 mod UnwrapLemmas
 mod UncheckLemmas
 mod UnwrapDoesLemmas
+mod AlikeLemmas
+mod ConditionLemmas
+mod TruthLemmas
+mod DeadRunLemmas
+mod DeadLemmas
 mod BlockLemmas
 mod PlaceOfLemmas
 mod Examples
 mod UnwrapExamples
 mod HandlerExamples
+mod ChangeExamples

@@ -34,7 +34,7 @@ module _ (context : Context) where
   }
 
   -- a row on its operands
-  row_gives : (i : Instruction) (row : IntegerRow) (vs : List Value) (v : Value) (rs : List PrimitiveTypeInfo) (stack : List Value) (s : State) →
+  pub row_gives : (i : Instruction) (row : IntegerRow) (vs : List Value) (v : Value) (rs : List PrimitiveTypeInfo) (stack : List Value) (s : State) →
       integer_row i ≡ row → HasTypes context s → row_types context row (types vs) ≡ Some rs → operand_count s.world.info row ≡ length vs →
       effect row vs s ≡ Ends (v ∷ []) s → run (i ∷ []) (stack ++ vs) s ≡ Ends (stack ++ v ∷ []) s
   row_gives i row vs v rs stack s is h typed counted gives =

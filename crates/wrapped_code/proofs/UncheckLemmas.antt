@@ -94,7 +94,7 @@ module _ (law : MoreGlobalsCheckAlike) (input : List ℕ) (context : Context) wh
   abbrev all : Context
   all = wider input [] context
 
-  wider_code : (code : List Instruction) (f g : Frame) → check_code context code f ≡ Some g → check_code all code f ≡ Some g
+  pub wider_code : (code : List Instruction) (f g : Frame) → check_code context code f ≡ Some g → check_code all code f ≡ Some g
   wider_code [] f g h = h
   wider_code (i ∷ code) f g h =
       let (d, b, k) = and_then_some (check_code context code) (check_row context (integer_row i) f) g h in

@@ -32,10 +32,10 @@ use Rattle.wrapped_code.proofs.WrapLemmas as wrap
 
 -- ---- no further globals
 
-no_globals : (s : State) → with_globals [] s ≡ s
+pub no_globals : (s : State) → with_globals [] s ≡ s
 no_globals s = ap (λ (gs : List Value). record s { globals = gs }) (append-nil s.globals)
 
-none_more : (o : Outcome) → with_more [] o ≡ o
+pub none_more : (o : Outcome) → with_more [] o ≡ o
 none_more (Ends vs s) = ap (λ (x : State). Ends vs x) (no_globals s)
 none_more (Traps cause gs r) = refl
 none_more Stuck = refl

@@ -3,3 +3,5 @@ pub mod Handlers
 pub mod Laws
 pub mod Ways
 pub mod Tables
+pub mod Conditions
+pub mod Dead

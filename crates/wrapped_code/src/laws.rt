@@ -1,5 +1,7 @@
 //! What holds where instructions are replaced by code with control flow of its own. A function here does nothing: its contract is the law.
 
+ghost use Rattle.wrapped_code.specs.Conditions.{ConditionsAsTrue, ConditionsMayChange};
+ghost use Rattle.wrapped_code.specs.Dead.{DeadCodeMayChange};
 ghost use Rattle.wrapped_code.specs.Handlers.{ReadCodeHasNoHandlers};
 ghost use Rattle.wrapped_code.specs.Laws.{UnwrappedCodeDoes, ValuesInBlocks, WrappedCodeDoes, WrappedModulesDoMore, WrappedModulesStayValid};
 ghost use Rattle.wrapped_code.specs.Tables.{TablesLoseNothing};
@@ -9,7 +11,7 @@ use peephole_programs::laws::{
     one_function_is_rewritten, standard_control_is_sound, valid_modules_do_more,
 };
 use peephole_programs::validity::{
-    valid_bodies_stay_valid, valid_code_runs, validity_goes_by_types,
+    replaced_code_stays_valid, valid_bodies_stay_valid, valid_code_runs, validity_goes_by_types,
 };
 
 /// A function in which instructions were replaced by wrapped code, and which has no block that catches exceptions, does as it did
@@ -80,3 +82,30 @@ pub fn typed_code_is_alone()
 pub fn read_code_has_no_handlers()
     ensures { ReadCodeHasNoHandlers }
 {}
+
+/// A function in which the condition of a branch or of a conditional was replaced by one that is zero where it is does as it did.
+pub fn conditions_may_change()
+    ensures { ConditionsMayChange }
+{
+    standard_control_is_sound();
+    validity_goes_by_types();
+    replaced_code_stays_valid();
+    valid_bodies_stay_valid();
+    valid_code_runs();
+}
+
+/// Some conditions are zero alike: also with `i32.const 0` and `i32.ne` behind them, or with `i32.eqz` twice.
+pub fn some_conditions_are_as_true()
+    ensures { ConditionsAsTrue }
+{
+    valid_code_runs();
+}
+
+/// A function without blocks that catch exceptions, in which code that is never reached was replaced, put in or taken out, does as
+/// it did.
+pub fn dead_code_may_change()
+    ensures { DeadCodeMayChange }
+{
+    validity_goes_by_types();
+    valid_bodies_stay_valid();
+}
