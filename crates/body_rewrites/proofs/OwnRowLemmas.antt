@@ -16,6 +16,22 @@ pub nop_row : IsTrue (fits_row (row_at 0) imm.Nothing)
 unfolding row_at table
 nop_row = refl
 
+pub drop_row : IsTrue (fits_row (row_at 2) imm.Nothing)
+unfolding row_at table
+drop_row = refl
+
+pub select_row : IsTrue (fits_row (row_at 3) imm.Nothing)
+unfolding row_at table
+select_row = refl
+
+pub eqz_row : IsTrue (fits_row (row_at 40) imm.Nothing)
+unfolding row_at table
+eqz_row = refl
+
+pub ne_row : IsTrue (fits_row (row_at 42) imm.Nothing)
+unfolding row_at table
+ne_row = refl
+
 pub i32_add_row : IsTrue (fits_row (row_at 77) imm.Nothing)
 unfolding row_at table
 i32_add_row = refl

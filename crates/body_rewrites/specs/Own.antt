@@ -11,6 +11,9 @@ use Rattle.body_splices.specs.declared.piece.Piece.{Piece}
 use Rattle.body_splices.specs.declared.piece.Piece.TheVariants.{Kept, New, Structural}
 use Rattle.body_splices.specs.declared.control.Control.TheVariants as control
 use Rattle.body_splices.specs.OwnBytes.{without_offsets}
+use Rattle.peephole_programs.specs.control.Standard.{asks_beyond}
+use Rattle.wrapped_code.specs.Conditions.{is_condition}
+use Rattle.wrapped_code.specs.Dead.{never_goes_on}
 use Rattle.peephole_machine.specs.declared.integer.IntegerType.{IntegerType}
 use Rattle.peephole_machine.specs.declared.integer.IntegerType.TheVariants as integer
 use Rattle.peephole_machine.specs.declared.operation.Operation.{Operation}
@@ -27,9 +30,11 @@ use Rattle.rewrite_rules.specs.declared.wrap.Wrap.{Wrap}
 use Rattle.rewrite_rules.specs.declared.wrap.WrapItem.{WrapItem}
 use Rattle.rewrite_rules.specs.declared.wrap.WrapItem.TheVariants as item
 use Rattle.rewrite_rules.specs.Wrap.{front_of, back_of, value_of, IsItem}
+use Rattle.rewrite_rules.specs.Flow.{is_leaf, zero_code, ne_code, eqz_code, select_code}
 use Rattle.rewrite_rules.specs.declared.table.Own.{Own}
 use Rattle.rewrite_rules.specs.declared.table.Own.TheVariants as own_rule
 use Rattle.rewrite_rules.specs.declared.table.Own.TheVariants.{Unfold, ThroughGlobal, WithNop, Fold, Forget, TeeToSet, DropNop, SetToTee}
+use Rattle.rewrite_rules.specs.declared.table.Own.TheVariants.{SelectToIf, IfToSelect, TestCondition, DropConditionTest, DoubleCondition, DropDoubleCondition, PutDead, DropDead}
 use Rattle.body_rewrites.specs.declared.own.Made.{Made}
 use Rattle.body_rewrites.specs.declared.own.Made.TheVariants as made
 use Rattle.body_rewrites.specs.declared.own.Site.{Site}
@@ -109,6 +114,102 @@ pub record IsWrapped (context : Context) (operators : List (Operator × ℕ)) (w
   pub before : HaveItems operators start (front_of w) value
   pub behind : HaveItems operators end (back_of w) value
 
+-- ---- selects and conditionals
+
+-- A constant or a variable stands there, which gives a value of the type.
+pub record IsLeafAt (context : Context) (operators : List (Operator × ℕ)) (at : ℕ) (t : PrimitiveTypeInfo) : Type 0 where
+  pub instruction : Instruction
+  pub has : HasInstruction operators at instruction
+  pub leaf : is_leaf instruction ≡ true
+  pub tree : IsTree context operators at at t
+
+-- Such a one stands at either operator, both of one type, which is that one of values.
+pub record AreLeaves (context : Context) (operators : List (Operator × ℕ)) (first second : ℕ) (v : ValType) : Type 0 where
+  pub type : PrimitiveTypeInfo
+  pub value_is : value_of type ≡ Some v
+  pub one : IsLeafAt context operators first type
+  pub other : IsLeafAt context operators second type
+
+-- From `start` up to the operator before `end` stands a tree of 32 bits that writes nothing.
+pub record IsReadBefore (context : Context) (operators : List (Operator × ℕ)) (start end : ℕ) : Type 0 where
+  pub last : ℕ
+  pub last_is : last + 1 ≡ end
+  pub tree : IsTree context operators start last primitive.I32
+  pub reads : writes tree.code ≡ false
+
+-- From `start` on stand two constants or variables of that type of values, then, from `condition` on, a tree that writes nothing, and at `at` the select.
+pub record IsSelected (context : Context) (operators : List (Operator × ℕ)) (start at : ℕ) (v : ValType) (condition : ℕ) : Type 0 where
+  pub condition_is : start + 2 ≡ condition
+  pub leaves : AreLeaves context operators start (start + 1) v
+  pub read : IsReadBefore context operators condition at
+  pub selects : HasInstruction operators at select_code
+
+-- A conditional of that type of values begins there, with one operator in each of its parts.
+pub record IsChoice (operators : List (Operator × ℕ)) (place : ℕ) (v : ValType) : Type 0 where
+  pub opens : HasItem operators place item.If v
+  pub parts : HasItem operators (place + 2) item.Else v
+  pub closes : HasItem operators (place + 4) item.End v
+
+-- From `start` on stands a tree that writes nothing, and behind it, up to the end at `at`, a conditional each part of which is a constant or a variable.
+-- Something stands behind it.
+pub record IsChosen (context : Context) (operators : List (Operator × ℕ)) (start at : ℕ) : Type 0 where
+  pub inside : at + 1 < length operators
+  pub place : ℕ
+  pub ends : place + 4 ≡ at
+  pub value : ValType
+  pub leaves : AreLeaves context operators (place + 1) (place + 3) value
+  pub choice : IsChoice operators place value
+  pub read : IsReadBefore context operators start place
+
+-- ---- conditions
+
+-- a `br_if` or an `if` stands there
+pub record HasCondition (operators : List (Operator × ℕ)) (at : ℕ) : Type 0 where
+  pub operator : Operator
+  pub has : slice_get (without_offsets operators) at ≡ Some operator
+  pub is : is_condition operator ≡ true
+
+-- From `start` on, up to the operator at `at`, stands a tree of 32 bits, and behind it what asks whether its value is zero.
+pub record IsAsked (context : Context) (operators : List (Operator × ℕ)) (start at : ℕ) : Type 0 where
+  pub tree : IsTree context operators start at primitive.I32
+  pub behind : HasCondition operators (at + 1)
+
+-- From `start` up to the operator before `end` stands such a tree, then the two instructions, the last one at `at`, and behind them what asks.
+pub record IsTested (context : Context) (operators : List (Operator × ℕ)) (one other : Instruction) (start at end : ℕ) : Type 0 where
+  pub ends : end + 1 ≡ at
+  pub last : ℕ
+  pub last_is : last + 1 ≡ end
+  pub tree : IsTree context operators start last primitive.I32
+  pub first : HasInstruction operators end one
+  pub second : HasInstruction operators at other
+  pub behind : HasCondition operators (at + 1)
+
+-- ---- code that is never reached
+
+-- an operator stands there behind which nothing is reached
+pub record HasLeave (operators : List (Operator × ℕ)) (at : ℕ) : Type 0 where
+  pub operator : Operator
+  pub has : slice_get (without_offsets operators) at ≡ Some operator
+  pub leaves : never_goes_on operator ≡ true
+
+-- and it carries all that it asks: it is no branch by a table
+pub record HasPlainLeave (operators : List (Operator × ℕ)) (at : ℕ) : Type 0 where
+  pub leave : HasLeave operators at
+  pub plain : asks_beyond leave.operator ≡ false
+
+-- A tree from `start` on and a drop, at `at`, stand right behind such an operator.
+pub record IsDead (context : Context) (operators : List (Operator × ℕ)) (start at : ℕ) : Type 0 where
+  pub dropped : HasInstruction operators at drop_code
+  pub last : ℕ
+  pub last_is : last + 1 ≡ at
+  pub type : PrimitiveTypeInfo
+  pub tree : IsTree context operators start last type
+  pub place : ℕ
+  pub place_is : place + 1 ≡ start
+  pub leave : HasLeave operators place
+
+-- ---- what is rewritten
+
 -- From `start` on, up to the operator at `at`, stands what the rule rewrites; and that is what is made of it. A further global is the first one behind the
 -- module's; where it has as many as indices count, there is none.
 abbrev pub Rewrites : Context → List (Operator × ℕ) → Own → (start at : ℕ) → Made → Type 0
@@ -126,6 +227,14 @@ Rewrites context operators (own_rule.Access n) start at (made.Access a m) = IsAc
 Rewrites context operators (own_rule.Wrap w) start at (made.Wrapped v t) =
     (v ≡ w) × (u : PrimitiveTypeInfo) × (value_of u ≡ Some t) × IsTree context operators start at u
 Rewrites context operators (own_rule.Unwrap w) start at (made.Inner from end) = IsWrapped context operators w start at from end
+Rewrites context operators SelectToIf start at (made.Conditional v condition) = IsSelected context operators start at v condition
+Rewrites context operators IfToSelect start at made.Selected = IsChosen context operators start at
+Rewrites context operators TestCondition start at made.Tested = IsAsked context operators start at
+Rewrites context operators DropConditionTest start at (made.Inner from end) = (from ≡ start) × IsTested context operators zero_code ne_code start at end
+Rewrites context operators DoubleCondition start at made.DoublyTested = IsAsked context operators start at
+Rewrites context operators DropDoubleCondition start at (made.Inner from end) = (from ≡ start) × IsTested context operators eqz_code eqz_code start at end
+Rewrites context operators PutDead start at made.Dead = (start ≡ at) × HasPlainLeave operators at
+Rewrites context operators DropDead start at made.Nothing = IsDead context operators start at
 Rewrites context operators own start at m = ⊥
 
 -- ---- what is written
@@ -163,6 +272,13 @@ made_pieces start at (made.Tee n) word = new (tee_local n ∷ [])
 made_pieces start at (made.Access a m) word = new (right_code a m)
 made_pieces start at (made.Wrapped w t) word = item_pieces t word (front_of w) ++ Kept start (at + 1) ∷ item_pieces t word (back_of w)
 made_pieces start at (made.Inner from end) word = Kept from end ∷ []
+made_pieces start at (made.Conditional v condition) word =
+    Kept condition at ∷ Structural (control.If v) ∷ Kept start (condition - 1) ∷ Structural control.Else ∷ Kept (condition - 1) condition
+    ∷ Structural control.End ∷ []
+made_pieces start at made.Selected word = Kept (at - 3) (at - 2) ∷ Kept (at - 1) at ∷ Kept start (at - 4) ∷ new (select_code ∷ [])
+made_pieces start at made.Tested word = Kept start (at + 1) ∷ new (zero_code ∷ ne_code ∷ [])
+made_pieces start at made.DoublyTested word = Kept start (at + 1) ∷ new (eqz_code ∷ eqz_code ∷ [])
+made_pieces start at made.Dead word = Kept start (at + 1) ∷ new (constant_code integer.I32 word ∷ drop_code ∷ [])
 
 -- the global that is asked for
 abbrev pub made_asks : Made → List PrimitiveTypeInfo

@@ -6,6 +6,7 @@ use Rattle.wasm_code.specs.declared.immediate.Imm.TheVariants as imm
 use Rattle.wasm_code.specs.declared.operator.Operator.{Operator}
 use Rattle.wasm_code.specs.declared.operator.Operator.TheVariants.{Instr}
 use Rattle.wasm_types.specs.declared.types.PrimitiveTypeInfo.{PrimitiveTypeInfo}
+use Rattle.wasm_types.specs.declared.types.PrimitiveTypeInfo.TheVariants as primitive
 use Rattle.body_splices.specs.declared.piece.Piece.{Piece}
 use Rattle.peephole_machine.specs.declared.integer.IntegerType.{IntegerType}
 use Rattle.peephole_machine.specs.declared.integer.IntegerType.TheVariants as integer
@@ -37,7 +38,8 @@ use Rattle.rewrite_rules.specs.declared.wrap.WrapItem.TheVariants.{Zero, NonZero
 use Rattle.rewrite_rules.specs.Wrap.{front_of, back_of, value_of}
 use Rattle.wasm_code.specs.declared.immediate.ValType.{ValType}
 use Rattle.body_rewrites.specs.declared.trees.Tree.{Tree}
-use Rattle.body_rewrites.specs.Own.{HaveItems, IsFolded, Rewrites}
+use Rattle.body_rewrites.specs.Trees.{IsTree}
+use Rattle.body_rewrites.specs.Own.{HasCondition, HaveItems, IsFolded, Rewrites}
 
 -- ---- instructions
 
@@ -111,6 +113,11 @@ pub record IsWrapRound (operators : List (Operator × ℕ)) (w : Wrap) (tree : T
   pub before : HaveItems operators start (front_of w) value
   pub behind : HaveItems operators end (back_of w) value
 
+-- a tree of 32 bits stands from `start` on up to the operator at `last`, and what asks whether a number is zero at `behind`
+pub record IsAskedBehind (context : Context) (operators : List (Operator × ℕ)) (start last behind : ℕ) : Type 0 where
+  pub tree : IsTree context operators start last primitive.I32
+  pub asks : HasCondition operators behind
+
 -- ---- what is written
 
 -- the piece with the immediate, with those of the conversion
@@ -153,3 +160,8 @@ growth_of (made.Tee n) = Shrinks
 growth_of (made.Access a m) = in_bodies (access_growth a)
 growth_of (made.Wrapped w t) = Grows
 growth_of (made.Inner from end) = Shrinks
+growth_of (made.Conditional v condition) = Grows
+growth_of made.Selected = Shrinks
+growth_of made.Tested = Grows
+growth_of made.DoublyTested = Grows
+growth_of made.Dead = Grows

@@ -113,6 +113,14 @@ own_root own.SetToTee = root.Classes 4 4
 own_root (own.Access n) = access_root (access_at n)
 own_root (own.Wrap w) = root.Tree
 own_root (own.Unwrap w) = root.Classes 446 446
+own_root own.SelectToIf = root.Classes 3 3
+own_root own.IfToSelect = root.Classes 446 446
+own_root own.TestCondition = root.Tree
+own_root own.DropConditionTest = root.Classes 42 42
+own_root own.DoubleCondition = root.Tree
+own_root own.DropDoubleCondition = root.Classes 40 40
+own_root own.PutDead = root.Classes 446 446
+own_root own.DropDead = root.Classes 2 2
 
 abbrev pub root_by : Line → Widths → Root
 root_by line (Own o) = own_root o

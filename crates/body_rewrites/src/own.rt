@@ -1,14 +1,24 @@
 //! The rules that are no rows of the table, and what they make.
 
 pub(crate) mod access;
+pub(crate) mod conditions;
+pub(crate) mod double_condition;
+pub(crate) mod drop_condition_test;
+pub(crate) mod drop_dead;
+pub(crate) mod drop_double_condition;
 pub(crate) mod drop_nop;
 pub(crate) mod fold;
 pub(crate) mod forget;
 pub(crate) mod growing;
+pub(crate) mod if_to_select;
+pub(crate) mod leaves;
+pub(crate) mod put_dead;
 pub(crate) mod rewriting;
+pub(crate) mod select_to_if;
 pub(crate) mod set_to_tee;
 pub(crate) mod sites;
 pub(crate) mod tee_to_set;
+pub(crate) mod test_condition;
 pub(crate) mod through_global;
 pub(crate) mod unfold;
 pub(crate) mod unwrap;
@@ -44,6 +54,16 @@ pub enum Made {
     Wrapped(Wrap, ValType),
     /// The code from one operator up to the one before another one.
     Inner(usize, usize),
+    /// Two operators that come before a condition, which begins at that operator, as the parts of a conditional of the type.
+    Conditional(ValType, usize),
+    /// The parts of a conditional as operands of a select.
+    Selected,
+    /// The same code, compared with zero.
+    Tested,
+    /// The same code, compared with zero twice.
+    DoublyTested,
+    /// The same code, and behind it a constant of the drawn word and a drop.
+    Dead,
 }
 
 /// From which operator on something is made, and what.

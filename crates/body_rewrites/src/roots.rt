@@ -125,6 +125,14 @@ fn own_root(own: Own) -> Root
         Own::Access(number) => access_root(access_at(number)),
         Own::Wrap(_) => Root::Tree,
         Own::Unwrap(_) => Root::Classes(446, 446),
+        Own::SelectToIf => Root::Classes(3, 3),
+        Own::IfToSelect => Root::Classes(446, 446),
+        Own::TestCondition => Root::Tree,
+        Own::DropConditionTest => Root::Classes(42, 42),
+        Own::DoubleCondition => Root::Tree,
+        Own::DropDoubleCondition => Root::Classes(40, 40),
+        Own::PutDead => Root::Classes(446, 446),
+        Own::DropDead => Root::Classes(2, 2),
     }
 }
 

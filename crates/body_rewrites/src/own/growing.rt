@@ -39,6 +39,11 @@ fn growth_of(made: Made) -> Growth
         Made::Access(access, _) => in_bodies(access.growth()),
         Made::Wrapped(_, _) => Growth::Grows,
         Made::Inner(_, _) => Growth::Shrinks,
+        Made::Conditional(_, _) => Growth::Grows,
+        Made::Selected => Growth::Shrinks,
+        Made::Tested => Growth::Grows,
+        Made::DoublyTested => Growth::Grows,
+        Made::Dead => Growth::Grows,
     }
 }
 

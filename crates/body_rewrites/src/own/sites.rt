@@ -5,8 +5,9 @@ ghost use Rattle.body_rewrites.specs.Trees.{AreTrees};
 ghost use Rattle.body_rewrites.specs.OwnSites.{IsSiteOf};
 
 use crate::own::{
-    Site, access, drop_nop, fold, forget, set_to_tee, tee_to_set, through_global, unfold, unwrap,
-    with_nop, wrap,
+    Site, access, double_condition, drop_condition_test, drop_dead, drop_double_condition, drop_nop,
+    fold, forget, if_to_select, put_dead, select_to_if, set_to_tee, tee_to_set, test_condition,
+    through_global, unfold, unwrap, with_nop, wrap,
 };
 use crate::places::Body;
 use rewrite_rules::Own;
@@ -29,5 +30,13 @@ pub(crate) fn site_of(body: &Body<'_>, own: Own, at: usize) -> Option<Site>
         Own::Access(number) => access::find(body.info, body.operators, at, number),
         Own::Wrap(wrap) => wrap::find(body.trees, at, wrap),
         Own::Unwrap(wrap) => unwrap::find(body.operators, body.trees, at, wrap),
+        Own::SelectToIf => select_to_if::find(body.operators, body.trees, at),
+        Own::IfToSelect => if_to_select::find(body.operators, body.trees, at),
+        Own::TestCondition => test_condition::find(body.operators, body.trees, at),
+        Own::DropConditionTest => drop_condition_test::find(body.operators, body.trees, at),
+        Own::DoubleCondition => double_condition::find(body.operators, body.trees, at),
+        Own::DropDoubleCondition => drop_double_condition::find(body.operators, body.trees, at),
+        Own::PutDead => put_dead::find(body.operators, at),
+        Own::DropDead => drop_dead::find(body.operators, body.trees, at),
     }
 }

@@ -123,7 +123,7 @@ fn is_item(operator: &Operator, item: WrapItem, t: ValType) -> bool
 }
 
 // The operator that stands there.
-fn operator_at(operators: &[OperatorAndByteOffset], at: usize) -> Option<Operator>
+pub(crate) fn operator_at(operators: &[OperatorAndByteOffset], at: usize) -> Option<Operator>
     ensures some { IfSome result (λ o. slice_get (without_offsets operators.now) at ≡ Some o) }
     ensures none { IfNone result (slice_get (without_offsets operators.now) at ≡ None) }
 {
@@ -134,7 +134,12 @@ fn operator_at(operators: &[OperatorAndByteOffset], at: usize) -> Option<Operato
 }
 
 // Whether the item stands there.
-fn has_item(operators: &[OperatorAndByteOffset], at: usize, item: WrapItem, t: ValType) -> bool
+pub(crate) fn has_item(
+    operators: &[OperatorAndByteOffset],
+    at: usize,
+    item: WrapItem,
+    t: ValType,
+) -> bool
     ensures same { IsTrue result → HasItem operators.now at item t }
     ensures only { HasItem operators.now at item t → IsTrue result }
 {

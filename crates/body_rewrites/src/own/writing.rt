@@ -10,11 +10,13 @@ ghost use Rattle.rewrite_rules.specs.declared.pattern.Operator.TheVariants.{Whol
 ghost use Rattle.rewrite_rules.specs.Access.{IsOfRow, side_code};
 ghost use Rattle.rewrite_rules.specs.Numbers.{low};
 ghost use Rattle.rewrite_rules.specs.Instance.{operator_code};
-ghost use Rattle.rewrite_rules.specs.Beside.{nop_code, get_local, set_local, tee_local, get_global, set_global, sum_code};
+ghost use Rattle.rewrite_rules.specs.Beside.{nop_code, drop_code, get_local, set_local, tee_local, get_global, set_global, sum_code};
+ghost use Rattle.rewrite_rules.specs.Flow.{ne_code, eqz_code, select_code};
 ghost use Rattle.body_rewrites.specs.Changes.{IsWritten};
 ghost use Rattle.rewrite_rules.specs.Wrap.{front_of, back_of};
 ghost use Rattle.body_rewrites.specs.Own.{new, item_piece, item_pieces, made_asks, made_pieces, change_of};
 ghost use Rattle.body_rewrites.specs.OwnSites.{AreOfRows, IsCode, IsWritable, ordered};
+ghost use Rattle.body_rewrites.specs.declared.own.Made.TheVariants as made;
 
 use crate::changes::NewCode;
 use crate::instructions::{constant, instr};
@@ -31,6 +33,34 @@ fn nop() -> Instr
     ensures { result ≡ nop_code }
 {
     instr(0, Imm::Nothing)
+}
+
+#[tactic(auto, using(crate::proofs::OwnRowLemmas::drop_row))]
+fn discard() -> Instr
+    ensures { result ≡ drop_code }
+{
+    instr(2, Imm::Nothing)
+}
+
+#[tactic(auto, using(crate::proofs::OwnRowLemmas::select_row))]
+fn select() -> Instr
+    ensures { result ≡ select_code }
+{
+    instr(3, Imm::Nothing)
+}
+
+#[tactic(auto, using(crate::proofs::OwnRowLemmas::eqz_row))]
+fn eqz() -> Instr
+    ensures { result ≡ eqz_code }
+{
+    instr(40, Imm::Nothing)
+}
+
+#[tactic(auto, using(crate::proofs::OwnRowLemmas::ne_row))]
+fn ne() -> Instr
+    ensures { result ≡ ne_code }
+{
+    instr(42, Imm::Nothing)
 }
 
 #[tactic(auto, using(crate::proofs::OwnRowLemmas::get_local_row))]
@@ -234,6 +264,57 @@ fn wrapped(start: usize, kept: Piece, wrap: Wrap, t: ValType, word: u64) -> NewC
     }
 }
 
+// Two operators as the parts of a conditional, whose condition stands behind them, from that operator up to the last one.
+fn conditional(start: usize, condition: usize, at: usize, t: ValType) -> NewCode
+    ensures { IsCode start (made_pieces start at (made.Conditional t condition) 0) [] result }
+{
+    let second = condition.saturating_sub(1);
+    let pieces = [
+        Piece::Kept {
+            start: condition,
+            end: at,
+        },
+        Piece::Structural(Control::If(t)),
+        Piece::Kept { start, end: second },
+        Piece::Structural(Control::Else),
+        Piece::Kept {
+            start: second,
+            end: condition,
+        },
+        Piece::Structural(Control::End),
+    ];
+    code(start, &pieces, None)
+}
+
+// The parts of a conditional that ends at `at`, and its condition, and a select.
+fn selected(start: usize, at: usize) -> NewCode
+    ensures { IsCode start (made_pieces start at made.Selected 0) [] result }
+{
+    let pieces = [
+        Piece::Kept {
+            start: at.saturating_sub(3),
+            end: at.saturating_sub(2),
+        },
+        Piece::Kept {
+            start: at.saturating_sub(1),
+            end: at,
+        },
+        Piece::Kept {
+            start,
+            end: at.saturating_sub(4),
+        },
+        Piece::New(select()),
+    ];
+    code(start, &pieces, None)
+}
+
+// The piece, and two instructions.
+fn followed(start: usize, kept: Piece, one: Instr, other: Instr) -> NewCode
+    ensures { IsCode start (kept ∷ new (one ∷ other ∷ [])) [] result }
+{
+    code(start, &[kept, Piece::New(one), Piece::New(other)], None)
+}
+
 // What is made at the site, by the word; none where it isn't made of instructions of the standard.
 pub(crate) fn written(site: Site, at: usize, word: u64) -> Option<NewCode>
     requires { at < 2 ^ 64 - 1 }
@@ -266,5 +347,10 @@ pub(crate) fn written(site: Site, at: usize, word: u64) -> Option<NewCode>
         Made::Access(access, immediate) => side(start, access.kind, access.right, immediate),
         Made::Wrapped(wrap, t) => Some(wrapped(start, kept, wrap, t, word)),
         Made::Inner(from, end) => Some(code(start, &[Piece::Kept { start: from, end }], None)),
+        Made::Conditional(t, condition) => Some(conditional(start, condition, at, t)),
+        Made::Selected => Some(selected(start, at)),
+        Made::Tested => Some(followed(start, kept, constant(IntegerType::I32, 0), ne())),
+        Made::DoublyTested => Some(followed(start, kept, eqz(), eqz())),
+        Made::Dead => Some(followed(start, kept, constant(IntegerType::I32, word), discard())),
     }
 }
