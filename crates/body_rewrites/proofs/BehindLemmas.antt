@@ -30,4 +30,3 @@ last_there operators s at code l inside h =
       ap (slice_get (map (λ (o : Operator × ℕ). o.0) operators)) (sym there)
           ∙ (sym (entry_in operators s (at + 1) (at - s) (omega (arith, l))) ∙ (ap (λ os. slice_get os (at - s)) h ∙ is)),
     )
-

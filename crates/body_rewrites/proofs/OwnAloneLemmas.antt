@@ -190,9 +190,9 @@ module _ (context : Context) (operators : Operators) where
       (e, ap₂ (λ a w. made.Access a w) x y)
   one_site (Accesses n) s k at (made.Access a w) l r q = absurd q
   one_site (Wraps w) s k at (made.Wrapped v t) (made.Wrapped x y) (e, u, n, a) (f, z, p, b) = (
-      one_start context operators s k at u z a b,
-      ap₂ (λ v t. made.Wrapped v t) (e ∙ sym f) (same_Some t y (sym n ∙ (ap wrapped_type (one_type s k at u z a b) ∙ p))),
-    )
+    one_start context operators s k at u z a b,
+    ap₂ (λ v t. made.Wrapped v t) (e ∙ sym f) (same_Some t y (sym n ∙ (ap wrapped_type (one_type s k at u z a b) ∙ p))),
+  )
   one_site (Wraps w) s k at (made.Wrapped v t) l r q = absurd q
   one_site (Unwraps w) s k at (made.Inner from end) (made.Inner other behind) a b =
       let one = a.ends in

@@ -89,7 +89,7 @@ module _ (context : Context) (operators : Operators) (at : ℕ) where
       let size = side_size a.kind a.right.row a.right.conversion w in
       grows_so (conversion_size a.left.conversion) (conversion_size a.right.conversion) _ (at + 1 - start) (count ∙ size) (omega (arith, begins))
   growth_at (Wraps w) start (made.Wrapped v t) (e, u, n, tree) word =
-      let count = wrapped_count operators start at v t word (length_in operators start (at + 1) (omega (arith, tree.inside)))  in
+      let count = wrapped_count operators start at v t word (length_in operators start (at + 1) (omega (arith, tree.inside))) in
       let some = front_some v in
       omega (arith, count, some)
   growth_at (Unwraps w) start (made.Inner from end) h word =

@@ -69,28 +69,58 @@ const CASES: [Case; 10] = [
 ];
 
 /// A rule, an operator, a body with locals of i32, i64, f32, f64 and v128, and what it makes of it by the word 2, or none.
-type Other = (
-    &'static str,
-    usize,
-    &'static [u8],
-    Option<&'static [u8]>,
-);
+type Other = (&'static str, usize, &'static [u8], Option<&'static [u8]>);
 
 const OTHERS: [Other; 12] = [
     // A value of each other type; a tree of several operators; and one in a block that stands there.
-    ("in_block", 0, b"\x20\x01\x1a\x0b", Some(b"\x02\x7e\x20\x01\x0b\x1a\x0b")),
-    ("in_block", 0, b"\x20\x02\x1a\x0b", Some(b"\x02\x7d\x20\x02\x0b\x1a\x0b")),
-    ("in_loop", 0, b"\x20\x03\x1a\x0b", Some(b"\x03\x7c\x20\x03\x0b\x1a\x0b")),
-    ("in_loop", 0, b"\x20\x04\x1a\x0b", Some(b"\x03\x7b\x20\x04\x0b\x1a\x0b")),
-    ("in_block", 2, b"\x20\0\x20\0\x6a\x1a\x0b", Some(b"\x02\x7f\x20\0\x20\0\x6a\x0b\x1a\x0b")),
-    ("in_block", 1, b"\x02\x7f\x41\x05\x0b\x1a\x0b", Some(b"\x02\x7f\x02\x7f\x41\x05\x0b\x0b\x1a\x0b")),
+    (
+        "in_block",
+        0,
+        b"\x20\x01\x1a\x0b",
+        Some(b"\x02\x7e\x20\x01\x0b\x1a\x0b"),
+    ),
+    (
+        "in_block",
+        0,
+        b"\x20\x02\x1a\x0b",
+        Some(b"\x02\x7d\x20\x02\x0b\x1a\x0b"),
+    ),
+    (
+        "in_loop",
+        0,
+        b"\x20\x03\x1a\x0b",
+        Some(b"\x03\x7c\x20\x03\x0b\x1a\x0b"),
+    ),
+    (
+        "in_loop",
+        0,
+        b"\x20\x04\x1a\x0b",
+        Some(b"\x03\x7b\x20\x04\x0b\x1a\x0b"),
+    ),
+    (
+        "in_block",
+        2,
+        b"\x20\0\x20\0\x6a\x1a\x0b",
+        Some(b"\x02\x7f\x20\0\x20\0\x6a\x0b\x1a\x0b"),
+    ),
+    (
+        "in_block",
+        1,
+        b"\x02\x7f\x41\x05\x0b\x1a\x0b",
+        Some(b"\x02\x7f\x02\x7f\x41\x05\x0b\x0b\x1a\x0b"),
+    ),
     // A reference, no value, the body's own end; another type; more than a value inside; a jump back that may be taken.
     ("in_block", 0, b"\xd0\x70\x1a\x0b", None),
     ("in_block", 1, FIVE, None),
     ("drop_block", 2, b"\x02\x7f\x41\x05\x0b", None),
     ("drop_block", 2, b"\x02\x7e\x41\x05\x0b\x1a\x0b", None),
     ("drop_block", 3, b"\x02\x7f\x01\x41\x05\x0b\x1a\x0b", None),
-    ("drop_once", 4, b"\x03\x7f\x41\x05\x41\x01\x0d\0\x0b\x1a\x0b", None),
+    (
+        "drop_once",
+        4,
+        b"\x03\x7f\x41\x05\x41\x01\x0d\0\x0b\x1a\x0b",
+        None,
+    ),
 ];
 
 /// The first row of the rule with that name.

@@ -45,6 +45,6 @@ returns-clause-rewritten c =
     record {
       change = code.change;
       made = record { line = c.in-Some.line; asked = is.0; width_is = is.1; makes = code.makes };
-      asks_are = c.asked.ensures ∙ code.written.asks_are;
+      asks_are = c.in_ok-asks.ensures ∙ code.written.asks_are;
       written = c.in_ok-put.ensures.put code.change c.args.word code.written may;
     }
