@@ -16,6 +16,7 @@ use Rattle.rewrite_rules.specs.declared.rule.Rule.{Rule}
 use Rattle.rewrite_rules.specs.declared.pattern.Operator.TheVariants.{Whole}
 use Rattle.rewrite_rules.specs.declared.table.Own.{Own}
 use Rattle.rewrite_rules.specs.declared.table.Own.TheVariants.{Unfold, ThroughGlobal, WithNop, Fold, Forget, TeeToSet, DropNop, SetToTee, Access as Accesses, Wrap as Wraps, Unwrap as Unwraps}
+use Rattle.rewrite_rules.specs.declared.table.Own.TheVariants.{SelectToIf, IfToSelect, TestCondition, DropConditionTest, DoubleCondition, DropDoubleCondition, PutDead, DropDead}
 use Rattle.rewrite_rules.specs.declared.table.Row.{Row}
 use Rattle.rewrite_rules.specs.declared.table.Widths.{Widths}
 use Rattle.rewrite_rules.specs.declared.table.Widths.TheVariants as widths
@@ -35,6 +36,7 @@ use Rattle.body_rewrites.specs.Listing.{AreThose, IsWantedBy}
 use Rattle.body_rewrites.specs.Choice.{Draws, IsOf, IsOpen, HasOpen, Chooses, after_word}
 use Rattle.body_rewrites.specs.HasWords.{HasWords}
 use Rattle.body_rewrites.specs.ThoseLemmas.{contained_cases, those_bounded, those_same}
+use Rattle.body_rewrites.proofs.FlowLemmas.{there_inside}
 use Rattle.body_rewrites.proofs.AccessLemmas.{access_inside, stands_inside}
 use Rattle.body_rewrites.proofs.CountingLemmas.{asked_few}
 
@@ -102,6 +104,14 @@ own_inside context operators at SetToTee start (made.Tee n) (e, h, k) = has_insi
 own_inside context operators at (Accesses n) start (made.Access a w) f = access_inside context operators n start at a w f
 own_inside context operators at (Wraps w) start (made.Wrapped v t) (e, u, n, tree) = tree.inside
 own_inside context operators at (Unwraps w) start (made.Inner from end) h = let l = h.inside in omega arith
+own_inside context operators at SelectToIf start (made.Conditional v condition) h = there_inside operators at _ h.selects
+own_inside context operators at IfToSelect start made.Selected h = let l = h.inside in omega (arith, l)
+own_inside context operators at TestCondition start made.Tested h = h.tree.inside
+own_inside context operators at DropConditionTest start (made.Inner from end) (e, h) = there_inside operators at _ h.second
+own_inside context operators at DoubleCondition start made.DoublyTested h = h.tree.inside
+own_inside context operators at DropDoubleCondition start (made.Inner from end) (e, h) = there_inside operators at _ h.second
+own_inside context operators at PutDead start made.Dead (e, h) = there_inside operators at h.leave.operator h.leave.has
+own_inside context operators at DropDead start made.Nothing h = there_inside operators at _ h.dropped
 own_inside context operators at own start m h = absurd h
 
 makes_inside : (context : Context) (operators : List (Operator × ℕ)) (line : Line) (at : ℕ) (change : Change) (w : Widths) →

@@ -25,6 +25,9 @@ pub mod LineStandLemmas
 pub mod WrapLemmas
 pub mod WrapStandLemmas
 pub mod WrapFindLemmas
+pub mod FlowLemmas
+pub mod FlowStandLemmas
+pub mod FlowFindLemmas
 pub mod OperationCodeLemmas
 pub mod OwnRowLemmas
 pub mod OwnStandLemmas

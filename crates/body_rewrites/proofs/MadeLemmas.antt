@@ -15,6 +15,7 @@ use Rattle.peephole_machine.specs.declared.integer.IntegerType.{IntegerType}
 use Rattle.peephole_machine.specs.Values.{Context}
 use Rattle.rewrite_rules.specs.declared.table.Own.{Own}
 use Rattle.rewrite_rules.specs.declared.table.Own.TheVariants.{Unfold, ThroughGlobal, WithNop, Fold, Forget, TeeToSet, DropNop, SetToTee, Access as Accesses, Wrap as Wraps, Unwrap as Unwraps}
+use Rattle.rewrite_rules.specs.declared.table.Own.TheVariants.{SelectToIf, IfToSelect, TestCondition, DropConditionTest, DoubleCondition, DropDoubleCondition, PutDead, DropDead}
 use Rattle.rewrite_rules.specs.declared.table.Widths.{Widths}
 use Rattle.rewrite_rules.specs.declared.table.Widths.TheVariants as widths
 use Rattle.rewrite_rules.specs.Beside.{constants}
@@ -34,6 +35,7 @@ use Rattle.body_rewrites.specs.LineChanges.{LineChangesMayStand}
 use Rattle.body_rewrites.specs.Rewrites.{IsLineChange, asked_widths, MakesBy, IsAsked, IsLineOf}
 use Rattle.body_rewrites.specs.declared.rewrite.Rewrite.{Rewrite}
 use Rattle.body_rewrites.specs.MadeLaws.{ChangesMayStand}
+use Rattle.body_rewrites.proofs.FlowLemmas.{there_inside}
 use Rattle.body_rewrites.proofs.AccessLemmas.{access_inside}
 use Rattle.body_rewrites.proofs.StandsLemmas.{Operators}
 use Rattle.body_rewrites.proofs.MatchingLemmas.{entry_in, one_there}
@@ -81,6 +83,14 @@ own_inside context operators SetToTee start at (made.Tee n) (e, h, g) = instruct
 own_inside context operators (Accesses n) start at (made.Access a w) f = access_inside context operators n start at a w f
 own_inside context operators (Wraps w) start at (made.Wrapped v t) (e, u, n, tree) = tree.inside
 own_inside context operators (Unwraps w) start at (made.Inner from end) h = let l = h.inside in omega arith
+own_inside context operators SelectToIf start at (made.Conditional v condition) h = there_inside operators at _ h.selects
+own_inside context operators IfToSelect start at made.Selected h = let l = h.inside in omega (arith, l)
+own_inside context operators TestCondition start at made.Tested h = h.tree.inside
+own_inside context operators DropConditionTest start at (made.Inner from end) (e, h) = there_inside operators at _ h.second
+own_inside context operators DoubleCondition start at made.DoublyTested h = h.tree.inside
+own_inside context operators DropDoubleCondition start at (made.Inner from end) (e, h) = there_inside operators at _ h.second
+own_inside context operators PutDead start at made.Dead (e, h) = there_inside operators at h.leave.operator h.leave.has
+own_inside context operators DropDead start at made.Nothing h = there_inside operators at _ h.dropped
 own_inside context operators own start at m r = absurd r
 
 line_inside : (context : Context) (operators : Operators) (line : Line) (at : ℕ) (change : Change) → IsLineChange context operators line at change →

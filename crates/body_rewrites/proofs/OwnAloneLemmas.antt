@@ -9,10 +9,12 @@ use Rattle.std.proofs.lemmas.List.{same_from_push}
 use Rattle.std.proofs.Math.Nat.{mod-lt, mod-eq_of_lt}
 use mir.Val.{bits}
 use Rattle.wasm_code.specs.Instruction.{Instruction}
+use Rattle.wasm_code.specs.declared.immediate.ValType.{ValType}
 use Rattle.wasm_code.specs.declared.immediate.Imm.{Imm}
 use Rattle.wasm_code.specs.declared.immediate.Imm.TheVariants as imm
 use Rattle.wasm_code.specs.declared.operator.Operator.TheVariants.{Instr}
 use Rattle.wasm_types.specs.declared.types.PrimitiveTypeInfo.{PrimitiveTypeInfo}
+use Rattle.wasm_types.specs.declared.types.PrimitiveTypeInfo.TheVariants as primitive
 use Rattle.peephole_machine.specs.declared.integer.IntegerType.{IntegerType}
 use Rattle.peephole_machine.specs.declared.integer.IntegerType.TheVariants as integer
 use Rattle.peephole_machine.specs.Computed.{computed}
@@ -22,15 +24,17 @@ use Rattle.rewrite_rules.specs.declared.pattern.Operator.TheVariants.{Whole}
 use Rattle.rewrite_rules.specs.Numbers.{low}
 use Rattle.rewrite_rules.specs.Instance.{constant_code, operator_code}
 use Rattle.rewrite_rules.specs.Beside.{constants, left_by}
+use Rattle.rewrite_rules.specs.Flow.{zero_code, ne_code, eqz_code}
 use Rattle.rewrite_rules.specs.declared.table.Own.{Own}
 use Rattle.rewrite_rules.specs.declared.table.Own.TheVariants.{Unfold, ThroughGlobal, WithNop, Fold, Forget, TeeToSet, DropNop, SetToTee, Access as Accesses, Wrap as Wraps, Unwrap as Unwraps}
+use Rattle.rewrite_rules.specs.declared.table.Own.TheVariants.{SelectToIf, IfToSelect, TestCondition, DropConditionTest, DoubleCondition, DropDoubleCondition, PutDead, DropDead}
 use Rattle.body_rewrites.specs.declared.own.Made.{Made}
 use Rattle.body_rewrites.specs.declared.own.Made.TheVariants as made
 use Rattle.body_rewrites.specs.Trees.{Stands, IsTree, tree_after}
 use Rattle.body_rewrites.specs.Open.{HasInstruction}
 use Rattle.body_rewrites.specs.Matching.{number_in}
 use Rattle.body_rewrites.specs.Changes.{Change}
-use Rattle.body_rewrites.specs.Own.{IsFolded, Rewrites, change_of, IsOwnChange}
+use Rattle.body_rewrites.specs.Own.{AreLeaves, IsFolded, IsReadBefore, IsTested, Rewrites, change_of, IsOwnChange}
 use Rattle.body_rewrites.proofs.AccessLemmas.{one_access}
 use Rattle.body_rewrites.proofs.StandsLemmas.{Operators}
 use Rattle.body_rewrites.proofs.AloneLemmas.{one_code}
@@ -146,6 +150,32 @@ module _ (context : Context) (operators : Operators) where
       type_is : ◌≡◌ {A = Option (List PrimitiveTypeInfo)} (Some (t ∷ [])) (Some (u ∷ [])) → t ≡ u
       type_is e = cc
 
+  -- ---- operands and conditions
+
+  pub one_leaves : (first second : ℕ) (v w : ValType) → AreLeaves context operators first second v → AreLeaves context operators first second w → v ≡ w
+  one_leaves first second v w a b =
+      same_Some v w (sym a.value_is ∙ (ap wrapped_type (one_type first first first a.type b.type a.one.tree b.one.tree) ∙ b.value_is))
+
+  pub one_read : (s k end : ℕ) → IsReadBefore context operators s end → IsReadBefore context operators k end → s ≡ k
+  one_read s k end a b =
+      let one = a.last_is in
+      let two = b.last_is in
+      let last : b.last ≡ a.last = omega (arith, one, two) in
+      one_start context operators s k a.last primitive.I32 primitive.I32 a.tree (subst (λ n. IsTree context operators k n primitive.I32) last b.tree)
+
+  one_tested : (s k at from other end behind : ℕ) (i j : Instruction) → from ≡ s → other ≡ k → IsTested context operators i j s at end →
+      IsTested context operators i j k at behind → (s ≡ k) × (made.Inner from end ≡ made.Inner other behind)
+  one_tested s k at from other end behind i j e f a b =
+      let one = a.ends in
+      let two = b.ends in
+      let same : end ≡ behind = omega (arith, one, two) in
+      let x = a.last_is in
+      let y = b.last_is in
+      let last : b.last ≡ a.last = omega (arith, x, y, same) in
+      let starts =
+      one_start context operators s k a.last primitive.I32 primitive.I32 a.tree (subst (λ n. IsTree context operators k n primitive.I32) last b.tree) in
+      (starts, ap₂ (λ f e. made.Inner f e) (e ∙ (starts ∙ sym f)) same)
+
   -- ---- sites
 
   same_index : (at n m row : ℕ) → HasInstruction operators at (record { row = row; imm = imm.Index n }) →
@@ -203,6 +233,41 @@ module _ (context : Context) (operators : Operators) where
       one_start context operators from other a.last a.type b.type a.tree (subst (λ n. IsTree context operators other n b.type) last b.tree) in
       (let x = a.begins in let y = b.begins in omega (arith, x, y, from_is), ap₂ (λ f e. made.Inner f e) from_is same)
   one_site (Unwraps w) s k at (made.Inner from end) l r q = absurd q
+  one_site SelectToIf s k at (made.Conditional v c) (made.Conditional w d) a b =
+      let same = one_read c d at a.read b.read in
+      let x = a.condition_is in
+      let y = b.condition_is in
+      let starts : s ≡ k = omega (arith, x, y, same) in (
+        starts,
+        ap₂ (λ v c. made.Conditional v c)
+            (one_leaves s (s + 1) v w a.leaves (subst (λ n. AreLeaves context operators n (n + 1) w) (sym starts) b.leaves)) same,
+      )
+  one_site SelectToIf s k at (made.Conditional v c) l r q = absurd q
+  one_site IfToSelect s k at made.Selected made.Selected a b =
+      let x = a.ends in
+      let y = b.ends in
+      let places : b.place ≡ a.place = omega (arith, x, y) in
+      (one_read s k a.place a.read (subst (λ n. IsReadBefore context operators k n) places b.read), refl)
+  one_site IfToSelect s k at made.Selected l r q = absurd q
+  one_site TestCondition s k at made.Tested made.Tested a b = (one_start context operators s k at primitive.I32 primitive.I32 a.tree b.tree, refl)
+  one_site TestCondition s k at made.Tested l r q = absurd q
+  one_site DropConditionTest s k at (made.Inner from end) (made.Inner other behind) (e, a) (f, b) =
+      one_tested s k at from other end behind zero_code ne_code e f a b
+  one_site DropConditionTest s k at (made.Inner from end) l r q = absurd q
+  one_site DoubleCondition s k at made.DoublyTested made.DoublyTested a b =
+      (one_start context operators s k at primitive.I32 primitive.I32 a.tree b.tree, refl)
+  one_site DoubleCondition s k at made.DoublyTested l r q = absurd q
+  one_site DropDoubleCondition s k at (made.Inner from end) (made.Inner other behind) (e, a) (f, b) =
+      one_tested s k at from other end behind eqz_code eqz_code e f a b
+  one_site DropDoubleCondition s k at (made.Inner from end) l r q = absurd q
+  one_site PutDead s k at made.Dead made.Dead (e, a) (f, b) = (e ∙ sym f, refl)
+  one_site PutDead s k at made.Dead l r q = absurd q
+  one_site DropDead s k at made.Nothing made.Nothing a b =
+      let one = a.last_is in
+      let two = b.last_is in
+      let last : b.last ≡ a.last = omega (arith, one, two) in
+      (one_start context operators s k a.last a.type b.type a.tree (subst (λ n. IsTree context operators k n b.type) last b.tree), refl)
+  one_site DropDead s k at made.Nothing l r q = absurd q
   one_site own s k at m l r q = absurd r
 
   pub one_change : (at : ℕ) (own : Own) (change other : Change) → IsOwnChange context operators own at change → IsOwnChange context operators own at other →

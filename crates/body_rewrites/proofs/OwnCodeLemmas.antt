@@ -16,6 +16,7 @@ use Rattle.rewrite_rules.specs.Beside.{nop_code, drop_code, get_local, tee_local
 use Rattle.body_rewrites.specs.declared.changes.NewCode.{NewCode}
 use Rattle.rewrite_rules.specs.declared.table.Own.{Own}
 use Rattle.rewrite_rules.specs.declared.table.Own.TheVariants.{Unfold, ThroughGlobal, WithNop, Fold, Forget, TeeToSet, DropNop, SetToTee, Access as Accesses, Wrap as Wraps, Unwrap as Unwraps}
+use Rattle.rewrite_rules.specs.declared.table.Own.TheVariants.{SelectToIf, IfToSelect, TestCondition, DropConditionTest, DoubleCondition, DropDoubleCondition, PutDead, DropDead}
 use Rattle.body_rewrites.specs.declared.own.Made.{Made}
 use Rattle.body_rewrites.specs.declared.own.Made.TheVariants as made
 use Rattle.body_rewrites.specs.declared.own.Site.{Site}
@@ -26,6 +27,7 @@ use Rattle.body_rewrites.specs.OwnSites.{AreOfRows, IsCode, IsWritable}
 use Rattle.body_rewrites.proofs.AccessLemmas.{access_inside}
 use Rattle.body_rewrites.proofs.OwnRowLemmas.{i32_const_row, i64_const_row}
 use Rattle.body_rewrites.proofs.StandsLemmas.{Operators}
+use Rattle.body_rewrites.proofs.FlowLemmas.{there_inside}
 use Rattle.body_rewrites.proofs.OwnAloneLemmas.{folded_at}
 
 inside : (operators : Operators) (at : ℕ) (i : Instruction) → HasInstruction operators at i → at < length operators
@@ -46,6 +48,14 @@ module _ (context : Context) (operators : Operators) (at : ℕ) where
   within (Accesses n) start (made.Access a w) f = access_inside context operators n start at a w f
   within (Wraps w) start (made.Wrapped v t) (e, u, n, tree) = tree.inside
   within (Unwraps w) start (made.Inner from end) h = let l = h.inside in omega arith
+  within SelectToIf start (made.Conditional v condition) h = there_inside operators at _ h.selects
+  within IfToSelect start made.Selected h = let l = h.inside in omega (arith, l)
+  within TestCondition start made.Tested h = h.tree.inside
+  within DropConditionTest start (made.Inner from end) (e, h) = there_inside operators at _ h.second
+  within DoubleCondition start made.DoublyTested h = h.tree.inside
+  within DropDoubleCondition start (made.Inner from end) (e, h) = there_inside operators at _ h.second
+  within PutDead start made.Dead (e, h) = there_inside operators at h.leave.operator h.leave.has
+  within DropDead start made.Nothing h = there_inside operators at _ h.dropped
   within own start m r = absurd r
 
   pub none_behind : length operators ≤ at → (own : Own) (change : Change) → IsOwnChange context operators own at change → ⊥
@@ -93,6 +103,14 @@ module _ (formed : AccessesAreFormed) (context : Context) (operators : Operators
   is_writable SetToTee start (made.Access a w) r = absurd r
   is_writable (Wraps v) start (made.Access a w) r = absurd r
   is_writable (Unwraps v) start (made.Access a w) r = absurd r
+  is_writable SelectToIf start (made.Access a w) r = absurd r
+  is_writable IfToSelect start (made.Access a w) r = absurd r
+  is_writable TestCondition start (made.Access a w) r = absurd r
+  is_writable DropConditionTest start (made.Access a w) r = absurd r
+  is_writable DoubleCondition start (made.Access a w) r = absurd r
+  is_writable DropDoubleCondition start (made.Access a w) r = absurd r
+  is_writable PutDead start (made.Access a w) r = absurd r
+  is_writable DropDead start (made.Access a w) r = absurd r
   is_writable own start made.Nothing r = tt
   is_writable own start (made.Constant t n) r = tt
   is_writable own start (made.Sum t n) r = tt
@@ -102,6 +120,11 @@ module _ (formed : AccessesAreFormed) (context : Context) (operators : Operators
   is_writable own start (made.Tee n) r = tt
   is_writable own start (made.Wrapped w t) r = tt
   is_writable own start (made.Inner from end) r = tt
+  is_writable own start (made.Conditional v condition) r = tt
+  is_writable own start made.Selected r = tt
+  is_writable own start made.Tested r = tt
+  is_writable own start made.DoublyTested r = tt
+  is_writable own start made.Dead r = tt
 
 pub if_none : {A : Type 0} (o : Option A) (P Q : Type 0) → (P → Q) → IfNone o P → IfNone o Q
 if_none (Some x) P Q f h = tt

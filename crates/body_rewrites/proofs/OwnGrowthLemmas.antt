@@ -4,22 +4,29 @@ use Rattle.std.specs.Prelude.{◌==◌, nat_lt, if◌then◌else◌, slice_range
 use Rattle.std.proofs.lemmas.Bool.{cases_eq, cases_lt, eq-eqb, le-ltb, lt-ltb, ne_eqb}
 use Rattle.std.proofs.lemmas.List.{drop-map, take-map, length-append}
 use Rattle.wasm_code.specs.Instruction.{Instruction}
+use Rattle.wasm_code.specs.declared.immediate.BlockType.TheVariants.{Value}
 use Rattle.wasm_code.specs.declared.operator.Operator.{Operator}
+use Rattle.wasm_code.specs.declared.operator.Operator.TheVariants as op
 use Rattle.body_splices.specs.OwnBytes.{without_offsets}
 use Rattle.body_splices.specs.declared.piece.Piece.TheVariants.{Kept}
 use Rattle.body_splices.specs.Laws.{pieces_operators}
+use Rattle.peephole_machine.specs.declared.integer.IntegerType.TheVariants as integer
 use Rattle.peephole_machine.specs.Values.{Context}
 use Rattle.rewrite_rules.specs.declared.growth.Growth.TheVariants as rows
 use Rattle.rewrite_rules.specs.Access.{conversion_size, right_code}
-use Rattle.rewrite_rules.specs.Beside.{get_global, set_global}
+use Rattle.rewrite_rules.specs.Beside.{drop_code, get_global, set_global}
+use Rattle.rewrite_rules.specs.Flow.{zero_code, ne_code, eqz_code, select_code}
+use Rattle.rewrite_rules.specs.Instance.{constant_code}
 use Rattle.rewrite_rules.specs.declared.table.Own.{Own}
 use Rattle.rewrite_rules.specs.declared.table.Own.TheVariants.{Unfold, ThroughGlobal, WithNop, Fold, Forget, TeeToSet, DropNop, SetToTee, Access as Accesses, Wrap as Wraps, Unwrap as Unwraps}
+use Rattle.rewrite_rules.specs.declared.table.Own.TheVariants.{SelectToIf, IfToSelect, TestCondition, DropConditionTest, DoubleCondition, DropDoubleCondition, PutDead, DropDead}
 use Rattle.body_rewrites.specs.declared.own.Made.{Made}
 use Rattle.body_rewrites.specs.declared.own.Made.TheVariants as made
 use Rattle.body_rewrites.specs.declared.own.Site.{Site}
 use Rattle.body_rewrites.specs.Changes.{Change}
 use Rattle.body_rewrites.specs.Growth.{IsGrowth, HasGrowth}
-use Rattle.body_rewrites.specs.Own.{Rewrites, new, made_pieces, change_of, IsOwnChange}
+use Rattle.body_rewrites.specs.Open.{HasInstruction}
+use Rattle.body_rewrites.specs.Own.{Rewrites, IsTested, new, made_pieces, change_of, IsOwnChange}
 use Rattle.body_rewrites.specs.OwnSites.{growth_of, in_bodies}
 use Rattle.body_rewrites.proofs.AccessLemmas.{access_start, side_size}
 use Rattle.body_rewrites.proofs.StandsLemmas.{Operators}
@@ -27,6 +34,7 @@ use Rattle.body_rewrites.proofs.MatchingLemmas.{length_in}
 use Rattle.body_rewrites.proofs.OperationCodeLemmas.{takes}
 use Rattle.body_rewrites.proofs.OwnAloneLemmas.{count_left}
 use Rattle.body_rewrites.proofs.WrapLemmas.{front_some, wrapped_count, inner_count}
+use Rattle.body_rewrites.proofs.FlowLemmas.{range_count, there_inside}
 
 -- the growth of a row is so in bodies
 grows_so : (left right new old : ℕ) → new ≡ right + 1 → old ≡ left + 1 →
@@ -61,6 +69,22 @@ module _ (context : Context) (operators : Operators) (at : ℕ) where
       ∙ take-map (λ (o : Operator × ℕ). o.0) (at + 1 - start) (drop start operators) in
       length-append (slice_range (without_offsets operators) start (at + 1)) more
       ∙ ap (λ n. n + length more) (ap length kept ∙ length_in operators start (at + 1) (omega (arith, l)))
+
+  abbrev os : List Operator
+  os = without_offsets operators
+
+  inside_of : (k : ℕ) (i : Instruction) → HasInstruction operators k i → k < length operators
+  inside_of k i h = there_inside operators k (op.Instr i) h
+
+  untested : (start from end : ℕ) (one other : Instruction) → from ≡ start → IsTested context operators one other start at end →
+      length (pieces_operators os (Kept from end ∷ [])) < at + 1 - start
+  untested start from end one other e h =
+      let ordered = h.tree.ordered in
+      let last = h.last_is in
+      let ends = h.ends in
+      let inside = inside_of at other h.second in
+      let count = inner_count operators from end (omega (arith, last, ordered, e)) (omega (arith, ends, inside)) in
+      omega (arith, count, ends, last, ordered, e)
 
   pub growth_at : (own : Own) (start : ℕ) (m : Made) → Rewrites context operators own start at m → (word : ℕ) →
       IsGrowth (growth_of m) (length (pieces_operators (without_offsets operators) (made_pieces start at m word))) (at + 1 - start)
@@ -101,6 +125,47 @@ module _ (context : Context) (operators : Operators) (at : ℕ) where
       let inside = h.inside in
       let count = inner_count operators from end (omega (arith, last, ordered)) (omega (arith, ends, inside)) in
       (let l : length (pieces_operators (without_offsets operators) (Kept from end ∷ [])) < at + 1 - start = omega (arith, count, some, begins, ends, last, ordered) in l)
+  growth_at SelectToIf start (made.Conditional v condition) h word =
+      let read = h.read.tree.ordered in
+      let last = h.read.last_is in
+      let begins = h.condition_is in
+      let inside = inside_of at select_code h.selects in
+      let one = range_count operators condition at (omega (arith, inside)) in
+      let two = range_count operators start (condition - 1) (omega (arith, inside, read, last)) in
+      let three = range_count operators (condition - 1) condition (omega (arith, inside, read, last)) in
+      let first = length-append (slice_range os condition at) (op.If (Value v) ∷ (slice_range os start (condition - 1)
+      ++ (op.Else ∷ (slice_range os (condition - 1) condition ++ (op.End ∷ []))))) in
+      let second = length-append (slice_range os start (condition - 1)) (op.Else ∷ (slice_range os (condition - 1) condition ++ (op.End ∷ []))) in
+      let third = length-append (slice_range os (condition - 1) condition) (op.End ∷ []) in
+      (let l : at + 1 - start < length (pieces_operators os (made_pieces start at (made.Conditional v condition) word)) =
+      omega (arith, read, last, begins, one, two, three, first, second, third) in l)
+  growth_at IfToSelect start made.Selected h word =
+      let read = h.read.tree.ordered in
+      let last = h.read.last_is in
+      let ends = h.ends in
+      let inside = h.inside in
+      let one = range_count operators (at - 3) (at - 2) (omega (arith, inside)) in
+      let two = range_count operators (at - 1) at (omega (arith, inside)) in
+      let three = range_count operators start (at - 4) (omega (arith, inside)) in
+      let first = length-append (slice_range os (at - 3) (at - 2)) (slice_range os (at - 1) at ++ (slice_range os start (at - 4) ++ (op.Instr select_code ∷ []))) in
+      let second = length-append (slice_range os (at - 1) at) (slice_range os start (at - 4) ++ (op.Instr select_code ∷ [])) in
+      let third = length-append (slice_range os start (at - 4)) (op.Instr select_code ∷ []) in
+      (let l : length (pieces_operators os (made_pieces start at made.Selected word)) < at + 1 - start =
+      omega (arith, read, last, ends, one, two, three, first, second, third) in l)
+  growth_at TestCondition start made.Tested h word =
+      let count = kept_count start (pieces_operators os (new (zero_code ∷ ne_code ∷ []))) h.tree.inside in omega (arith, count)
+  growth_at DropConditionTest start (made.Inner from end) (e, h) word = untested start from end zero_code ne_code e h
+  growth_at DoubleCondition start made.DoublyTested h word =
+      let count = kept_count start (pieces_operators os (new (eqz_code ∷ eqz_code ∷ []))) h.tree.inside in omega (arith, count)
+  growth_at DropDoubleCondition start (made.Inner from end) (e, h) word = untested start from end eqz_code eqz_code e h
+  growth_at PutDead start made.Dead (e, h) word =
+      let count = kept_count start (pieces_operators os (new (constant_code integer.I32 word ∷ drop_code ∷ [])))
+      (there_inside operators at h.leave.operator h.leave.has) in
+      omega (arith, count)
+  growth_at DropDead start made.Nothing h word =
+      let last = h.last_is in
+      let ordered = h.tree.ordered in
+      (let l : 0 < at + 1 - start = omega (arith, last, ordered) in l)
   growth_at own start m r word = absurd r
 
   pub is_growing : (own : Own) (site : Site) → Rewrites context operators own site.start at site.made →

@@ -18,6 +18,7 @@ use Rattle.rewrite_rules.specs.Instance.{constant_code, operator_code}
 use Rattle.rewrite_rules.specs.Beside.{StandsWith, BesidesKeepCode, nop_code, drop_code, get_local, set_local, tee_local, get_global, set_global, constants, sum_code}
 use Rattle.rewrite_rules.specs.declared.table.Own.{Own}
 use Rattle.rewrite_rules.specs.declared.table.Own.TheVariants.{Unfold, ThroughGlobal, WithNop, Fold, Forget, TeeToSet, DropNop, SetToTee, Access as Accesses, Wrap as Wraps, Unwrap as Unwraps}
+use Rattle.rewrite_rules.specs.declared.table.Own.TheVariants.{SelectToIf, IfToSelect, TestCondition, DropConditionTest, DoubleCondition, DropDoubleCondition, PutDead, DropDead}
 use Rattle.body_rewrites.specs.declared.own.Made.{Made}
 use Rattle.body_rewrites.specs.declared.own.Made.TheVariants as made
 use Rattle.body_rewrites.specs.Trees.{Stands}
@@ -36,6 +37,7 @@ use Rattle.body_rewrites.proofs.StandsLemmas.{Operators, stands_nothing, stands_
 use Rattle.body_rewrites.proofs.LeavesLemmas.{trees_leave}
 use Rattle.body_rewrites.proofs.ChangedLemmas.{keeps_may_stand}
 use Rattle.body_rewrites.proofs.WrapStandLemmas.{wrap_stands, unwrap_stands}
+use Rattle.body_rewrites.proofs.FlowStandLemmas.{FlowLaws, select_stands, choice_stands, test_stands, double_stands, untest_stands, undouble_stands, put_stands, gone_stands}
 
 -- ---- what is written
 
@@ -69,6 +71,11 @@ kept_are operators start end code h =
 abbrev IsInPlace : Made → Type 0
 IsInPlace (made.Wrapped w t) = ⊥
 IsInPlace (made.Inner from end) = ⊥
+IsInPlace (made.Conditional v condition) = ⊥
+IsInPlace made.Selected = ⊥
+IsInPlace made.Tested = ⊥
+IsInPlace made.DoublyTested = ⊥
+IsInPlace made.Dead = ⊥
 IsInPlace m = ⊤
 
 -- the code that is made of this code
@@ -144,6 +151,14 @@ module _ (operators : Operators) (start at : ℕ) (old : List Instruction) (orde
 abbrev KeepsInPlace : Own → Type 0
 KeepsInPlace (Wraps w) = ⊥
 KeepsInPlace (Unwraps w) = ⊥
+KeepsInPlace SelectToIf = ⊥
+KeepsInPlace IfToSelect = ⊥
+KeepsInPlace TestCondition = ⊥
+KeepsInPlace DropConditionTest = ⊥
+KeepsInPlace DoubleCondition = ⊥
+KeepsInPlace DropDoubleCondition = ⊥
+KeepsInPlace PutDead = ⊥
+KeepsInPlace DropDead = ⊥
 KeepsInPlace own = ⊤
 
 -- ---- what is rewritten
@@ -194,12 +209,20 @@ module _ (laws : BesidesKeepCode) (context : Context) (operators : Operators) (a
       (λ word. laws.access context n a f.immediate w f.exact f.listed f.fits f.written_is)
   stand_at (Wraps w) start m keeps r = absurd keeps
   stand_at (Unwraps w) start m keeps r = absurd keeps
+  stand_at SelectToIf start m keeps r = absurd keeps
+  stand_at IfToSelect start m keeps r = absurd keeps
+  stand_at TestCondition start m keeps r = absurd keeps
+  stand_at DropConditionTest start m keeps r = absurd keeps
+  stand_at DoubleCondition start m keeps r = absurd keeps
+  stand_at DropDoubleCondition start m keeps r = absurd keeps
+  stand_at PutDead start m keeps r = absurd keeps
+  stand_at DropDead start m keeps r = absurd keeps
   stand_at own start m keeps r = absurd r
 
 -- ---- each rule
 
-module _ (laws : BesidesKeepCode) (wraps : WrapsAreRight) (wrapped : WrappedCodeDoes) (unwrapped : UnwrappedCodeDoes) (pushing : PushingCodeIsThere) (one_piece : ReplacedCodeIsInOnePiece)
-    (valid : ReplacedCodeStaysValid) (do_as : PiecesDo) (context : Context) (operators : Operators) (at : ℕ) where
+module _ (laws : BesidesKeepCode) (wraps : WrapsAreRight) (wrapped : WrappedCodeDoes) (unwrapped : UnwrappedCodeDoes) (pushing : PushingCodeIsThere) (flow : FlowLaws)
+    (one_piece : ReplacedCodeIsInOnePiece) (valid : ReplacedCodeStaysValid) (do_as : PiecesDo) (context : Context) (operators : Operators) (at : ℕ) where
   abbrev MadeStands : ℕ → Made → Type 0
   MadeStands start m = MayStand context operators at (change_of at (record { start = start; made = m }))
 
@@ -220,6 +243,14 @@ module _ (laws : BesidesKeepCode) (wraps : WrapsAreRight) (wrapped : WrappedCode
   may_stand DropNop start m r = kept DropNop start m tt r
   may_stand SetToTee start m r = kept SetToTee start m tt r
   may_stand (Accesses n) start m r = kept (Accesses n) start m tt r
+  may_stand SelectToIf start (made.Conditional v condition) h = select_stands context operators at flow wrapped start condition v h
+  may_stand IfToSelect start made.Selected h = choice_stands context operators at flow unwrapped pushing start h
+  may_stand TestCondition start made.Tested h = test_stands context operators at flow start h
+  may_stand DropConditionTest start (made.Inner from end) (e, h) = untest_stands context operators at flow start from end e h
+  may_stand DoubleCondition start made.DoublyTested h = double_stands context operators at flow start h
+  may_stand DropDoubleCondition start (made.Inner from end) (e, h) = undouble_stands context operators at flow start from end e h
+  may_stand PutDead start made.Dead (e, h) = put_stands context operators at flow h start e
+  may_stand DropDead start made.Nothing h = gone_stands context operators at flow start h
   may_stand own start m r = absurd r
 
   pub stand : (own : Own) (change : Change) → IsOwnChange context operators own at change → MayStand context operators at change

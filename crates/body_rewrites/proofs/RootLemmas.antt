@@ -1,10 +1,13 @@
 -- What stands at an operator where a line applies.
-use Rattle.std.proofs.Common.{◌≡◌, ℕ, suc, ◌+◌, ◌≤◌, Bool, true, false, List, [], ◌∷◌, refl, sym, ap, subst, ◌∙◌, arith}
-use Rattle.std.specs.Prelude.{◌&&◌, nat_le, nat_lt, if◌then◌else◌}
+use Rattle.std.proofs.Common.{Some, ◌≡◌, ℕ, suc, ◌+◌, ◌≤◌, Bool, true, false, List, [], ◌∷◌, refl, sym, ap, subst, ◌∙◌, arith}
+use Rattle.std.specs.Prelude.{slice_get, ◌&&◌, nat_le, nat_lt, if◌then◌else◌}
 use Rattle.std.proofs.lemmas.Bool.{le-leb, leb-true, false≢true}
 use Rattle.wasm_code.specs.Instruction.{Instruction}
 use Rattle.wasm_code.specs.declared.immediate.Imm.{Imm}
+use Rattle.wasm_code.specs.declared.operator.Operator.{Operator}
 use Rattle.wasm_types.specs.declared.types.PrimitiveTypeInfo.{PrimitiveTypeInfo}
+use Rattle.wasm_types.specs.declared.types.PrimitiveTypeInfo.TheVariants as primitive
+use Rattle.body_splices.specs.OwnBytes.{without_offsets}
 use Rattle.peephole_machine.specs.declared.integer.IntegerType.TheVariants as integer
 use Rattle.peephole_machine.specs.Values.{Context}
 use Rattle.rewrite_rules.specs.declared.pattern.Part.{Part}
@@ -12,6 +15,7 @@ use Rattle.rewrite_rules.specs.declared.pattern.Part.TheVariants.{Hole, Constant
 use Rattle.rewrite_rules.specs.declared.pattern.Operator.TheVariants.{Whole}
 use Rattle.rewrite_rules.specs.declared.table.Own as own_rules
 use Rattle.rewrite_rules.specs.declared.table.Own.TheVariants.{Unfold, ThroughGlobal, WithNop, Fold, Forget, TeeToSet, DropNop, SetToTee, Access as Accesses, Wrap as Wraps, Unwrap as Unwraps}
+use Rattle.rewrite_rules.specs.declared.table.Own.TheVariants.{SelectToIf, IfToSelect, TestCondition, DropConditionTest, DoubleCondition, DropDoubleCondition, PutDead, DropDead}
 use Rattle.rewrite_rules.specs.declared.table.Widths.{Widths}
 use Rattle.rewrite_rules.specs.declared.table.Widths.TheVariants.{Both, Only, Any, Operands, Own}
 use Rattle.rewrite_rules.specs.declared.access.AccessKind.{AccessKind}
@@ -21,6 +25,7 @@ use Rattle.rewrite_rules.specs.declared.access.Conversion.TheVariants.{Nothing, 
 use Rattle.rewrite_rules.specs.Access.{conversion_size, left_code, code_with, side_code}
 use Rattle.rewrite_rules.specs.Instance.{row_number, constant_code, operator_code}
 use Rattle.rewrite_rules.specs.Beside.{nop_code, drop_code, get_local, tee_local}
+use Rattle.rewrite_rules.specs.Flow.{ne_code, eqz_code, select_code}
 use Rattle.body_rewrites.specs.declared.own.Made.{Made}
 use Rattle.body_rewrites.specs.declared.own.Made.TheVariants as made
 use Rattle.body_rewrites.specs.declared.places.Line.{Line}
@@ -42,6 +47,7 @@ use Rattle.body_rewrites.proofs.AccessLemmas.{access_start}
 use Rattle.body_rewrites.proofs.OwnAccessLemmas.{they_stand_from}
 use Rattle.body_rewrites.proofs.StandsLemmas.{Operators}
 use Rattle.body_rewrites.proofs.WrapLemmas.{ends_with_end}
+use Rattle.body_rewrites.proofs.FlowLemmas.{leave_class}
 use Rattle.body_rewrites.proofs.OperationCodeLemmas.{operation_class}
 use Rattle.body_rewrites.proofs.OwnAloneLemmas.{folded_at}
 
@@ -149,6 +155,19 @@ module _ (context : Context) (operators : Operators) (at : ℕ) where
   own_at (Unwraps w) start (made.Inner from end) h =
       let none : class_told operators at ≡ 446 = ap class_in (ends_with_end operators w h.value end at h.ends h.behind) in
       (omega (arith, none), omega (arith, none))
+  own_at SelectToIf start (made.Conditional v condition) h = has_class (Classes 3 3) select_code h.selects (omega arith, omega arith)
+  own_at IfToSelect start made.Selected h =
+      let none : class_told operators at ≡ 446 =
+      ap class_in (ap (slice_get (without_offsets operators)) (sym h.ends) ∙ (h.choice.closes.has ∙ ap (λ (o : Operator). Some o) h.choice.closes.is)) in
+      (omega (arith, none), omega (arith, none))
+  own_at TestCondition start made.Tested h = (start, primitive.I32, h.tree)
+  own_at DropConditionTest start (made.Inner from end) (e, h) = has_class (Classes 42 42) ne_code h.second (omega arith, omega arith)
+  own_at DoubleCondition start made.DoublyTested h = (start, primitive.I32, h.tree)
+  own_at DropDoubleCondition start (made.Inner from end) (e, h) = has_class (Classes 40 40) eqz_code h.second (omega arith, omega arith)
+  own_at PutDead start made.Dead (e, h) =
+      let none : class_told operators at ≡ 446 = ap class_in h.leave.has ∙ leave_class h.leave.operator h.leave.leaves in
+      (omega (arith, none), omega (arith, none))
+  own_at DropDead start made.Nothing h = has_class (Classes 2 2) drop_code h.dropped (omega arith, omega arith)
   own_at own start m h = absurd h
 
   -- ---- what makes something has its root there

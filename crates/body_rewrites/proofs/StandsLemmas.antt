@@ -27,7 +27,7 @@ Types = List PrimitiveTypeInfo
 none_between : {X : Type 0} (xs : List X) (s : ℕ) → slice_range xs s s ≡ []
 none_between xs s = ap (λ n. take n (drop s xs)) (let e : s - s ≡ 0 = omega arith in e)
 
-one_at : {X : Type 0} (xs : List X) (k : ℕ) (x : X) → slice_get xs k ≡ Some x → take 1 (drop k xs) ≡ x ∷ []
+pub one_at : {X : Type 0} (xs : List X) (k : ℕ) (x : X) → slice_get xs k ≡ Some x → take 1 (drop k xs) ≡ x ∷ []
 one_at [] k x e = absurd cc
 one_at (y ∷ xs) zero x e = ap (λ z. z ∷ []) (let same : y ≡ x = cc in same)
 one_at (y ∷ xs) (suc k) x e = one_at xs k x e

@@ -1,6 +1,6 @@
 -- What is told of a row's size is so of its rewrites.
 use Rattle.std.proofs.Common.{◌≡◌, ◌⊎◌, inl, inr, ℕ, ◌+◌, ◌-◌, ◌<◌, ◌≤◌, Bool, true, false, List, [], ◌∷◌, ◌++◌, length, drop, Option, Some, None, refl, sym, ap, subst, ◌∙◌, arith}
-use Rattle.std.specs.Prelude.{◌==◌, ◌&&◌, if◌then◌else◌, option_and_then, option_map, slice_get}
+use Rattle.std.specs.Prelude.{◌==◌, ◌&&◌, if◌then◌else◌, option_and_then, option_map, slice_get, slice_range}
 use Rattle.std.proofs.lemmas.Bool.{and_parts, cases_lt, eq-eqb, eqb-true, le-ltb, lt-ltb}
 use Rattle.std.proofs.lemmas.List.{length-append, length-map}
 use Rattle.std.proofs.lemmas.Option.{same_Some}
@@ -8,6 +8,7 @@ use Rattle.wasm_code.specs.Instruction.{Instruction}
 use Rattle.wasm_code.specs.declared.operator.Operator.TheVariants.{Instr}
 use Rattle.body_splices.specs.OwnBytes.{without_offsets}
 use Rattle.body_splices.specs.Laws.{pieces_operators}
+use Rattle.peephole_machine.specs.declared.integer.IntegerType.TheVariants as integer
 use Rattle.peephole_machine.specs.Values.{Context}
 use Rattle.rewrite_rules.specs.declared.growth.Growth as told
 use Rattle.rewrite_rules.specs.declared.growth.Growth.TheVariants as rows
@@ -16,11 +17,11 @@ use Rattle.rewrite_rules.specs.declared.table.Own.TheVariants as own
 use Rattle.rewrite_rules.specs.declared.table.Row.{Row}
 use Rattle.rewrite_rules.specs.declared.table.Widths.{Widths}
 use Rattle.rewrite_rules.specs.declared.table.Widths.TheVariants as widths
-use Rattle.rewrite_rules.specs.Beside.{BesidesKeepCode}
+use Rattle.rewrite_rules.specs.Beside.{BesidesKeepCode, drop_code}
 use Rattle.rewrite_rules.specs.Growing.{GrowsAs, growth_told, own_growth, shown}
 use Rattle.rewrite_rules.specs.Growth.{shrinks, keeps, grows, growth_by, is_empty, left_over, own_size, own_sizes, without}
 use Rattle.rewrite_rules.specs.Holes.{HolesAreTold}
-use Rattle.rewrite_rules.specs.Instance.{code_of, codes_of, operator_code}
+use Rattle.rewrite_rules.specs.Instance.{code_of, codes_of, constant_code, operator_code}
 use Rattle.rewrite_rules.specs.Laws.{TableIsRight}
 use Rattle.rewrite_rules.specs.Numbers.{constant_at}
 use Rattle.rewrite_rules.specs.Order.{is_in}
@@ -251,6 +252,14 @@ module _ (context : Context) (operators : Operators) (at start : ℕ) where
       (sym (ap growth_told h.listed) ∙ e) (growth_at context operators at (own.Access n) start (made.Access a w) h 0)
   fewer (own.Wrap w) m h e = absurd cc
   fewer (own.Unwrap w) (made.Inner from end) h e = growth_at context operators at (own.Unwrap w) start (made.Inner from end) h 0
+  fewer own.SelectToIf m h e = absurd cc
+  fewer own.TestCondition m h e = absurd cc
+  fewer own.DoubleCondition m h e = absurd cc
+  fewer own.PutDead m h e = absurd cc
+  fewer own.IfToSelect made.Selected h e = growth_at context operators at own.IfToSelect start made.Selected h 0
+  fewer own.DropConditionTest (made.Inner from end) h e = growth_at context operators at own.DropConditionTest start (made.Inner from end) h 0
+  fewer own.DropDoubleCondition (made.Inner from end) h e = growth_at context operators at own.DropDoubleCondition start (made.Inner from end) h 0
+  fewer own.DropDead made.Nothing h e = growth_at context operators at own.DropDead start made.Nothing h 0
   fewer own m h e = absurd h
 
   as_many : (own : Own) (m : Made) → Rewrites context operators own start at m → own_growth own ≡ rows.Keeps →
@@ -268,6 +277,14 @@ module _ (context : Context) (operators : Operators) (at start : ℕ) where
       (sym (ap growth_told h.listed) ∙ e) (growth_at context operators at (own.Access n) start (made.Access a w) h 0)
   as_many (own.Wrap w) m h e = absurd cc
   as_many (own.Unwrap w) m h e = absurd cc
+  as_many own.SelectToIf m h e = absurd cc
+  as_many own.IfToSelect m h e = absurd cc
+  as_many own.TestCondition m h e = absurd cc
+  as_many own.DropConditionTest m h e = absurd cc
+  as_many own.DoubleCondition m h e = absurd cc
+  as_many own.DropDoubleCondition m h e = absurd cc
+  as_many own.PutDead m h e = absurd cc
+  as_many own.DropDead m h e = absurd cc
   as_many own m h e = absurd h
 
   own_as_told : (own : Own) (m : Made) (told : told.Growth) → Rewrites context operators own start at m → told ≡ own_growth own →
@@ -327,6 +344,14 @@ own_word operators start at (made.Tee n) word = refl
 own_word operators start at (made.Access a w) word = refl
 own_word operators start at (made.Wrapped w t) word = wrapped_sizes (without_offsets operators) start at w t word ∙ sym (wrapped_sizes (without_offsets operators) start at w t 0)
 own_word operators start at (made.Inner from end) word = refl
+own_word operators start at (made.Conditional v condition) word = refl
+own_word operators start at made.Selected word = refl
+own_word operators start at made.Tested word = refl
+own_word operators start at made.DoublyTested word = refl
+own_word operators start at made.Dead word =
+    let kept = slice_range (without_offsets operators) start (at + 1) in
+    length-append kept (Instr (constant_code integer.I32 word) ∷ Instr drop_code ∷ [])
+    ∙ sym (length-append kept (Instr (constant_code integer.I32 0) ∷ Instr drop_code ∷ []))
 
 line_word : (operators : Operators) (line : Line) (place : Place) (word : ℕ) →
     length (pieces_operators (without_offsets operators) ((by_line line place).pieces word))

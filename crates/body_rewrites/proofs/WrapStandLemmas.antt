@@ -51,7 +51,7 @@ behind_parts : {A : Type 0} (xs : List A) (a b : ℕ) → a ≤ b → drop a xs 
 behind_parts xs a b l =
     append_cancel_left (take a xs) (drop a xs) (slice_range xs a b ++ drop b xs) (take-append-drop a xs ∙ three_parts xs a b l)
 
-none-append : (holds : Operator → Bool) (os rest : List Operator) → none_of holds os ≡ true → none_of holds rest ≡ true → none_of holds (os ++ rest) ≡ true
+pub none-append : (holds : Operator → Bool) (os rest : List Operator) → none_of holds os ≡ true → none_of holds rest ≡ true → none_of holds (os ++ rest) ≡ true
 none-append holds [] rest h k = k
 none-append holds (o ∷ os) rest h k = go (holds o) (λ e. none-append holds os rest e k) h
   where

@@ -4,9 +4,13 @@ ghost use Rattle.body_rewrites.specs.Own.{OwnChangesMayStand};
 
 use peephole_programs::laws::{pieces_do_as_before, replaced_code_is_in_one_piece};
 use peephole_programs::validity::replaced_code_stays_valid;
-use rewrite_rules::laws::{besides_keep_code, wraps_are_right};
+use rewrite_rules::laws::{
+    besides_keep_code, dropped_code_pushes_nothing, dropped_constants_push_nothing,
+    selects_are_conditionals, tests_are_conditions, wraps_are_right,
+};
 use wrapped_code::laws::{
-    unwrapped_code_does_as_before, wrapped_code_does_as_before, wrapped_code_pushes,
+    conditions_may_change, dead_code_may_change, unwrapped_code_does_as_before,
+    wrapped_code_does_as_before, wrapped_code_pushes,
 };
 
 /// What a rule beside the table makes may stand in the place of what stood there, and at an operator it makes one thing at most.
@@ -18,6 +22,12 @@ pub fn own_changes_may_stand()
     wrapped_code_does_as_before();
     unwrapped_code_does_as_before();
     wrapped_code_pushes();
+    selects_are_conditionals();
+    tests_are_conditions();
+    conditions_may_change();
+    dead_code_may_change();
+    dropped_code_pushes_nothing();
+    dropped_constants_push_nothing();
     replaced_code_is_in_one_piece();
     replaced_code_stays_valid();
     pieces_do_as_before();

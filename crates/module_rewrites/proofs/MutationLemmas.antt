@@ -159,6 +159,14 @@ own_asks context operators own.SetToTee start at (made.Global t g) h = absurd h
 own_asks context operators (own.Access n) start at (made.Global t g) h = absurd h
 own_asks context operators (own.Wrap w) start at (made.Global t g) h = absurd h
 own_asks context operators (own.Unwrap w) start at (made.Global t g) h = absurd h
+own_asks context operators own.SelectToIf start at (made.Global t g) h = absurd h
+own_asks context operators own.IfToSelect start at (made.Global t g) h = absurd h
+own_asks context operators own.TestCondition start at (made.Global t g) h = absurd h
+own_asks context operators own.DropConditionTest start at (made.Global t g) h = absurd h
+own_asks context operators own.DoubleCondition start at (made.Global t g) h = absurd h
+own_asks context operators own.DropDoubleCondition start at (made.Global t g) h = absurd h
+own_asks context operators own.PutDead start at (made.Global t g) h = absurd h
+own_asks context operators own.DropDead start at (made.Global t g) h = absurd h
 own_asks context operators o start at made.Nothing h = inl refl
 own_asks context operators o start at (made.Constant t n) h = inl refl
 own_asks context operators o start at (made.Sum t n) h = inl refl
@@ -168,6 +176,11 @@ own_asks context operators o start at (made.Tee n) h = inl refl
 own_asks context operators o start at (made.Access a w) h = inl refl
 own_asks context operators o start at (made.Wrapped w t) h = inl refl
 own_asks context operators o start at (made.Inner from end) h = inl refl
+own_asks context operators o start at (made.Conditional v condition) h = inl refl
+own_asks context operators o start at made.Selected h = inl refl
+own_asks context operators o start at made.Tested h = inl refl
+own_asks context operators o start at made.DoublyTested h = inl refl
+own_asks context operators o start at made.Dead h = inl refl
 
 row_asks : (context : Context) (operators : Operators) (line : Line) (at : ℕ) (change : Change) (w : Widths) → MakesBy context operators line at change w →
     AsksForNumbers change.asks

@@ -76,7 +76,7 @@ fn tells_rules_by_their_names(rt: HostRuntime) -> Result<(), Fail> {
 #[test]
 fn tells_of_which_rule_a_row_is(rt: HostRuntime) -> Result<(), Fail> {
     let rules = rules_of_rows(rt.alloc())?;
-    assert!(rt; row_count() == 1298);
+    assert!(rt; row_count() == 1326);
     assert!(rt; rules.len() == row_count());
     assert!(rt; rules.get(6).copied() == Some(0));
     assert!(rt; rules.get(7).copied() == Some(1));

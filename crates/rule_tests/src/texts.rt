@@ -6,7 +6,7 @@ use std::test::Fail;
 use wasm_types::PrimitiveTypeInfo;
 
 /// Numbers of rows, and their texts.
-const TEXTS: [(usize, &str); 55] = [
+const TEXTS: [(usize, &str); 59] = [
     (0, "add x y → add y x"),
     (7, "lt_s x y → gt_s y x"),
     (15, "add x (add y z) → add (add x y) z"),
@@ -89,6 +89,10 @@ const TEXTS: [(usize, &str); 55] = [
         1288,
         "v128.load64_zero → v128.load64_splat, i64.const 0, i64x2.replace_lane 1",
     ),
+    (1318, "select x y c → c if x else y end"),
+    (1319, "c if x else y end → select x y c"),
+    (1320, "br_if c, if c → br_if (ne c 0), if (ne c 0)"),
+    (1324, "br, return, unreachable → the same, drop r"),
 ];
 
 #[test]
@@ -102,7 +106,7 @@ fn prints_rows(rt: HostRuntime) -> Result<(), Fail> {
 }
 
 /// Numbers of rows, and what they do to the number of instructions.
-const GROWTHS: [(usize, Growth); 27] = [
+const GROWTHS: [(usize, Growth); 35] = [
     (0, Growth::Keeps),
     (25, Growth::Grows),
     (32, Growth::Grows),
@@ -130,6 +134,14 @@ const GROWTHS: [(usize, Growth); 27] = [
     (1094, Growth::Keeps),
     (1114, Growth::Grows),
     (1279, Growth::Shrinks),
+    (1318, Growth::Grows),
+    (1319, Growth::Shrinks),
+    (1320, Growth::Grows),
+    (1321, Growth::Shrinks),
+    (1322, Growth::Grows),
+    (1323, Growth::Shrinks),
+    (1324, Growth::Grows),
+    (1325, Growth::Shrinks),
 ];
 
 #[test]

@@ -1,4 +1,5 @@
-//! Values in control flow of their own, and the same taken away again, on bodies written by hand.
+//! What rules on control flow make of bodies written by hand, and that others take it back: values in control flow of their own, selects and
+//! conditionals, conditions that are tested, and code that is never reached.
 
 use body_rewrites::{Body, Rewrite, rewrite_body, trees_of};
 use peephole_machine::IntegerType;
@@ -68,10 +69,123 @@ const CASES: [Case; 10] = [
     ),
 ];
 
-/// A rule, an operator, a body with locals of i32, i64, f32, f64 and v128, and what it makes of it by the word 2, or none.
+/// A rule and the one that takes back what it makes, a body with locals of i32, i64, f32, f64 and v128, the operator, what the first rule
+/// makes of it by the word 2, and the operator at which the other one takes that back.
+type Pair = (
+    &'static str,
+    &'static str,
+    &'static [u8],
+    usize,
+    &'static [u8],
+    usize,
+);
+
+const PAIRS: [Pair; 12] = [
+    // Constants and variables of each type, and a condition of two operators.
+    (
+        "select_to_if",
+        "if_to_select",
+        b"\x20\0\x41\x05\x20\0\x1b\x1a\x0b",
+        3,
+        b"\x20\0\x04\x7f\x20\0\x05\x41\x05\x0b\x1a\x0b",
+        5,
+    ),
+    (
+        "select_to_if",
+        "if_to_select",
+        b"\x20\x01\x42\x07\x20\0\x45\x1b\x1a\x0b",
+        4,
+        b"\x20\0\x45\x04\x7e\x20\x01\x05\x42\x07\x0b\x1a\x0b",
+        6,
+    ),
+    (
+        "select_to_if",
+        "if_to_select",
+        b"\x20\x02\x20\x02\x20\0\x1b\x1a\x0b",
+        3,
+        b"\x20\0\x04\x7d\x20\x02\x05\x20\x02\x0b\x1a\x0b",
+        5,
+    ),
+    (
+        "select_to_if",
+        "if_to_select",
+        b"\x20\x04\x20\x04\x20\0\x1b\x1a\x0b",
+        3,
+        b"\x20\0\x04\x7b\x20\x04\x05\x20\x04\x0b\x1a\x0b",
+        5,
+    ),
+    // Before a branch, and before a conditional.
+    (
+        "test_condition",
+        "drop_condition_test",
+        b"\x20\0\x0d\0\x0b",
+        0,
+        b"\x20\0\x41\0\x47\x0d\0\x0b",
+        2,
+    ),
+    (
+        "test_condition",
+        "drop_condition_test",
+        b"\x20\0\x45\x04\x40\x0b\x0b",
+        1,
+        b"\x20\0\x45\x41\0\x47\x04\x40\x0b\x0b",
+        3,
+    ),
+    (
+        "double_condition",
+        "drop_double_condition",
+        b"\x20\0\x0d\0\x0b",
+        0,
+        b"\x20\0\x45\x45\x0d\0\x0b",
+        2,
+    ),
+    (
+        "double_condition",
+        "drop_double_condition",
+        b"\x20\0\x04\x40\x0b\x0b",
+        0,
+        b"\x20\0\x45\x45\x04\x40\x0b\x0b",
+        2,
+    ),
+    // Behind a return, a branch, and a trap; and before other code that isn't reached.
+    (
+        "put_dead",
+        "drop_dead",
+        b"\x0f\x0b",
+        0,
+        b"\x0f\x41\x02\x1a\x0b",
+        2,
+    ),
+    (
+        "put_dead",
+        "drop_dead",
+        b"\x0c\0\x0b",
+        0,
+        b"\x0c\0\x41\x02\x1a\x0b",
+        2,
+    ),
+    (
+        "put_dead",
+        "drop_dead",
+        b"\0\x0b",
+        0,
+        b"\0\x41\x02\x1a\x0b",
+        2,
+    ),
+    (
+        "put_dead",
+        "drop_dead",
+        b"\x0f\x20\0\x1a\x0b",
+        0,
+        b"\x0f\x41\x02\x1a\x20\0\x1a\x0b",
+        2,
+    ),
+];
+
+/// A rule, an operator, a body with such locals, and what it makes of it by the word 2, or none.
 type Other = (&'static str, usize, &'static [u8], Option<&'static [u8]>);
 
-const OTHERS: [Other; 12] = [
+const OTHERS: [Other; 32] = [
     // A value of each other type; a tree of several operators; and one in a block that stands there.
     (
         "in_block",
@@ -121,7 +235,95 @@ const OTHERS: [Other; 12] = [
         b"\x03\x7f\x41\x05\x41\x01\x0d\0\x0b\x1a\x0b",
         None,
     ),
+    // A condition that writes; one that may trap.
+    (
+        "select_to_if",
+        4,
+        b"\x20\0\x20\0\x41\x01\x22\0\x1b\x1a\x0b",
+        None,
+    ),
+    (
+        "select_to_if",
+        5,
+        b"\x41\x01\x41\x02\x20\0\x20\0\x6e\x1b\x1a\x0b",
+        Some(b"\x20\0\x20\0\x6e\x04\x7f\x41\x01\x05\x41\x02\x0b\x1a\x0b"),
+    ),
+    // An operand of two operators, either of them; one that is a constant of a float; two types; too few operands; no select.
+    (
+        "select_to_if",
+        4,
+        b"\x20\0\x45\x20\0\x20\0\x1b\x1a\x0b",
+        None,
+    ),
+    (
+        "select_to_if",
+        4,
+        b"\x20\0\x20\0\x45\x20\0\x1b\x1a\x0b",
+        None,
+    ),
+    (
+        "select_to_if",
+        3,
+        b"\x43\0\0\0\0\x20\x02\x20\0\x1b\x1a\x0b",
+        None,
+    ),
+    ("select_to_if", 3, b"\x20\0\x20\x01\x20\0\x1b\x1a\x0b", None),
+    ("select_to_if", 2, b"\x20\0\x20\0\x1b\x1a\x0b", None),
+    (
+        "select_to_if",
+        3,
+        b"\x20\0\x20\0\x20\0\x6a\x1a\x1a\x0b",
+        None,
+    ),
+    // A part of two operators; another type than the conditional's; a condition that writes; the body's own end behind it.
+    (
+        "if_to_select",
+        6,
+        b"\x20\0\x04\x7f\x20\0\x45\x05\x20\0\x0b\x1a\x0b",
+        None,
+    ),
+    (
+        "if_to_select",
+        5,
+        b"\x20\0\x04\x7e\x20\0\x05\x20\0\x0b\x1a\x0b",
+        None,
+    ),
+    (
+        "if_to_select",
+        6,
+        b"\x41\x01\x22\0\x04\x7f\x20\0\x05\x20\0\x0b\x1a\x0b",
+        None,
+    ),
+    (
+        "if_to_select",
+        5,
+        b"\x20\0\x04\x7f\x20\0\x05\x20\0\x0b\x0b",
+        Some(b"\x20\0\x20\0\x20\0\x1b\x0b"),
+    ),
+    // No branch behind it; another type; a comparison with another number; no comparison.
+    ("test_condition", 0, FIVE, None),
+    ("double_condition", 0, b"\x20\x01\x0d\0\x0b", None),
+    (
+        "drop_condition_test",
+        2,
+        b"\x20\0\x41\x01\x47\x0d\0\x0b",
+        None,
+    ),
+    ("drop_condition_test", 2, b"\x20\0\x41\0\x47\x1a\x0b", None),
+    ("drop_double_condition", 1, b"\x20\0\x45\x0d\0\x0b", None),
+    // Behind a branch by a table it is dropped alone; before the code there is no branch.
+    ("put_dead", 1, b"\x20\0\x0e\0\0\x0b", None),
+    (
+        "drop_dead",
+        3,
+        b"\x20\0\x0e\0\0\x41\x02\x1a\x0b",
+        Some(b"\x20\0\x0e\0\0\x0b"),
+    ),
+    ("drop_dead", 1, FIVE, None),
 ];
+
+/// The number of the first row of control flow. Those from there on are here, since their operators have no names in other rows.
+pub const FIRST_OF_FLOW: usize = 1298;
 
 /// The first row of the rule with that name.
 fn row_of(name: &str) -> Option<usize> {
@@ -182,7 +384,32 @@ fn wraps_a_value_and_takes_it_back(rt: HostRuntime) -> Result<(), Fail> {
 }
 
 #[test]
-fn wraps_values_alone(rt: HostRuntime) -> Result<(), Fail> {
+fn makes_flow_and_takes_it_back(rt: HostRuntime) -> Result<(), Fail> {
+    let alloc = rt.alloc();
+    for (name, back, bytes, operator, wanted, end) in PAIRS {
+        let made = rewritten(alloc, name, operator, bytes)?.ok_or("nothing is made")?;
+        assert!(rt; made.bytes() == wanted, "{name} {operator}");
+        let again = rewritten(alloc, back, end, wanted)?.ok_or("it isn't taken back")?;
+        assert!(rt; again.bytes() == bytes, "{back} {end}");
+    }
+    Ok(())
+}
+
+/// By each row from the first one of control flow on something is made here.
+#[test]
+fn all_rows_of_control_flow_are_told(rt: HostRuntime) -> Result<(), Fail> {
+    for number in FIRST_OF_FLOW..row_count() {
+        let rule = Rule::of_row(number).ok_or("no such row")?;
+        let name = rule.name();
+        let among_cases = CASES.iter().any(|case| case.0 == name || case.1 == name);
+        let among_pairs = PAIRS.iter().any(|pair| pair.0 == name || pair.1 == name);
+        assert!(rt; among_cases || among_pairs, "{name}");
+    }
+    Ok(())
+}
+
+#[test]
+fn makes_what_is_told_elsewhere(rt: HostRuntime) -> Result<(), Fail> {
     let alloc = rt.alloc();
     for (name, operator, bytes, wanted) in OTHERS {
         let made = rewritten(alloc, name, operator, bytes)?;

@@ -1,5 +1,5 @@
 //! Constants and variables, and conditions that write nothing: what selects and conditionals are made of.
-ghost use Rattle.std.specs.Prelude.{◌≡◌, ℕ, List, IfSome, IfNone};
+ghost use Rattle.std.specs.Prelude.{◌≡◌, ◌↔◌, ℕ, List, IsTrue, IfSome, IfNone};
 ghost use Rattle.wasm_code.specs.declared.immediate.ValType.{ValType as BlockValue};
 ghost use Rattle.wasm_code.specs.declared.operator.Operator.{Operator};
 ghost use Rattle.wasm_types.specs.declared.types.PrimitiveTypeInfo.{PrimitiveTypeInfo as ValueType};
@@ -54,6 +54,13 @@ fn leaf_at(
     Some(tree.gives)
 }
 
+// Whether both are one type.
+fn is_same(one: PrimitiveTypeInfo, other: PrimitiveTypeInfo) -> bool
+    ensures { IsTrue result ↔ (one ≡ other) }
+{
+    one == other
+}
+
 // The type of values of the two that stand there, where both are of one.
 pub(crate) fn leaves_at(
     operators: &[OperatorAndByteOffset],
@@ -74,7 +81,7 @@ pub(crate) fn leaves_at(
     let Some(other) = leaf_at(operators, trees, second) else {
         return None;
     };
-    if one != other {
+    if !is_same(one, other) {
         return None;
     }
     let Some(value) = value_of(one) else {

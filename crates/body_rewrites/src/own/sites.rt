@@ -5,9 +5,9 @@ ghost use Rattle.body_rewrites.specs.Trees.{AreTrees};
 ghost use Rattle.body_rewrites.specs.OwnSites.{IsSiteOf};
 
 use crate::own::{
-    Site, access, double_condition, drop_condition_test, drop_dead, drop_double_condition, drop_nop,
-    fold, forget, if_to_select, put_dead, select_to_if, set_to_tee, tee_to_set, test_condition,
-    through_global, unfold, unwrap, with_nop, wrap,
+    Site, access, double_condition, drop_condition_test, drop_dead, drop_double_condition,
+    drop_nop, fold, forget, if_to_select, put_dead, select_to_if, set_to_tee, tee_to_set,
+    test_condition, through_global, unfold, unwrap, with_nop, wrap,
 };
 use crate::places::Body;
 use rewrite_rules::Own;

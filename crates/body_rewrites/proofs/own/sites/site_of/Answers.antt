@@ -57,3 +57,43 @@ pub returns-in-Unwrap : goal.returns-in-Unwrap
 returns-in-Unwrap c = λ context same trees.
     let found = c.find-in-Unwrap.ensures context trees in
     subst (λ own. IsSiteOf context c.args.body.now.operators.now own c.args.at c.find-in-Unwrap.result) (sym c.in-Unwrap.is) found
+
+pub returns-in-SelectToIf : goal.returns-in-SelectToIf
+returns-in-SelectToIf c = λ context same trees.
+    let found = c.find-in-SelectToIf.ensures context trees in
+    subst (λ own. IsSiteOf context c.args.body.now.operators.now own c.args.at c.find-in-SelectToIf.result) (sym c.in-SelectToIf.is) found
+
+pub returns-in-IfToSelect : goal.returns-in-IfToSelect
+returns-in-IfToSelect c = λ context same trees.
+    let found = c.find-in-IfToSelect.ensures context trees in
+    subst (λ own. IsSiteOf context c.args.body.now.operators.now own c.args.at c.find-in-IfToSelect.result) (sym c.in-IfToSelect.is) found
+
+pub returns-in-TestCondition : goal.returns-in-TestCondition
+returns-in-TestCondition c = λ context same trees.
+    let found = c.find-in-TestCondition.ensures context trees in
+    subst (λ own. IsSiteOf context c.args.body.now.operators.now own c.args.at c.find-in-TestCondition.result) (sym c.in-TestCondition.is) found
+
+pub returns-in-DropConditionTest : goal.returns-in-DropConditionTest
+returns-in-DropConditionTest c = λ context same trees.
+    let found = c.find-in-DropConditionTest.ensures context trees in
+    subst (λ own. IsSiteOf context c.args.body.now.operators.now own c.args.at c.find-in-DropConditionTest.result) (sym c.in-DropConditionTest.is) found
+
+pub returns-in-DoubleCondition : goal.returns-in-DoubleCondition
+returns-in-DoubleCondition c = λ context same trees.
+    let found = c.find-in-DoubleCondition.ensures context trees in
+    subst (λ own. IsSiteOf context c.args.body.now.operators.now own c.args.at c.find-in-DoubleCondition.result) (sym c.in-DoubleCondition.is) found
+
+pub returns-in-DropDoubleCondition : goal.returns-in-DropDoubleCondition
+returns-in-DropDoubleCondition c = λ context same trees.
+    let found = c.find-in-DropDoubleCondition.ensures context trees in
+    subst (λ own. IsSiteOf context c.args.body.now.operators.now own c.args.at c.find-in-DropDoubleCondition.result) (sym c.in-DropDoubleCondition.is) found
+
+pub returns-in-PutDead : goal.returns-in-PutDead
+returns-in-PutDead c = λ context same trees.
+    let found = c.find-in-PutDead.ensures context in
+    subst (λ own. IsSiteOf context c.args.body.now.operators.now own c.args.at c.find-in-PutDead.result) (sym c.in-PutDead.is) found
+
+pub returns-in-DropDead : goal.returns-in-DropDead
+returns-in-DropDead c = λ context same trees.
+    let found = c.find-in-DropDead.ensures context trees in
+    subst (λ own. IsSiteOf context c.args.body.now.operators.now own c.args.at c.find-in-DropDead.result) (sym c.in-DropDead.is) found
