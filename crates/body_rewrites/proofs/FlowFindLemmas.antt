@@ -1,7 +1,6 @@
 -- Where selects, conditionals, conditions and code that is never reached are found.
-use Rattle.std.proofs.Common.{◌≡◌, ℕ, ◌+◌, ◌-◌, ◌<◌, ◌≤◌, true, false, List, [], ◌∷◌, length, Some, None, Option, refl, sym, ap, subst, ◌∙◌, arith}
+use Rattle.std.proofs.Common.{◌≡◌, ℕ, ◌+◌, ◌-◌, true, false, Some, None, Option, sym, ap, subst, ◌∙◌, arith}
 use Rattle.std.specs.Prelude.{slice_get}
-use Rattle.std.proofs.lemmas.Bool.{false≢true}
 use Rattle.std.proofs.lemmas.Option.{same_Some}
 use Rattle.wasm_code.specs.Instruction.{Instruction}
 use Rattle.wasm_code.specs.declared.immediate.ValType.{ValType}
@@ -10,23 +9,20 @@ use Rattle.wasm_types.specs.declared.types.PrimitiveTypeInfo.{PrimitiveTypeInfo}
 use Rattle.wasm_types.specs.declared.types.PrimitiveTypeInfo.TheVariants as primitive
 use Rattle.body_splices.specs.OwnBytes.{without_offsets}
 use Rattle.peephole_machine.specs.Values.{Context}
-use Rattle.peephole_programs.specs.control.Standard.{asks_beyond}
-use Rattle.wrapped_code.specs.Conditions.{is_condition}
-use Rattle.wrapped_code.specs.Dead.{never_goes_on}
 use Rattle.rewrite_rules.specs.Code.{writes}
 use Rattle.rewrite_rules.specs.Wrap.{value_of}
-use Rattle.rewrite_rules.specs.Flow.{is_leaf, zero_code, ne_code, eqz_code, select_code}
+use Rattle.rewrite_rules.specs.Flow.{is_leaf, zero_code, ne_code, eqz_code}
 use Rattle.rewrite_rules.specs.declared.table.Own.TheVariants.{SelectToIf, IfToSelect, TestCondition, DropConditionTest, DoubleCondition, DropDoubleCondition, PutDead, DropDead}
 use Rattle.body_rewrites.specs.declared.own.Made.{Made}
 use Rattle.body_rewrites.specs.declared.own.Made.TheVariants as made
 use Rattle.body_rewrites.specs.declared.trees.Tree.{Tree}
 use Rattle.body_rewrites.specs.Trees.{IsTree, HasTree}
 use Rattle.body_rewrites.specs.Open.{HasInstruction}
-use Rattle.body_rewrites.specs.Own.{AreLeaves, HasCondition, HasLeave, HasPlainLeave, IsAsked, IsChoice, IsChosen, IsDead, IsLeafAt, IsReadBefore, IsSelected, IsTested, Rewrites}
+use Rattle.body_rewrites.specs.Own.{AreLeaves, HasCondition, HasPlainLeave, IsAsked, IsChosen, IsDead, IsLeafAt, IsReadBefore, IsSelected, IsTested, Rewrites}
 use Rattle.body_rewrites.specs.OwnSites.{IsAskedBehind}
 use Rattle.body_rewrites.proofs.StandsLemmas.{Operators}
 use Rattle.body_rewrites.proofs.CutLemmas.{one_start}
-use Rattle.body_rewrites.proofs.OwnAloneLemmas.{one_leaves, one_read, one_tree, one_type}
+use Rattle.body_rewrites.proofs.OwnAloneLemmas.{one_tree, one_type}
 
 -- the operator that stands there
 pub one_operator : (operators : Operators) (at : ℕ) (o p : Operator) → slice_get (without_offsets operators) at ≡ Some o →

@@ -1,7 +1,7 @@
 -- What the rules on control flow make may stand in the place of what stood there: a conditional for a select and a select for it, a condition that is tested
 -- or isn't, and code that is never reached.
-use Rattle.std.proofs.Common.{◌≡◌, ℕ, suc, ◌+◌, ◌-◌, ◌<◌, ◌≤◌, ◌&&◌, not, Bool, true, false, List, [], ◌∷◌, ◌++◌, length, map, take, drop, Some, refl, sym, ap, ap₂, subst, ◌∙◌, arith, append_assoc, append-nil}
-use Rattle.std.specs.Prelude.{⊤, slice_get, slice_range}
+use Rattle.std.proofs.Common.{◌≡◌, ℕ, ◌+◌, ◌-◌, ◌<◌, ◌≤◌, ◌&&◌, not, Bool, true, false, List, [], ◌∷◌, ◌++◌, length, map, take, drop, Some, refl, sym, ap, ap₂, subst, ◌∙◌, arith, append_assoc, append-nil}
+use Rattle.std.specs.Prelude.{⊤, slice_range}
 use Rattle.std.specs.List.{All}
 use Rattle.std.proofs.lemmas.List.{map-append}
 use Rattle.std.proofs.lemmas.List.Elements.{All-nil, All-cons}
@@ -10,12 +10,9 @@ use Rattle.wasm_code.specs.declared.immediate.BlockType.TheVariants.{Value}
 use Rattle.wasm_code.specs.declared.immediate.ValType.{ValType}
 use Rattle.wasm_code.specs.declared.operator.Operator.{Operator}
 use Rattle.wasm_code.specs.declared.operator.Operator.TheVariants as op
-use Rattle.wasm_types.specs.Module.{Module}
-use Rattle.wasm_types.specs.declared.types.PrimitiveTypeInfo.{PrimitiveTypeInfo}
 use Rattle.wasm_types.specs.declared.types.PrimitiveTypeInfo.TheVariants as primitive
 use Rattle.body_splices.specs.declared.piece.Piece.{Piece}
-use Rattle.body_splices.specs.declared.piece.Piece.TheVariants.{Kept, New, Structural}
-use Rattle.body_splices.specs.declared.control.Control.TheVariants as control
+use Rattle.body_splices.specs.declared.piece.Piece.TheVariants.{Kept}
 use Rattle.body_splices.specs.OwnBytes.{none_of, without_offsets}
 use Rattle.body_splices.specs.Splice.{IsPieceIn}
 use Rattle.body_splices.specs.Laws.{pieces_operators}
@@ -24,7 +21,6 @@ use Rattle.peephole_machine.specs.Values.{Context}
 use Rattle.peephole_programs.specs.control.Standard.{asks_beyond}
 use Rattle.peephole_programs.specs.control.Wider.{wider}
 use Rattle.peephole_programs.specs.hosts.Embedder.{with_operators}
-use Rattle.peephole_programs.specs.modules.Program.{Body, context_for}
 use Rattle.peephole_programs.specs.validation.StaysValid.{Pushes}
 use Rattle.wrapped_code.specs.Wrapped.{written, WrappedRunsAs, WrappedChecksAs}
 use Rattle.wrapped_code.specs.Ways.{WrappedPushes, PushingCodeIsThere}
@@ -35,10 +31,8 @@ use Rattle.wrapped_code.specs.Dead.{never_goes_on, DeadCodeMayChange}
 use Rattle.rewrite_rules.specs.Beside.{drop_code}
 use Rattle.rewrite_rules.specs.Instance.{constant_code}
 use Rattle.rewrite_rules.specs.Flow.{zero_code, ne_code, eqz_code, select_code, MayBranch, SelectsAreConditionals, TestsAreConditions, DroppedCodePushesNothing, DroppedConstantsPushNothing}
-use Rattle.body_rewrites.specs.declared.own.Made.{Made}
 use Rattle.body_rewrites.specs.declared.own.Made.TheVariants as made
-use Rattle.body_rewrites.specs.Trees.{Stands, IsTree}
-use Rattle.body_rewrites.specs.Open.{HasInstruction}
+use Rattle.body_rewrites.specs.Trees.{Stands}
 use Rattle.body_rewrites.specs.Doing.{DoesAsBody}
 use Rattle.body_rewrites.specs.Changes.{Change, changed, MayStand}
 use Rattle.body_rewrites.specs.Own.{HasCondition, HasPlainLeave, IsAsked, IsChosen, IsDead, IsSelected, IsTested, new, change_of}

@@ -1,5 +1,5 @@
 -- By the tree right before the drop, and the operator right before that.
-use Rattle.std.proofs.Common.{◌-◌, ◌+◌, ◌≡◌, sym, subst, ◌∙◌, arith}
+use Rattle.std.proofs.Common.{◌-◌, ◌≡◌, sym, subst, ◌∙◌, arith}
 use Rattle.std.specs.Prelude.{Some, None}
 use Rattle.std.proofs.lemmas.Bool.{false≢true}
 use Rattle.body_rewrites.specs.Own.{HasLeave}

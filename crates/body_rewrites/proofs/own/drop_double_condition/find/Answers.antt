@@ -1,7 +1,5 @@
 -- By what stands before the test, and behind it.
-use Rattle.std.proofs.Common.{◌-◌, refl, ap, ◌∙◌, arith}
-use Rattle.std.specs.Prelude.{Some}
-use Rattle.wasm_code.specs.declared.operator.Operator.{Operator}
+use Rattle.std.proofs.Common.{◌-◌, refl, arith}
 use Rattle.rewrite_rules.specs.Flow.{eqz_code}
 use Rattle.body_rewrites.proofs.FlowFindLemmas.{no_double_test, asked_before, is_tested}
 use Rattle.body_rewrites.proofs.own.drop_double_condition.find.Goals as goal

@@ -1,5 +1,5 @@
 -- By the tree right before the select, and what stands before that.
-use Rattle.std.proofs.Common.{◌-◌, ◌+◌, ◌≡◌, refl, subst, ap₂, ◌∙◌, arith}
+use Rattle.std.proofs.Common.{◌-◌, ◌+◌, ◌≡◌, subst, arith}
 use Rattle.body_rewrites.specs.Own.{AreLeaves}
 use Rattle.body_rewrites.proofs.OwnAloneLemmas.{one_read}
 use Rattle.body_rewrites.proofs.FlowFindLemmas.{no_select}
