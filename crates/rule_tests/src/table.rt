@@ -10,7 +10,7 @@ use std::test::Fail;
 use wasm_code::{Imm, MemArg};
 
 /// Names of rules, and their numbers, as callers in C have them.
-const NAMES: [(&str, usize); 44] = [
+const NAMES: [(&str, usize); 48] = [
     ("commute", 0),
     ("turn_comparison", 1),
     ("associate_left", 2),
@@ -55,6 +55,10 @@ const NAMES: [(&str, usize); 44] = [
     ("store_wide", 346),
     ("splat_to_load_zero", 349),
     ("drop_negatives_of_pseudo_bound", 351),
+    ("in_block", 352),
+    ("drop_once", 371),
+    ("select_to_if", 372),
+    ("drop_dead", 379),
 ];
 
 #[test]
@@ -65,10 +69,10 @@ fn tells_rules_by_their_names(rt: HostRuntime) -> Result<(), Fail> {
         assert!(rt; rule.name() == name);
         assert!(rt; Rule::from_number(number) == Some(rule));
     }
-    assert!(rt; rule_count() == 352);
+    assert!(rt; rule_count() == 380);
     assert!(rt; all_rules(rt.alloc())?.get(256).copied() == Rule::from_number(256));
     assert!(rt; rule_names(rt.alloc())?.get(76).copied() == Some("join_sums"));
-    assert!(rt; Rule::from_number(352).is_none());
+    assert!(rt; Rule::from_number(380).is_none());
     assert!(rt; "no_rule".parse::<Rule>().is_err());
     Ok(())
 }

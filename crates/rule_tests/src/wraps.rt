@@ -325,9 +325,9 @@ const OTHERS: [Other; 32] = [
 /// The number of the first row of control flow. Those from there on are here, since their operators have no names in other rows.
 pub const FIRST_OF_FLOW: usize = 1298;
 
-/// The first row of the rule with that name.
+/// The first row of the rule with that name, of those of control flow.
 fn row_of(name: &str) -> Option<usize> {
-    for number in 0..row_count() {
+    for number in FIRST_OF_FLOW..row_count() {
         if let Some(rule) = Rule::of_row(number) {
             if rule.name() == name {
                 return Some(number);
