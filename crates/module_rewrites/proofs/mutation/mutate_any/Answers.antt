@@ -48,6 +48,10 @@ returns-then-not-is_in_vain-clause-chosen g c =
     c.draw_entry-n.result m.rewrite m.bytes.items (g.R.Rng.stream c.mutate_entry-made.new.generator)) c.mutate_entry-made.result
     c.mutate_entry-made.ensures.function c.mutate_entry-made.ensures.chosen)
 
+pub returns-then-not-is_in_vain-clause-mutated : goal.returns-then-not-is_in_vain-clause-mutated
+returns-then-not-is_in_vain-clause-mutated g c =
+    some_map c.mutate_entry-made.result (λ m h. (c.draw_entry-n.result, h.0, h.1)) c.mutate_entry-made.ensures.mutated
+
 pub returns-clause-chosen : goal.returns-clause-chosen
 returns-clause-chosen g c =
     let all : c.draws.counter ≡ draws_of c.args.scope.now c.args.bytes.now =

@@ -6,7 +6,7 @@ use Rattle.module_rewrites.specs.Writing.{MakesAt}
 use Rattle.module_rewrites.specs.declared.mutation.Mutated.{Mutated}
 use Rattle.module_rewrites.specs.declared.mutation.MutationError.{MutationError}
 use Rattle.module_rewrites.proofs.DrawnLemmas.{all_more, within_here}
-use Rattle.module_rewrites.proofs.MutationLemmas.{none_map, some_both, some_map}
+use Rattle.module_rewrites.proofs.MutationLemmas.{err_map, none_map, some_both, some_map}
 use Rattle.module_rewrites.proofs.ModuleLemmas.{NoneWithin, RefusesWithin, none_next, none_of_last, none_to, refused_of_last, vain_of_last}
 use Rattle.module_rewrites.proofs.mutation.mutate_first.Goals as goal
 
@@ -24,6 +24,10 @@ returns-then-not-is_in_vain-clause-chosen g c =
 pub returns-then-not-is_in_vain-clause-mutated : goal.returns-then-not-is_in_vain-clause-mutated
 returns-then-not-is_in_vain-clause-mutated g c =
     some_map c.mutate_entry-made.result (λ m h. (c.loop-n.n, h.0, h.1)) c.mutate_entry-made.ensures.mutated
+
+pub returns-then-not-is_in_vain-clause-refused : goal.returns-then-not-is_in_vain-clause-refused
+returns-then-not-is_in_vain-clause-refused g c =
+    err_map c.mutate_entry-made.result (λ e h. (c.loop-n.n, c.loop-n.auto.n, c.loop-n-test.true, h)) c.mutate_entry-made.ensures.refused
 
 pub loop-n-preserved : goal.loop-n-preserved
 loop-n-preserved g c =

@@ -5,7 +5,7 @@ use Rattle.wasm_module.specs.Module.{Layout}
 use Rattle.module_rewrites.specs.Mutated.{IsInVain, MutatesOne, RefusesEntry}
 use Rattle.module_rewrites.specs.declared.mutation.Mutated.{Mutated}
 use Rattle.module_rewrites.specs.declared.mutation.MutationError.{MutationError}
-use Rattle.module_rewrites.proofs.MutationLemmas.{none_map, some_map}
+use Rattle.module_rewrites.proofs.MutationLemmas.{err_map, none_map, some_map}
 use Rattle.module_rewrites.proofs.DrawnLemmas.{from_here, from_start}
 use Rattle.module_rewrites.proofs.ModuleLemmas.{NoneWithin, RefusesWithin, none_in_all, none_of_last, nothing_made, refused_of_last, vain_of_last}
 use Rattle.module_rewrites.proofs.mutation.mutate_in_order.Goals as goal
@@ -26,6 +26,10 @@ returns-then-not-is_in_vain-2-clause-chosen g c =
     (g.R.Rng.stream c.mutate_first-behind.new.generator) (g.R.Rng.stream c.mutate_first-before.new.generator) c.args.first
     c.len-count.result m.function m.rewrite m.bytes.items counted
     (c.mutate_first-behind.ensures.tried (c.is_in_vain.ensures.0 c.if-not-is_in_vain.false)) h) c.mutate_first-before.ensures.chosen
+
+pub returns-then-not-is_in_vain-2-clause-refused : goal.returns-then-not-is_in_vain-2-clause-refused
+returns-then-not-is_in_vain-2-clause-refused g c =
+    err_map c.mutate_first-before.result (λ e h. (h.0, omega (arith, h.2, c.requires.inside), h.3)) c.mutate_first-before.ensures.refused
 
 pub returns-clause-none : goal.returns-clause-none
 returns-clause-none g c =
