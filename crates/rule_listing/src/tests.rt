@@ -5,7 +5,7 @@ use std::str;
 use std::test::Fail;
 
 /// Lines of the list as JSON, by their numbers from 0.
-const OBJECTS: [(usize, &str); 7] = [
+const OBJECTS: [(usize, &str); 9] = [
     (
         3,
         r#"{"exact":false,"growth":"keeps","lines":["add (add x y) z → add x (add y z)","mul (mul x y) z → mul x (mul y z)","and (and x y) z → and x (and y z)","or (or x y) z → or x (or y z)","xor (xor x y) z → xor x (xor y z)"],"name":"associate_right","number":3}"#,
@@ -33,6 +33,14 @@ const OBJECTS: [(usize, &str); 7] = [
     (
         257,
         r#"{"exact":true,"growth":"grows","lines":["f32.load → i32.load, f32.reinterpret_i32","f64.load → i64.load, f64.reinterpret_i64"],"name":"float_load_to_bits","number":257}"#,
+    ),
+    (
+        356,
+        r#"{"exact":false,"growth":"grows","lines":["x → n if x else unreachable end"],"name":"in_if","number":356}"#,
+    ),
+    (
+        373,
+        r#"{"exact":false,"growth":"shrinks","lines":["c if x else y end → select x y c"],"name":"if_to_select","number":373}"#,
     ),
 ];
 
@@ -120,7 +128,7 @@ fn lists_rules_as_text(rt: HostRuntime) -> Result<(), Fail> {
     let mut output = Vec::new(rt.alloc());
     write_rules(rt.alloc(), &mut output, Form::Text)?;
     let text = str::from_utf8(&output)?;
-    assert!(rt; text.lines().count() == 1650);
+    assert!(rt; text.lines().count() == 1706);
     for (number, line) in LINES {
         assert!(rt; text.lines().nth(number) == Some(line), "line {number}");
     }
@@ -132,7 +140,7 @@ fn lists_rules_as_objects(rt: HostRuntime) -> Result<(), Fail> {
     let mut output = Vec::new(rt.alloc());
     write_rules(rt.alloc(), &mut output, Form::Json)?;
     let text = str::from_utf8(&output)?;
-    assert!(rt; text.lines().count() == 352);
+    assert!(rt; text.lines().count() == 380);
     for (number, line) in OBJECTS {
         assert!(rt; text.lines().nth(number) == Some(line), "line {number}");
     }
@@ -144,7 +152,7 @@ fn lists_rules_as_a_table(rt: HostRuntime) -> Result<(), Fail> {
     let mut output = Vec::new(rt.alloc());
     write_rules(rt.alloc(), &mut output, Form::Markdown)?;
     let text = str::from_utf8(&output)?;
-    assert!(rt; text.lines().count() == 1300);
+    assert!(rt; text.lines().count() == 1328);
     for (number, line) in ROWS {
         assert!(rt; text.lines().nth(number) == Some(line), "line {number}");
     }
