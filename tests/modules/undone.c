@@ -109,10 +109,14 @@ uint64_t lanes(uint32_t x, uint64_t y)
     return taken(digest, picked.all);
 }
 
-// What stands in control flow of its own is `x` four times, and `y` six times.
+// What stands in control flow of its own is `x` four times, and `y` six times; and what conditions choose.
 uint64_t flow(uint32_t x, uint64_t y) {
     uint64_t digest = 0;
     for (int i = 0; i < 4; i++) digest = taken(digest, x);
     for (int i = 0; i < 6; i++) digest = taken(digest, y);
-    return digest;
+    digest = taken(digest, x & 1 ? x : 7);
+    digest = taken(digest, x ? 5 : 6);
+    digest = taken(digest, x ? 8 : 9);
+    digest = taken(digest, x);
+    return taken(digest, x & 1 ? x : 3);
 }
