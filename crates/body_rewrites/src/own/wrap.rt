@@ -14,7 +14,8 @@ use rewrite_rules::{Wrap, value_of};
 // Where the rule applies at the operator, and what it makes there.
 pub(crate) fn find(trees: &[Option<Tree>], at: usize, wrap: Wrap) -> Option<Site>
     ensures { (context : Context) (operators : List (Operator × ℕ))
-        → AreTrees context operators trees.now → IsSiteOf context operators (WrapRule wrap) at result }
+        → AreTrees context operators trees.now
+        → IsSiteOf context operators (WrapRule wrap) at result }
 {
     let Some(tree) = tree_at(trees, at) else {
         return None;

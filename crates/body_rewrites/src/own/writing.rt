@@ -250,8 +250,8 @@ fn push_items(pieces: &mut ArrayVec<Piece, 7>, items: &[WrapItem], t: ValType, w
 
 // The piece in wrapped code.
 fn wrapped(start: usize, kept: Piece, wrap: Wrap, t: ValType, word: u64) -> NewCode
-    ensures { IsCode start (item_pieces t word (front_of wrap) ++ kept ∷ item_pieces t word (back_of wrap))
-        [] result }
+    ensures { IsCode start
+        (item_pieces t word (front_of wrap) ++ kept ∷ item_pieces t word (back_of wrap)) [] result }
 {
     let mut pieces = ArrayVec::new();
     push_items(&mut pieces, wrap.front(), t, word);
