@@ -143,19 +143,21 @@ module _ (xs middle ys : List Operator) (n m : ℕ) (n_is : length xs ≡ n) (m_
     choose_moved (c ∷ []) a b x y h k = chosen_moved c.type c.number a b x y h k
     choose_moved (c ∷ d ∷ vs) a b x y h k = refl
 
-    by_moved : (k : ℕ) (t : PrimitiveTypeInfo) (i : ℕ) (labels : List Label) (stack : List Value) (s : State) → IsAsking before k →
-        std.branch_by w results after other (moved n m k) t i (las labels) stack s ≡ re (std.branch_by w results before beyond k t i labels stack s)
-    by_moved k primitive.I32 i labels stack s a =
-        ap₂ (λ (ls : List ℕ) (d : ℕ). std.branch w results after other (std.label_at ls d i) (las labels) stack s) (tells.labels_are k a)
+    by_moved : (count k : ℕ) (t : PrimitiveTypeInfo) (i : ℕ) (labels : List Label) (stack : List Value) (s : State) → IsAsking before k →
+        std.branch_by w results after other count (moved n m k) t i (las labels) stack s ≡
+        re (std.branch_by w results before beyond count k t i labels stack s)
+    by_moved count k primitive.I32 i labels stack s a =
+        ap₂ (λ (ls : List ℕ) (d : ℕ). std.branch w results after other (std.label_at (take count ls) d i) (las labels) stack s) (tells.labels_are k a)
         (tells.default_is k a) ∙
-        branch_moved (std.label_at (beyond.labels k) (beyond.default k) i) labels stack s
-    by_moved k t i labels stack s a = refl
+        branch_moved (std.label_at (take count (beyond.labels k)) (beyond.default k) i) labels stack s
+    by_moved count k t i labels stack s a = refl
 
-    on_moved : (k : ℕ) (vs : List Value) (labels : List Label) (stack : List Value) (s : State) → IsAsking before k →
-        std.branch_on w results after other (moved n m k) vs (las labels) stack s ≡ re (std.branch_on w results before beyond k vs labels stack s)
-    on_moved k [] labels stack s a = refl
-    on_moved k (c ∷ []) labels stack s a = by_moved k c.type c.number labels stack s a
-    on_moved k (c ∷ d ∷ vs) labels stack s a = refl
+    on_moved : (count k : ℕ) (vs : List Value) (labels : List Label) (stack : List Value) (s : State) → IsAsking before k →
+        std.branch_on w results after other count (moved n m k) vs (las labels) stack s ≡
+        re (std.branch_on w results before beyond count k vs labels stack s)
+    on_moved count k [] labels stack s a = refl
+    on_moved count k (c ∷ []) labels stack s a = by_moved count k c.type c.number labels stack s a
+    on_moved count k (c ∷ d ∷ vs) labels stack s a = refl
 
     only_moved : (vs : List Value) (a x : Reached) → a ≡ re x → std.only_values w results after vs a ≡ re (std.only_values w results before vs x)
     only_moved vs a x h = go (are_values vs)
@@ -323,7 +325,7 @@ module _ (xs middle ys : List Operator) (n m : ℕ) (n_is : length xs ≡ n) (m_
         choose_moved (std.last_of 1 stack) (std.branch w results after other l (las labels) below s) (At (suc (moved n m k)) (las labels) below s)
         (std.branch w results before beyond l labels below s) (At (suc k) labels below s) (branch_moved l labels below s) (next_moved k labels below s)
     operator_moved (Some (op.BrTable x)) k labels stack s at =
-        on_moved k (std.last_of 1 stack) labels (take (length stack - 1) stack) s (op.BrTable x, at, refl)
+        on_moved x k (std.last_of 1 stack) labels (take (length stack - 1) stack) s (op.BrTable x, at, refl)
     operator_moved (Some op.Return) k labels stack s at = refl
     operator_moved (Some op.Unreachable) k labels stack s at = refl
     operator_moved (Some (op.CallIndirect type table)) k labels stack s at =

@@ -1,5 +1,5 @@
 -- A body in which code that is never reached was replaced runs as before, and stays valid.
-use Rattle.std.proofs.Common.{◌≡◌, ℕ, suc, ◌+◌, ◌-◌, true, List, [], ◌∷◌, ◌++◌, Option, Some, None, refl, sym, ap, ◌∙◌, arith, append-nil, inl, inr}
+use Rattle.std.proofs.Common.{◌≡◌, ℕ, suc, ◌+◌, ◌-◌, true, List, [], ◌∷◌, ◌++◌, take, Option, Some, None, refl, sym, ap, ◌∙◌, arith, append-nil, inl, inr}
 use Rattle.std.specs.Prelude.{map, slice_get, option_map, option_and_then, if◌then◌else◌}
 use Rattle.std.proofs.lemmas.Bool.{cases_lt}
 use Rattle.wasm_code.specs.Instruction.{Instruction}
@@ -81,7 +81,7 @@ open_behind m results beyond (op.Br l) is k fs next e =
     let (f, x, y) = and_then_some (λ (f : Frame). on_innermost (step f) fs) (slice_get fs l) next e in innermost_open (step f) fs next y
 open_behind m results beyond (op.BrTable n) is k fs next e =
     let step : Frame → Frame → Option Frame =
-    λ f g. option_and_then (λ (d : Frame). if can_jump_all fs f d (beyond.labels k) then option_map cut_off (pop (label_types f) d) else None)
+    λ f g. option_and_then (λ (d : Frame). if can_jump_all fs f d (take n (beyond.labels k)) then option_map cut_off (pop (label_types f) d) else None)
     (pop (primitive.I32 ∷ []) g) in
     let (f, x, y) = and_then_some (λ (f : Frame). on_innermost (step f) fs) (slice_get fs (beyond.default k)) next e in innermost_open (step f) fs next y
 open_behind m results beyond op.Return is k fs next e = innermost_open (λ g. option_map cut_off (pop results g)) fs next e

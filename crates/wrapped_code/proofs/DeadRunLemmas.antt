@@ -197,16 +197,16 @@ module _ (m : Module) (results : List PrimitiveTypeInfo) (structure : List Opera
   choose_misses (c ∷ []) x y h k = chosen_misses c.type c.number x y h k
   choose_misses (c ∷ d ∷ vs) x y h k = tt
 
-  by_misses : (k : ℕ) (t : PrimitiveTypeInfo) (i : ℕ) (labels : List Label) (stack : List Value) (s : State) →
-      Misses (std.branch_by m results structure beyond k t i labels stack s)
-  by_misses k primitive.I32 i labels stack s = branch_misses (std.label_at (beyond.labels k) (beyond.default k) i) labels stack s
-  by_misses k t i labels stack s = tt
+  by_misses : (count k : ℕ) (t : PrimitiveTypeInfo) (i : ℕ) (labels : List Label) (stack : List Value) (s : State) →
+      Misses (std.branch_by m results structure beyond count k t i labels stack s)
+  by_misses count k primitive.I32 i labels stack s = branch_misses (std.label_at (take count (beyond.labels k)) (beyond.default k) i) labels stack s
+  by_misses count k t i labels stack s = tt
 
-  on_misses : (k : ℕ) (vs : List Value) (labels : List Label) (stack : List Value) (s : State) →
-      Misses (std.branch_on m results structure beyond k vs labels stack s)
-  on_misses k [] labels stack s = tt
-  on_misses k (c ∷ []) labels stack s = by_misses k c.type c.number labels stack s
-  on_misses k (c ∷ d ∷ vs) labels stack s = tt
+  on_misses : (count k : ℕ) (vs : List Value) (labels : List Label) (stack : List Value) (s : State) →
+      Misses (std.branch_on m results structure beyond count k vs labels stack s)
+  on_misses count k [] labels stack s = tt
+  on_misses count k (c ∷ []) labels stack s = by_misses count k c.type c.number labels stack s
+  on_misses count k (c ∷ d ∷ vs) labels stack s = tt
 
   only_misses : (vs : List Value) (x : Reached) → Misses x → Misses (std.only_values m results structure vs x)
   only_misses vs x h = go (are_values vs)
@@ -315,7 +315,7 @@ module _ (m : Module) (results : List PrimitiveTypeInfo) (structure : List Opera
       let below = take (length stack - 1) stack in
       choose_misses (std.last_of 1 stack) (std.branch m results structure beyond l labels below s) (At (suc k) labels below s)
       (branch_misses l labels below s) (apart k (op.BrIf l) at refl)
-  operator_misses (Some (op.BrTable i)) k labels stack s at = on_misses k (std.last_of 1 stack) labels (take (length stack - 1) stack) s
+  operator_misses (Some (op.BrTable i)) k labels stack s at = on_misses i k (std.last_of 1 stack) labels (take (length stack - 1) stack) s
   operator_misses (Some op.Return) k labels stack s at = tt
   operator_misses (Some op.Unreachable) k labels stack s at = tt
   operator_misses (Some (op.CallIndirect type table)) k labels stack s at =

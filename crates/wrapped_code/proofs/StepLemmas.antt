@@ -1,5 +1,5 @@
 -- One operator's step of validation: by other numbers, and in a module with further globals.
-use Rattle.std.proofs.Common.{◌≡◌, ℕ, Bool, List, [], ◌∷◌, ◌++◌, Option, Some, None, refl, sym, ap, ap₂, ◌∙◌}
+use Rattle.std.proofs.Common.{◌≡◌, ℕ, Bool, List, [], ◌∷◌, ◌++◌, take, Option, Some, None, refl, sym, ap, ap₂, ◌∙◌}
 use Rattle.std.specs.Prelude.{map, slice_get, option_map, option_and_then, if◌then◌else◌}
 use Rattle.wasm_code.specs.Instruction.{Instruction}
 use Rattle.wasm_code.specs.declared.immediate.BlockType.{BlockType}
@@ -54,7 +54,7 @@ module _ (m : Module) (results : List PrimitiveTypeInfo) (beyond other : Beyond)
   step_numbers (Some (op.Br l)) fs = refl
   step_numbers (Some (op.BrIf l)) fs = refl
   step_numbers (Some (op.BrTable n)) fs =
-      ap₂ (λ (i : ℕ) (is : List ℕ). option_and_then (λ f. on_innermost (λ g. option_and_then (λ d. if can_jump_all fs f d is then
+      ap₂ (λ (i : ℕ) (is : List ℕ). option_and_then (λ f. on_innermost (λ g. option_and_then (λ d. if can_jump_all fs f d (take n is) then
       option_map cut_off (pop (label_types f) d) else None) (pop (primitive.I32 ∷ []) g)) fs) (slice_get fs i)) d ls
   step_numbers (Some (op.CallIndirect type table)) fs = refl
   step_numbers (Some op.Return) fs = refl

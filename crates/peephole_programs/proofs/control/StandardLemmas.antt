@@ -35,17 +35,17 @@ module _ (widening : Widening) where
     skip_fine [] stack a = stuck_fine widening
     skip_fine (label ∷ outer) stack a = at_fine widening _ _ _ a
 
-    by_fine : (beyond : Beyond) (k : ℕ) (t : PrimitiveTypeInfo) (i : ℕ) (labels : List Label) (stack : List Value) → All IsValue stack →
-        IsFine widening (branch_by m results structure beyond k t i labels stack)
-    by_fine beyond k primitive.I32 i labels stack a =
-        branch_fine widening m results structure beyond (label_at (beyond.labels k) (beyond.default k) i) labels stack a
-    by_fine beyond k t i labels stack a = stuck_fine widening
+    by_fine : (beyond : Beyond) (count k : ℕ) (t : PrimitiveTypeInfo) (i : ℕ) (labels : List Label) (stack : List Value) → All IsValue stack →
+        IsFine widening (branch_by m results structure beyond count k t i labels stack)
+    by_fine beyond count k primitive.I32 i labels stack a =
+        branch_fine widening m results structure beyond (label_at (take count (beyond.labels k)) (beyond.default k) i) labels stack a
+    by_fine beyond count k t i labels stack a = stuck_fine widening
 
-    on_fine : (beyond : Beyond) (k : ℕ) (vs : List Value) (labels : List Label) (stack : List Value) → All IsValue stack →
-        IsFine widening (branch_on m results structure beyond k vs labels stack)
-    on_fine beyond k [] labels stack a = stuck_fine widening
-    on_fine beyond k (c ∷ []) labels stack a = by_fine beyond k c.type c.number labels stack a
-    on_fine beyond k (c ∷ d ∷ vs) labels stack a = stuck_fine widening
+    on_fine : (beyond : Beyond) (count k : ℕ) (vs : List Value) (labels : List Label) (stack : List Value) → All IsValue stack →
+        IsFine widening (branch_on m results structure beyond count k vs labels stack)
+    on_fine beyond count k [] labels stack a = stuck_fine widening
+    on_fine beyond count k (c ∷ []) labels stack a = by_fine beyond count k c.type c.number labels stack a
+    on_fine beyond count k (c ∷ d ∷ vs) labels stack a = stuck_fine widening
 
   module _ (results : List PrimitiveTypeInfo) (structure : List Operator) where
     abbrev m : Module
@@ -129,7 +129,7 @@ module _ (widening : Widening) where
         choose_fine widening (last_of 1 stack) (branch m results structure beyond l labels below) (λ s. At (suc k) labels below s)
         (branch_fine widening m results structure beyond l labels below b) (at_fine widening _ _ _ b)
     operator_fine beyond (Some (op.BrTable n)) k labels stack a =
-        on_fine m results structure beyond k (last_of 1 stack) labels (take (length stack - 1) stack) (All-take IsValue (length stack - 1) stack a)
+        on_fine m results structure beyond n k (last_of 1 stack) labels (take (length stack - 1) stack) (All-take IsValue (length stack - 1) stack a)
     operator_fine beyond (Some op.Return) k labels stack a = leave_fine widening m results structure stack a
     operator_fine beyond (Some op.Unreachable) k labels stack a = trap_fine widening unreachable
     operator_fine beyond (Some (op.CallIndirect type table)) k labels stack a =

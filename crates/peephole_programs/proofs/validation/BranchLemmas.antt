@@ -192,10 +192,10 @@ module _ (walk : Walk) where
   label_holds frames to f P each (l ∷ ls) default (suc i) d e =
       label_holds frames to f P each ls default i d (and_parts (can_jump frames to f l) (can_jump_all frames to f ls) e).1
 
-  branch_by_stands : (k : ℕ) (c : Value) (labels : List Label) (stack : List Value) (s : State) → c.type ≡ primitive.I32 →
-      Stands walk (branch m results structure beyond (label_at (beyond.labels k) (beyond.default k) c.number) labels stack s) →
-      Stands walk (branch_by m results structure beyond k c.type c.number labels stack s)
-  branch_by_stands k c labels stack s e h = subst (λ t. Stands walk (branch_by m results structure beyond k t c.number labels stack s)) (sym e) h
+  branch_by_stands : (n k : ℕ) (c : Value) (labels : List Label) (stack : List Value) (s : State) → c.type ≡ primitive.I32 →
+      Stands walk (branch m results structure beyond (label_at (take n (beyond.labels k)) (beyond.default k) c.number) labels stack s) →
+      Stands walk (branch_by m results structure beyond n k c.type c.number labels stack s)
+  branch_by_stands n k c labels stack s e h = subst (λ t. Stands walk (branch_by m results structure beyond n k t c.number labels stack s)) (sym e) h
 
   pub br_table_stands : (n k : ℕ) → k < length structure → Next walk k (op.BrTable n)
   br_table_stands n k l g outer labels stack s fits e a typed =
@@ -203,13 +203,13 @@ module _ (walk : Walk) where
       let next = trace.frames (suc k) in
       let frames = g ∷ outer in
       let (to, at, b) = and_then_some (λ (f : Frame). on_innermost (λ (g : Frame). option_and_then (λ (d : Frame).
-      if can_jump_all frames f d (beyond.labels k) then option_map cut_off (pop (label_types f) d) else None) (pop one g)) frames)
+      if can_jump_all frames f d (take n (beyond.labels k)) then option_map cut_off (pop (label_types f) d) else None) (pop one g)) frames)
       (slice_get frames (beyond.default k)) next e in
-      let (h, c, d) = map_some (λ (h : Frame). h ∷ outer) (option_and_then (λ (d : Frame). if can_jump_all frames to d (beyond.labels k) then
+      let (h, c, d) = map_some (λ (h : Frame). h ∷ outer) (option_and_then (λ (d : Frame). if can_jump_all frames to d (take n (beyond.labels k)) then
       option_map cut_off (pop (label_types to) d) else None) (pop one g)) next b in
-      let (f, u, v) = and_then_some (λ (d : Frame). if can_jump_all frames to d (beyond.labels k) then
+      let (f, u, v) = and_then_some (λ (d : Frame). if can_jump_all frames to d (take n (beyond.labels k)) then
       option_map cut_off (pop (label_types to) d) else None) (pop one g) h c in
-      let (can, w) = if_some (can_jump_all frames to f (beyond.labels k)) (option_map cut_off (pop (label_types to) f)) h v in
+      let (can, w) = if_some (can_jump_all frames to f (take n (beyond.labels k))) (option_map cut_off (pop (label_types to) f)) h v in
       let (q, x, y) = map_some cut_off (pop (label_types to) f) h w in
       let cond = condition walk g f outer labels stack fits u in
       let base_all : All IsValue cond.base = all_front cond.base (cond.value ∷ []) (subst (All IsValue) cond.is a) in
@@ -218,11 +218,12 @@ module _ (walk : Walk) where
       let each = λ (l : ℕ) (x h : Frame) (a : slice_get frames l ≡ Some x) (p : pop (label_types x) f ≡ Some h).
       (let (x', at', same) = found_like l f g x outer like a in
       taken_stands l f h x' outer labels cond.base s cond.fits at' (ap (λ z. pop z f) same ∙ p) base_all typed) in
-      subst (λ (z : List Value). Stands walk (branch_on m results structure beyond k (last_of 1 z) labels (take (length z - 1) z) s)) (sym cond.is)
-      (subst (λ (z : List Value). Stands walk (branch_on m results structure beyond k z labels
+      subst (λ (z : List Value). Stands walk (branch_on m results structure beyond n k (last_of 1 z) labels (take (length z - 1) z) s)) (sym cond.is)
+      (subst (λ (z : List Value). Stands walk (branch_on m results structure beyond n k z labels
       (take (length (cond.base ++ cond.value ∷ []) - 1) (cond.base ++ cond.value ∷ [])) s)) (sym (last_is cond.base (cond.value ∷ []) 1 refl))
-      (subst (λ (z : List Value). Stands walk (branch_by m results structure beyond k cond.value.type cond.value.number labels z s))
+      (subst (λ (z : List Value). Stands walk (branch_by m results structure beyond n k cond.value.type cond.value.number labels z s))
       (sym (front_is cond.base (cond.value ∷ []) 1 refl))
-      (branch_by_stands k cond.value labels cond.base s cond.typed
-      (label_holds frames to f (λ l. Stands walk (branch m results structure beyond l labels cond.base s)) each (beyond.labels k) (beyond.default k)
+      (branch_by_stands n k cond.value labels cond.base s cond.typed
+      (label_holds frames to f (λ l. Stands walk (branch m results structure beyond l labels cond.base s)) each (take n (beyond.labels k))
+      (beyond.default k)
       cond.value.number (each (beyond.default k) to q at x) can))))

@@ -1,5 +1,5 @@
 -- What stays of a frame, and what a structural operator does to the frames.
-use Rattle.std.proofs.Common.{◌≡◌, ℕ, ◌⊎◌, inl, inr, List, [], ◌∷◌, length, Option, Some, None, refl, sym, ap, ◌∙◌, subst, true}
+use Rattle.std.proofs.Common.{◌≡◌, ℕ, ◌⊎◌, inl, inr, List, [], ◌∷◌, length, take, Option, Some, None, refl, sym, ap, ◌∙◌, subst, true}
 use Rattle.std.specs.Prelude.{◌&&◌, slice_get, option_map, option_and_then, if◌then◌else◌}
 use Rattle.std.proofs.lemmas.Bool.{and_parts}
 use Rattle.wasm_code.specs.Instruction.{Instruction}
@@ -224,13 +224,13 @@ module _ (m : Module) (results : List PrimitiveTypeInfo) where
       flat (λ g. Some (cut_off g)) (λ g h x. let is : h ≡ cut_off g = cc in like_is is (record { opened = refl; starts = refl; ends = refl })) fs next e
   effect beyond (op.BrTable n) k fs next e =
       let one = primitive.I32 ∷ [] in
-      let step = λ (f g : Frame). option_and_then (λ (d : Frame). if can_jump_all fs f d (beyond.labels k) then
+      let step = λ (f g : Frame). option_and_then (λ (d : Frame). if can_jump_all fs f d (take n (beyond.labels k)) then
       option_map cut_off (pop (label_types f) d) else None) (pop one g) in
       let (f, a, b) = and_then_some (λ (f : Frame). on_innermost (step f) fs) (slice_get fs (beyond.default k)) next e in
       flat (step f)
-      (λ g h x. let (d, u, v) = and_then_some (λ (d : Frame). if can_jump_all fs f d (beyond.labels k) then
+      (λ g h x. let (d, u, v) = and_then_some (λ (d : Frame). if can_jump_all fs f d (take n (beyond.labels k)) then
       option_map cut_off (pop (label_types f) d) else None) (pop one g) h x in
-      let (c, w) = if_some (can_jump_all fs f d (beyond.labels k)) (option_map cut_off (pop (label_types f) d)) h v in
+      let (c, w) = if_some (can_jump_all fs f d (take n (beyond.labels k))) (option_map cut_off (pop (label_types f) d)) h v in
       like_then (cut_like (pop (label_types f) d) d h (pop_like (label_types f) d) w) (pop_like one g d u)) fs next b
   effect beyond (op.CallIndirect type table) k fs next e =
       let ar = call_arity m type table in

@@ -183,15 +183,16 @@ module _ (m : Module) (results : List PrimitiveTypeInfo) (structure : List Opera
   skip [] stack s = Done Stuck
   skip (label ∷ outer) stack s = At (suc (end_of label.opener)) outer stack s
 
-  -- an index that was popped chooses a label
-  abbrev pub branch_by : (beyond : Beyond) → (k : ℕ) → PrimitiveTypeInfo → ℕ → List Label → List Value → State → Reached
-  branch_by beyond k primitive.I32 i labels stack s = branch beyond (label_at (beyond.labels k) (beyond.default k) i) labels stack s
-  branch_by beyond k t i labels stack s = Done Stuck
+  -- an index that was popped chooses one of so many labels
+  abbrev pub branch_by : (beyond : Beyond) → (count k : ℕ) → PrimitiveTypeInfo → ℕ → List Label → List Value → State → Reached
+  branch_by beyond count k primitive.I32 i labels stack s =
+      branch beyond (label_at (take count (beyond.labels k)) (beyond.default k) i) labels stack s
+  branch_by beyond count k t i labels stack s = Done Stuck
 
   -- the one value that was popped is that index; of no value the run is stuck
-  abbrev pub branch_on : (beyond : Beyond) → (k : ℕ) → (popped : List Value) → List Label → List Value → State → Reached
-  branch_on beyond k (c ∷ []) labels stack s = branch_by beyond k c.type c.number labels stack s
-  branch_on beyond k vs labels stack s = Done Stuck
+  abbrev pub branch_on : (beyond : Beyond) → (count k : ℕ) → (popped : List Value) → List Label → List Value → State → Reached
+  branch_on beyond count k (c ∷ []) labels stack s = branch_by beyond count k c.type c.number labels stack s
+  branch_on beyond count k vs labels stack s = Done Stuck
 
   -- where these are values; with others the run is stuck
   abbrev pub only_values : List Value → Reached → Reached
@@ -296,7 +297,7 @@ module _ (m : Module) (results : List PrimitiveTypeInfo) (structure : List Opera
       let below = take (length stack - 1) stack in
       choose (last_of 1 stack) (branch beyond l labels below s) (At (suc k) labels below s)
   by_operator beyond (Some (op.BrTable n)) k labels stack s =
-      branch_on beyond k (last_of 1 stack) labels (take (length stack - 1) stack) s
+      branch_on beyond n k (last_of 1 stack) labels (take (length stack - 1) stack) s
   by_operator beyond (Some op.Return) k labels stack s = leave stack s
   by_operator beyond (Some op.Unreachable) k labels stack s = Done (Traps unreachable (own_globals s) s.rest)
   by_operator beyond (Some (op.CallIndirect type table)) k labels stack s =

@@ -1,6 +1,6 @@
 -- What the standard's algorithm does to the control frames at blocks, loops, conditionals, branches, returns and ends
 -- (WebAssembly Core Specification 3.0, Appendix, Validation Algorithm).
-use Rattle.std.specs.Prelude.{ℕ, ◌==◌, ◌&&◌, if◌then◌else◌, Bool, true, false, List, [], ◌∷◌, ◌++◌, length, slice_get, Option, Some, None, is_some, option_map, option_and_then}
+use Rattle.std.specs.Prelude.{ℕ, ◌==◌, ◌&&◌, if◌then◌else◌, Bool, true, false, List, [], ◌∷◌, ◌++◌, length, take, slice_get, Option, Some, None, is_some, option_map, option_and_then}
 use Rattle.wasm_code.specs.declared.operator.Operator.{Operator}
 use Rattle.wasm_code.specs.declared.operator.Operator.TheVariants as op
 use Rattle.wasm_code.specs.declared.other.Other.{Other}
@@ -185,7 +185,7 @@ module _ (m : Module) (results : List PrimitiveTypeInfo) where
       option_and_then (λ f. on_innermost (λ g. option_and_then (λ d. option_map (push (label_types f)) (pop (label_types f) d))
       (pop (primitive.I32 ∷ []) g)) frames) (slice_get frames l)
   by_step beyond (Some (op.BrTable n)) k frames =
-      option_and_then (λ f. on_innermost (λ g. option_and_then (λ d. if can_jump_all frames f d (beyond.labels k) then
+      option_and_then (λ f. on_innermost (λ g. option_and_then (λ d. if can_jump_all frames f d (take n (beyond.labels k)) then
       option_map cut_off (pop (label_types f) d) else None) (pop (primitive.I32 ∷ []) g)) frames) (slice_get frames (beyond.default k))
   by_step beyond (Some op.Return) k frames = on_innermost (λ g. option_map cut_off (pop results g)) frames
   by_step beyond (Some op.Unreachable) k frames = on_innermost (λ g. Some (cut_off g)) frames
