@@ -145,7 +145,7 @@ module _ (context : Context) where
   step_same row stack vs s after h a free e =
       let (ops, us, rs, values, typed, does) = step_parts row stack vs s after h a e in row_same row ops us rs s after h values typed free does
 
-  run_same : (code : List Instruction) (stack vs : List Value) (s after : State) → HasTypes context s → All IsValue stack → code_changes code ≡ false →
+  pub run_same : (code : List Instruction) (stack vs : List Value) (s after : State) → HasTypes context s → All IsValue stack → code_changes code ≡ false →
       run code stack s ≡ Ends vs after → after ≡ s
   run_same [] stack vs s after h a free e = sym (ends_state stack vs s after e)
   run_same (i ∷ code) stack vs s after h a free e =

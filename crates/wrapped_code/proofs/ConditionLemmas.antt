@@ -1,43 +1,22 @@
--- A body in which the condition of a branch or of a conditional was replaced by one that is zero where it is runs as before, and stays valid.
-use Rattle.std.proofs.Common.{◌≡◌, ℕ, zero, suc, ◌+◌, ◌-◌, ◌<◌, ◌==◌, true, List, [], ◌∷◌, ◌++◌, length, take, drop, Option, Some, None, refl, sym, ap, ap₂, ◌∙◌, subst, arith, append-nil, inl, inr}
-use Rattle.std.specs.Prelude.{map, slice_get}
-use Rattle.std.specs.List.{All}
-use Rattle.std.proofs.lemmas.Bool.{cases_eq, cases_lt, eqb-true}
-use Rattle.std.proofs.lemmas.List.Elements.{All-nil}
-use Rattle.wasm_code.specs.Instruction.{Instruction}
+-- A function in which the condition of a branch or of a conditional was replaced by one that is zero where it is does as before.
+use Rattle.std.proofs.Common.{◌≡◌, ℕ, zero, suc, ◌-◌, true, List, [], ◌∷◌, ◌++◌, length, take, drop, refl, sym, ap, ap₂, ◌∙◌}
+use Rattle.std.proofs.lemmas.Bool.{eqb-true}
 use Rattle.wasm_code.specs.declared.operator.Operator.{Operator}
 use Rattle.wasm_code.specs.declared.operator.Operator.TheVariants as op
 use Rattle.wasm_types.specs.Module.{Module}
 use Rattle.wasm_types.specs.declared.types.PrimitiveTypeInfo.{PrimitiveTypeInfo}
 use Rattle.wasm_types.specs.declared.types.PrimitiveTypeInfo.TheVariants as primitive
-use Rattle.peephole_machine.specs.Values.{Value, IsValue, Cause, Context, State, HasTypes, Outcome, Ends, Traps, Stuck, then_run}
-use Rattle.peephole_machine.specs.Machine.{run}
-use Rattle.peephole_machine.specs.Laws.{Keeps}
-use Rattle.peephole_machine.specs.OutcomeLemmas.{run_append}
-use Rattle.peephole_machine.specs.TypeLemmas.{run_keeps}
-use Rattle.peephole_programs.specs.control.Function.{structural, piece, Label, Reached, At, Done, Control, go_on, pass, runs, IsTyped}
+use Rattle.peephole_machine.specs.Values.{Value, State}
+use Rattle.peephole_programs.specs.control.Function.{structural, piece, Label, Reached, At}
 use Rattle.peephole_programs.specs.control.Blocks.{other_part}
-use Rattle.peephole_programs.specs.control.Standard.{Beyond, by_asked, standard}
+use Rattle.peephole_programs.specs.control.Standard.{Beyond}
 use Rattle.peephole_programs.specs.control.Standard as std
 use Rattle.peephole_programs.specs.control.Laws.{StandardControlIsSound}
-use Rattle.peephole_programs.specs.control.Wider.{wider}
-use Rattle.peephole_programs.specs.modules.Program.{context_for}
-use Rattle.peephole_programs.specs.validation.Algorithm.{Entry, Frame, check_code}
-use Rattle.peephole_programs.specs.validation.Sound.{ValidCodeRuns, ValidBodiesStayValid, TargetsStay, DeedsStay, IsValid}
-use Rattle.peephole_programs.specs.validation.StaysValid.{Pushes, ChecksAs, StaysValid, MoreGlobalsCheckAlike, ReplacedCodeStaysValid}
-use Rattle.wrapped_code.specs.Conditions.{AreAsTrue, SameTruth, is_condition, ConditionsMayChange}
-use Rattle.wrapped_code.proofs.PlaceLemmas.{coded_structure, count, front_behind, front_structure, front_piece, last_piece}
-use Rattle.wrapped_code.proofs.MovedLemmas.{get_behind}
+use Rattle.peephole_programs.specs.validation.Sound.{ValidCodeRuns, ValidBodiesStayValid, TargetsStay, DeedsStay}
+use Rattle.peephole_programs.specs.validation.StaysValid.{MoreGlobalsCheckAlike, ReplacedCodeStaysValid}
+use Rattle.wrapped_code.specs.Conditions.{ZeroAlike, is_condition, ConditionsMayChange}
 use Rattle.wrapped_code.proofs.ValueLemmas.{last_is, front_is}
-use Rattle.wrapped_code.proofs.FrameLemmas.{none_on}
-use Rattle.wrapped_code.proofs.OverLemmas.{empty_frame, never_stuck}
-use Rattle.wrapped_code.proofs.UncheckLemmas.{wider_code}
-use Rattle.wrapped_code.proofs.AlikeLemmas.{coded_first, coded_later, runs_same, same_does}
-
--- the operands of a frame that is there
-abbrev operands_of : Option Frame → List Entry
-operands_of (Some f) = f.operands
-operands_of None = []
+use Rattle.wrapped_code.proofs.AskingLemmas.{by, Asks, numbers_change}
 
 -- ---- what asks for a condition
 
@@ -52,13 +31,13 @@ piece_ends (op.If t) e os = refl
 piece_ends o e os = absurd cc
 
 -- numbers of 32 bits choose alike where each is zero where the other is
-choose_alike : (c d : Value) (x y : Reached) → c.type ≡ primitive.I32 → d.type ≡ primitive.I32 → (c.number == 0) ≡ (d.number == 0) →
+choose_alike : (c d : Value) (x y : Reached) → c.type ≡ primitive.I32 → d.type ≡ primitive.I32 → ZeroAlike c.number d.number →
     std.choose (c ∷ []) x y ≡ std.choose (d ∷ []) x y
 choose_alike c d x y ct dt e =
     ap (λ (t : PrimitiveTypeInfo). std.chosen t c.number x y) ct ∙
     (go c.number d.number e ∙ ap (λ (t : PrimitiveTypeInfo). std.chosen t d.number x y) (sym dt))
   where
-    go : (n k : ℕ) → (n == 0) ≡ (k == 0) → std.chosen primitive.I32 n x y ≡ std.chosen primitive.I32 k x y
+    go : (n k : ℕ) → ZeroAlike n k → std.chosen primitive.I32 n x y ≡ std.chosen primitive.I32 k x y
     go zero zero e = refl
     go zero (suc k) e = let z : suc k ≡ 0 = eqb-true (suc k) 0 (sym e) in absurd cc
     go (suc n) zero e = let z : suc n ≡ 0 = eqb-true (suc n) 0 e in absurd cc
@@ -66,11 +45,8 @@ choose_alike c d x y ct dt e =
 
 -- the operator does the same with either of them on top
 module _ (m : Module) (results : List PrimitiveTypeInfo) (structure : List Operator) (beyond : Beyond) where
-  abbrev by : Operator → ℕ → List Label → List Value → State → Reached
-  by o k labels stack s = std.by_operator m results structure beyond (Some o) k labels stack s
-
   turned_by : (taken other : List Value → Reached) (below : List Value) (c d : Value) → c.type ≡ primitive.I32 → d.type ≡ primitive.I32 →
-      (c.number == 0) ≡ (d.number == 0) →
+      ZeroAlike c.number d.number →
       std.choose (std.last_of 1 (below ++ c ∷ [])) (taken (take (length (below ++ c ∷ []) - 1) (below ++ c ∷ [])))
       (other (take (length (below ++ c ∷ []) - 1) (below ++ c ∷ []))) ≡
       std.choose (std.last_of 1 (below ++ d ∷ [])) (taken (take (length (below ++ d ∷ []) - 1) (below ++ d ∷ [])))
@@ -81,8 +57,8 @@ module _ (m : Module) (results : List PrimitiveTypeInfo) (structure : List Opera
       (choose_alike c d (taken below) (other below) ct dt e ∙ sym (ap₂ on (last_is below d) (front_is below d)))
 
   turns : (o : Operator) → is_condition o ≡ true → (k : ℕ) (labels : List Label) (below : List Value) (c d : Value) (s : State) →
-      c.type ≡ primitive.I32 → d.type ≡ primitive.I32 → (c.number == 0) ≡ (d.number == 0) →
-      by o k labels (below ++ c ∷ []) s ≡ by o k labels (below ++ d ∷ []) s
+      c.type ≡ primitive.I32 → d.type ≡ primitive.I32 → ZeroAlike c.number d.number →
+      by m results structure beyond o k labels (below ++ c ∷ []) s ≡ by m results structure beyond o k labels (below ++ d ∷ []) s
   turns (op.BrIf l) is k labels below c d s ct dt e =
       turned_by (λ xs. std.branch m results structure beyond l labels xs s) (λ xs. At (suc k) labels xs s) below c d ct dt e
   turns (op.If t) is k labels below c d s ct dt e =
@@ -90,153 +66,30 @@ module _ (m : Module) (results : List PrimitiveTypeInfo) (structure : List Opera
       (λ xs. std.otherwise m results structure (other_part zero (suc k) (drop (suc k) structure)) k t labels xs s) below c d ct dt e
   turns o is k labels below c d s ct dt e = absurd cc
 
--- ---- a body
-
-module _ (context : Context) (front back : List Operator) (own code : List Instruction) (branch : Operator) (asks : is_condition branch ≡ true) where
-  abbrev old_body : List Operator
-  old_body = front ++ (map (λ (i : Instruction). op.Instr i) own ++ branch ∷ back)
-
-  abbrev new_body : List Operator
-  new_body = front ++ (map (λ (i : Instruction). op.Instr i) code ++ branch ∷ back)
-
-  abbrev n : ℕ
-  n = count front
-
-  abbrev first : List Instruction
-  first = piece front n
-
-  structure_of : (is : List Instruction) → structural (front ++ (map (λ (i : Instruction). op.Instr i) is ++ branch ∷ back)) ≡
-      structural front ++ (branch ∷ structural back)
-  structure_of is =
-      front_structure front (map (λ (i : Instruction). op.Instr i) is ++ branch ∷ back) ∙
-      ap (λ os. structural front ++ os) (coded_structure is (branch ∷ back) ∙ structure_first branch asks back)
-
-  same_structure : structural old_body ≡ structural new_body
-  same_structure = structure_of own ∙ sym (structure_of code)
-
-  stands : slice_get (structural old_body) n ≡ Some branch
-  stands = ap (λ os. slice_get os n) (structure_of own) ∙ get_behind (structural front) (branch ∷ structural back) 0 n (omega arith)
-
-  piece_of : (is : List Instruction) → piece (front ++ (map (λ (i : Instruction). op.Instr i) is ++ branch ∷ back)) n ≡ first ++ is
-  piece_of is =
-      last_piece front (map (λ (i : Instruction). op.Instr i) is ++ branch ∷ back) ∙
-      ap (λ xs. first ++ xs) (coded_first is (branch ∷ back) ∙ (ap (λ xs. is ++ xs) (piece_ends branch asks back) ∙ append-nil is))
-
-  pieces_before : (k : ℕ) → k < n → piece old_body k ≡ piece new_body k
-  pieces_before k l =
-      front_piece front (map (λ (i : Instruction). op.Instr i) own ++ branch ∷ back) k l ∙
-      sym (front_piece front (map (λ (i : Instruction). op.Instr i) code ++ branch ∷ back) k l)
-
-  pieces_behind : (j k : ℕ) → j ≡ n + k → piece old_body (suc j) ≡ piece new_body (suc j)
-  pieces_behind j k e =
-      let a = front_behind front (map (λ (i : Instruction). op.Instr i) own ++ branch ∷ back) in
-      let b = front_behind front (map (λ (i : Instruction). op.Instr i) code ++ branch ∷ back) in
-      a.pieces j k e ∙ (coded_later own (branch ∷ back) k ∙ (sym (coded_later code (branch ∷ back) k) ∙ sym (b.pieces j k e)))
-
-  pieces_else : (k : ℕ) → (k ≡ n → ⊥) → piece old_body k ≡ piece new_body k
-  pieces_else k d = elim (cases_lt k n) [
-    | inl l ↦ pieces_before k l
-    | inr l ↦ elim (cases_lt n k) [
-      | inl g ↦
-          let j = k - 1 in
-          let is : k ≡ suc j = omega arith in
-          ap (piece old_body) is ∙ (pieces_behind j (j - n) (omega arith) ∙ ap (piece new_body) (sym is))
-      | inr g ↦ absurd (d (omega arith))
-    ]
-  ]
-
-  module _ (sound_law : StandardControlIsSound) (valid : ValidCodeRuns) (pushes : Pushes context own [] (primitive.I32 ∷ []))
-      (truth : SameTruth context own code) (results : List PrimitiveTypeInfo) (beyond : Beyond) where
-    abbrev control : Control
-    control = standard context.info results (structural old_body) beyond
-
-    same_here : (labels : List Label) (o p : Outcome) → AreAsTrue o p → go_on (control n labels) o ≡ go_on (control n labels) p
-    same_here labels (Ends vs s) (Ends us t) (w, e) =
-        let goes : List Value → Reached = λ xs. by context.info results (structural old_body) beyond branch n labels xs s in
-        let at : (xs : List Value) → control n labels xs s ≡ goes xs =
-        λ xs. ap (λ o. std.by_operator context.info results (structural old_body) beyond o n labels xs s) stands in
-        at vs ∙ (ap goes w.first_is ∙
-        (turns context.info results (structural old_body) beyond branch asks n labels w.below w.one w.other s w.one_type w.other_type w.zero_alike ∙
-        (ap goes (sym w.second_is) ∙ (sym (at us) ∙ ap (control n labels us) (sym e)))))
-    same_here labels (Ends vs s) (Traps cause gs r) h = absurd h
-    same_here labels (Ends vs s) Stuck h = absurd h
-    same_here labels (Traps cause gs r) (Ends us t) h = absurd h
-    same_here labels (Traps cause gs r) (Traps other hs q) (a, b, c) =
-        ap₂ (λ (x : Cause) (y : List Value). Done (Traps x y r)) (sym a) (sym b) ∙ ap (λ (x : ℕ). Done (Traps other hs x)) (sym c)
-    same_here labels (Traps cause gs r) Stuck h = absurd h
-    same_here labels Stuck p h = absurd h
-
-    pass_here : (labels : List Label) (stack : List Value) (s : State) → All IsValue stack → HasTypes context s →
-        pass control old_body (At n labels stack s) ≡ pass control new_body (At n labels stack s)
-    pass_here labels stack s a t =
-        let goes : List Instruction → Reached = λ is. go_on (control n labels) (run is stack s) in
-        ap goes (piece_of own) ∙ (ap (go_on (control n labels)) (run_append first own stack s) ∙
-        (go (run first stack s) (run_keeps context first stack s t a) ∙
-        (ap (go_on (control n labels)) (sym (run_append first code stack s)) ∙ ap goes (sym (piece_of code)))))
-      where
-        go : (o : Outcome) → Keeps context o → go_on (control n labels) (then_run o (run own)) ≡ go_on (control n labels) (then_run o (run code))
-        go (Ends vs u) k =
-            same_here labels (run own vs u) (run code vs u)
-            (truth vs u k.0 k.1 (never_stuck valid context own (primitive.I32 ∷ []) pushes vs u k.1))
-        go (Traps cause gs r) k = refl
-        go Stuck k = refl
-
-    pass_same : (p : Reached) → IsTyped context p → pass control old_body p ≡ pass control new_body p
-    pass_same (Done o) h = refl
-    pass_same (At k labels stack s) h = elim (cases_eq k n) [
-      | inl e ↦
-          ap (λ i. pass control old_body (At i labels stack s)) e ∙
-          (pass_here labels stack s h.0 h.1 ∙ ap (λ i. pass control new_body (At i labels stack s)) (sym e))
-      | inr d ↦ ap (λ (is : List Instruction). go_on (control k labels) (run is stack s)) (pieces_else k d)
-    ]
-
-    pass_typed : (p : Reached) → IsTyped context p → IsTyped context (pass control old_body p)
-    pass_typed (Done o) h = h
-    pass_typed (At k labels stack s) h = go (run (piece old_body k) stack s) (run_keeps context (piece old_body k) stack s h.1 h.0)
-      where
-        go : (o : Outcome) → Keeps context o → IsTyped context (go_on (control k labels) o)
-        go (Ends vs u) x = (sound_law.sound context results (structural old_body) beyond).keeps k labels vs u x.0 x.1
-        go (Traps cause gs r) x = x
-        go Stuck x = tt
-
-    turned_runs : (fuel : ℕ) (s : State) → HasTypes context s →
-        runs control old_body fuel (At 0 [] [] s) ≡ runs control new_body fuel (At 0 [] [] s)
-    turned_runs fuel s t =
-        runs_same control old_body new_body (IsTyped context) pass_typed pass_same same_structure fuel (At 0 [] [] s) (All-nil IsValue, t)
-
-  module _ (more_law : MoreGlobalsCheckAlike) (replaced : ReplacedCodeStaysValid) (stay : ValidBodiesStayValid) (input : List ℕ)
-      (pushes : Pushes context own [] (primitive.I32 ∷ [])) (pushes_so : Pushes context code [] (primitive.I32 ∷ [])) where
-    abbrev after : Context
-    after = wider input [] context
-
-    checks : ChecksAs context after own code
-    checks f g e =
-        wider_code more_law input context code f g
-        (ap (check_code context code) (sym (none_on f)) ∙
-        (pushes_so f ∙ (sym (pushes f) ∙ (ap (check_code context own) (none_on f) ∙ e))))
-
-    stays : (is : List Instruction) → Pushes context is [] (primitive.I32 ∷ []) → ChecksAs context after is code →
-        StaysValid context after (front ++ (map (λ (i : Instruction). op.Instr i) is ++ branch ∷ back)) new_body
-    stays [] p h = let z : ◌≡◌ {A = List Entry} [] (Some primitive.I32 ∷ []) = ap operands_of (p empty_frame) in absurd cc
-    stays (i ∷ is) p h = replaced context input [] front (branch ∷ back) i is code h
-
-    turned_valid : (results : List PrimitiveTypeInfo) (beyond : Beyond) → IsValid context results (by_asked (structural old_body) beyond) old_body →
-        IsValid after results (by_asked (structural new_body) beyond) new_body
-    turned_valid results beyond h =
-        subst (λ (os : List Operator). IsValid after results (by_asked os beyond) new_body) same_structure
-        (stay context input [] results (by_asked (structural old_body) beyond) old_body new_body h (stays own pushes checks))
+condition_asks : (o : Operator) → is_condition o ≡ true → Asks ZeroAlike o
+condition_asks o is = record {
+  structure_first = structure_first o is;
+  piece_ends = piece_ends o is;
+  turns = λ m results structure beyond. turns m results structure beyond o is;
+}
 
 -- ---- a function
 
 pub conditions_change : StandardControlIsSound → ValidCodeRuns → MoreGlobalsCheckAlike → ReplacedCodeStaysValid → ValidBodiesStayValid → TargetsStay →
     DeedsStay → ConditionsMayChange
 conditions_change sound_law valid more_law replaced stay targets_stay deeds_stay m input old new w =
-    let context = context_for m old in
-    same_does targets_stay deeds_stay m input old new (old_body context w.front w.back w.own w.code w.branch w.asks)
-    (new_body context w.front w.back w.own w.code w.branch w.asks) w.params_are w.locals_are w.old_is w.new_is (record {
-      structure = same_structure context w.front w.back w.own w.code w.branch w.asks;
-      same = λ results beyond.
-          turned_runs context w.front w.back w.own w.code w.branch w.asks sound_law valid w.pushes w.truth results
-          (by_asked (structural (old_body context w.front w.back w.own w.code w.branch w.asks)) beyond);
-      valid = turned_valid context w.front w.back w.own w.code w.branch w.asks more_law replaced stay input w.pushes w.pushes_so;
+    numbers_change sound_law valid more_law replaced stay targets_stay deeds_stay ZeroAlike m input old new (record {
+      params_are = w.params_are;
+      locals_are = w.locals_are;
+      front = w.front;
+      back = w.back;
+      own = w.own;
+      code = w.code;
+      branch = w.branch;
+      asks = condition_asks w.branch w.asks;
+      old_is = w.old_is;
+      new_is = w.new_is;
+      pushes = w.pushes;
+      pushes_so = w.pushes_so;
+      same = w.truth;
     })

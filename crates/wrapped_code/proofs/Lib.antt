@@ -21,8 +21,12 @@ mod UnwrapLemmas
 mod UncheckLemmas
 mod UnwrapDoesLemmas
 mod AlikeLemmas
+mod AskingLemmas
 mod ConditionLemmas
+mod IndexLemmas
+mod SameLemmas
 mod TruthLemmas
+mod BoundLemmas
 mod DeadRunLemmas
 mod DeadLemmas
 mod BlockLemmas
@@ -31,3 +35,4 @@ mod Examples
 mod UnwrapExamples
 mod HandlerExamples
 mod ChangeExamples
+mod IndexExamples

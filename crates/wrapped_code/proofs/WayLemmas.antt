@@ -180,7 +180,7 @@ one_value (v ∷ []) t e = (v, refl, cc)
 one_value (v ∷ w ∷ vs) t e = absurd cc
 
 -- the select itself
-run_select : (context : Context) (pick : Instruction) (t : PrimitiveTypeInfo) (stack : List Value) (vx vy vc : Value) (s : State) →
+pub run_select : (context : Context) (pick : Instruction) (t : PrimitiveTypeInfo) (stack : List Value) (vx vy vc : Value) (s : State) →
     integer_row pick ≡ select → is_numeric t ≡ true → vx.type ≡ t → vy.type ≡ t → vc.type ≡ primitive.I32 →
     run (pick ∷ []) (((stack ++ vx ∷ []) ++ vy ∷ []) ++ vc ∷ []) s ≡ Ends (stack ++ (if vc.number == 0 then vy else vx) ∷ []) s
 run_select context pick t stack vx vy vc s is_select numeric tx ty tc =

@@ -1,6 +1,5 @@
 -- Functions in which the condition of a branch or of a conditional was replaced by another one that is zero where it is: this project's laws.
-use Rattle.std.specs.Prelude.{◌≡◌, ◌≢◌, ℕ, ◌==◌, Bool, true, false, List, [], ◌∷◌, ◌++◌, map}
-use Rattle.std.specs.List.{All}
+use Rattle.std.specs.Prelude.{◌≡◌, ℕ, ◌==◌, Bool, true, false, List, [], ◌∷◌, ◌++◌, map}
 use Rattle.wasm_code.specs.Instruction.{Instruction}
 use Rattle.wasm_code.specs.declared.operator.Operator.{Operator}
 use Rattle.wasm_code.specs.declared.operator.Operator.TheVariants.{Instr, BrIf, If}
@@ -8,37 +7,23 @@ use Rattle.wasm_types.specs.Module.{Module}
 use Rattle.wasm_types.specs.declared.types.PrimitiveTypeInfo.TheVariants as primitive
 use Rattle.peephole_machine.specs.declared.integer.IntegerType.TheVariants as integer
 use Rattle.peephole_machine.specs.Integer.{compare, eqz, ne}
-use Rattle.peephole_machine.specs.Values.{Value, IsValue, Context, State, HasTypes, Outcome, Ends, Traps, Stuck}
+use Rattle.peephole_machine.specs.Values.{Context}
 use Rattle.peephole_machine.specs.IntegerRow.{constant, operation, integer_row}
-use Rattle.peephole_machine.specs.Machine.{run}
 use Rattle.peephole_programs.specs.control.Function.{RunsAs}
 use Rattle.peephole_programs.specs.hosts.Embedder.{DoesAs}
 use Rattle.peephole_programs.specs.modules.Program.{Body, context_for}
 use Rattle.peephole_programs.specs.validation.StaysValid.{Pushes}
+use Rattle.wrapped_code.specs.Alike.{SameAs}
 
 -- ---- conditions
 
--- Both stacks are the same below their last values, which are numbers of 32 bits, each of them zero where the other is.
-pub record EndAsTrue (vs us : List Value) : Type 0 where
-  pub below : List Value
-  pub one : Value
-  pub other : Value
-  pub first_is : vs ≡ below ++ one ∷ []
-  pub second_is : us ≡ below ++ other ∷ []
-  pub one_type : one.type ≡ primitive.I32
-  pub other_type : other.type ≡ primitive.I32
-  pub zero_alike : (one.number == 0) ≡ (other.number == 0)
-
--- Both end so, in the same state; or both trap alike.
-abbrev pub AreAsTrue : Outcome → Outcome → Type 0
-AreAsTrue (Ends vs s) (Ends us t) = EndAsTrue vs us × (t ≡ s)
-AreAsTrue (Traps cause gs r) (Traps other hs q) = (other ≡ cause) × (hs ≡ gs) × (q ≡ r)
-AreAsTrue o p = ⊥
+-- both are zero, or neither
+abbrev pub ZeroAlike : ℕ → ℕ → Type 0
+ZeroAlike c d = (c == 0) ≡ (d == 0)
 
 -- From every state of the context's types in which the instructions aren't stuck, the code pushes what is zero where theirs is, and does the same.
 abbrev pub SameTruth : Context → (own code : List Instruction) → Type 0
-SameTruth context own code =
-    (stack : List Value) (s : State) → All IsValue stack → HasTypes context s → run own stack s ≢ Stuck → AreAsTrue (run own stack s) (run code stack s)
+SameTruth context own code = SameAs ZeroAlike context own code
 
 -- ---- a function
 

@@ -3,5 +3,7 @@ pub mod Handlers
 pub mod Laws
 pub mod Ways
 pub mod Tables
+pub mod Alike
 pub mod Conditions
+pub mod Indices
 pub mod Dead

@@ -3,6 +3,7 @@
 ghost use Rattle.wrapped_code.specs.Conditions.{ConditionsAsTrue, ConditionsMayChange};
 ghost use Rattle.wrapped_code.specs.Dead.{DeadCodeMayChange};
 ghost use Rattle.wrapped_code.specs.Handlers.{ReadCodeHasNoHandlers};
+ghost use Rattle.wrapped_code.specs.Indices.{IndicesAreBounded, IndicesMayChange};
 ghost use Rattle.wrapped_code.specs.Laws.{UnwrappedCodeDoes, ValuesInBlocks, WrappedCodeDoes, WrappedModulesDoMore, WrappedModulesStayValid};
 ghost use Rattle.wrapped_code.specs.Tables.{TablesLoseNothing};
 ghost use Rattle.wrapped_code.specs.Ways.{CodeIsAlone, PureCode, PushedCodeChecksAs, PushingCodeIsThere, WrappedCodePushes, WrappedCodeRuns};
@@ -11,7 +12,8 @@ use peephole_programs::laws::{
     one_function_is_rewritten, standard_control_is_sound, valid_modules_do_more,
 };
 use peephole_programs::validity::{
-    replaced_code_stays_valid, valid_bodies_stay_valid, valid_code_runs, validity_goes_by_types,
+    replaced_code_stays_valid, typed_rows_check, valid_bodies_stay_valid, valid_code_runs,
+    validity_goes_by_types,
 };
 
 /// A function in which instructions were replaced by wrapped code, and which has no block that catches exceptions, does as it did
@@ -98,6 +100,25 @@ pub fn conditions_may_change()
 pub fn some_conditions_are_as_true()
     ensures { ConditionsAsTrue }
 {
+    valid_code_runs();
+}
+
+/// A function in which the index of a branch by a table was replaced by one that picks the same label does as it did.
+pub fn indices_may_change()
+    ensures { IndicesMayChange }
+{
+    standard_control_is_sound();
+    validity_goes_by_types();
+    replaced_code_stays_valid();
+    valid_bodies_stay_valid();
+    valid_code_runs();
+}
+
+/// An index may be bounded by the number of labels: it picks the same one.
+pub fn indices_may_be_bounded()
+    ensures { IndicesAreBounded }
+{
+    typed_rows_check();
     valid_code_runs();
 }
 
