@@ -1,6 +1,6 @@
 -- A select as a conditional, conditions that are tested, and code that is dropped.
-use Rattle.std.proofs.Common.{◌≡◌, true, false, List, [], ◌∷◌, ◌++◌, Option, Some, None, refl, sym, ap, ap₂, ◌∙◌, subst, append_assoc, lit<}
-use Rattle.std.specs.Prelude.{Bool, ◌-◌, ◌||◌, nat_le, if◌then◌else◌, take, drop, map, option_map, option_and_then}
+use Rattle.std.proofs.Common.{◌≡◌, ℕ, ◌<◌, true, false, List, [], ◌∷◌, ◌++◌, Option, Some, None, refl, sym, ap, ap₂, ◌∙◌, subst, append_assoc, lit<}
+use Rattle.std.specs.Prelude.{Bool, ◌-◌, ◌^◌, ◌||◌, nat_le, if◌then◌else◌, take, drop, map, option_map, option_and_then}
 use Rattle.wasm_code.specs.Instruction.{Instruction}
 use Rattle.wasm_code.specs.declared.immediate.BlockType.TheVariants.{Value}
 use Rattle.wasm_code.specs.declared.immediate.ValType.{ValType}
@@ -8,9 +8,9 @@ use Rattle.wasm_code.specs.declared.operator.Operator.TheVariants as op
 use Rattle.wasm_types.specs.declared.types.PrimitiveTypeInfo.{PrimitiveTypeInfo}
 use Rattle.wasm_types.specs.declared.types.PrimitiveTypeInfo.TheVariants as primitive
 use Rattle.peephole_machine.specs.declared.integer.IntegerType.TheVariants as integer
-use Rattle.peephole_machine.specs.declared.operation.Comparison.TheVariants.{Ne}
+use Rattle.peephole_machine.specs.declared.operation.Comparison.TheVariants.{Ne, LtU}
 use Rattle.peephole_machine.specs.declared.operation.Operation.TheVariants as operation
-use Rattle.peephole_machine.specs.Integer.{compare, eqz, ne}
+use Rattle.peephole_machine.specs.Integer.{compare, eqz, ne, lt_u}
 use Rattle.peephole_machine.specs.Values.{type_of, Context}
 use Rattle.peephole_machine.specs.IntegerRow as row
 use Rattle.peephole_machine.specs.IntegerRow.{IntegerRow, is_numeric, variable_type, operand_count, row_types, integer_row}
@@ -19,13 +19,16 @@ use Rattle.peephole_programs.specs.control.Wider.{wider}
 use Rattle.peephole_programs.specs.validation.StaysValid.{Pushes, TypedCodePushes, RowTypesStay}
 use Rattle.wrapped_code.specs.Wrapped.{Wrapped, plain, both, choice}
 use Rattle.wrapped_code.specs.Ways.{WrappedPushes, WrappedCodePushes, PushedCodeChecksAs, IsPure, IsAlone, LeavesValue, PureCode, row_changes, code_changes, CodeIsAlone, WrappedCodeRuns}
+use Rattle.wrapped_code.specs.Alike.{SameAs}
 use Rattle.wrapped_code.specs.Conditions.{SameTruth, ConditionsAsTrue}
+use Rattle.wrapped_code.specs.Indices.{LabelAlike, IndicesAreBounded}
 use Rattle.rewrite_rules.specs.declared.pattern.Operator.TheVariants.{Whole, Select}
 use Rattle.rewrite_rules.specs.Code.{types_after, Leaves, row_writes, writes}
 use Rattle.rewrite_rules.specs.Instance.{constant_code}
 use Rattle.rewrite_rules.specs.Beside.{drop_code}
 use Rattle.rewrite_rules.specs.Wrap.{value_of}
-use Rattle.rewrite_rules.specs.Flow.{is_leaf_row, is_leaf, zero_code, ne_code, eqz_code, select_code, MayBranch, SelectsAreConditionals, TestsAreConditions, DroppedCodePushesNothing, DroppedConstantsPushNothing}
+use Rattle.rewrite_rules.specs.Flow.{is_leaf_row, is_leaf, zero_code, ne_code, eqz_code, below_code, select_code, bounded_code, MayBranch}
+use Rattle.rewrite_rules.specs.Flow.{SelectsAreConditionals, TestsAreConditions, BoundsAreIndices, DroppedCodePushesNothing, DroppedConstantsPushNothing}
 use Rattle.rewrite_rules.proofs.LineLemmas.{after_wider, pushes}
 use Rattle.rewrite_rules.proofs.MeaningLemmas.{constant_types}
 use Rattle.rewrite_rules.proofs.OperatorLemmas.{row_is}
@@ -42,6 +45,9 @@ ne_row = row_is (Whole (operation.Compare integer.I32 Ne)) refl
 
 eqz_row : integer_row eqz_code ≡ row.operation (eqz integer.I32)
 eqz_row = row_is (Whole (operation.Eqz integer.I32)) refl
+
+below_row : integer_row below_code ≡ row.operation (compare integer.I32 lt_u)
+below_row = row_is (Whole (operation.Compare integer.I32 LtU)) refl
 
 -- what a row without operands gives
 abbrev given_by : Context → IntegerRow → Option (List PrimitiveTypeInfo)
@@ -242,6 +248,34 @@ tests_are_conditions push stay truths = record {
   pushes = condition push stay truths;
   pushes_not_zero = pushes_not_zero push stay truths;
   pushes_twice_zero = pushes_twice_zero push stay truths;
+}
+
+-- ---- indices
+
+module _ (push : TypedCodePushes) (stay : RowTypesStay) (bounds : IndicesAreBounded) (context : Context) (own : List Instruction) (count : ℕ)
+    (few : count < 2 ^ 32) (leaves : Leaves context own primitive.I32) where
+  abbrev limit_code : Instruction
+  limit_code = constant_code integer.I32 count
+
+  index : Pushes context own [] (primitive.I32 ∷ [])
+  index = pushes push stay context own [] (primitive.I32 ∷ []) leaves
+
+  pushes_bounded : Pushes context (bounded_code count own) [] (primitive.I32 ∷ [])
+  pushes_bounded = bounds.pushes context own count limit_code below_code select_code few (number_row count few) below_row select_row index
+
+  bounded : writes own ≡ false → SameAs (LabelAlike count) context own (bounded_code count own)
+  bounded still =
+      bounds.bounded context own count limit_code below_code select_code few (number_row count few) below_row select_row (all_changes own ∙ still) index
+
+  bounded_turned : writes own ≡ false → SameAs (LabelAlike count) context (bounded_code count own) own
+  bounded_turned still = bounds.turned context own (bounded_code count own) count index (bounded still)
+
+pub bounds_are_indices : TypedCodePushes → RowTypesStay → IndicesAreBounded → BoundsAreIndices
+bounds_are_indices push stay bounds = record {
+  bounded = bounded push stay bounds;
+  bounded_turned = bounded_turned push stay bounds;
+  pushes = λ context own l. pushes push stay context own [] (primitive.I32 ∷ []) l;
+  pushes_bounded = pushes_bounded push stay bounds;
 }
 
 -- ---- code that is dropped

@@ -10,5 +10,7 @@ pub mod ConversionLemmas
 pub mod AccessNumbers
 pub mod AccessLemmas
 pub mod ConstantLemmas
+pub mod AccessParts
+pub mod AccessPairs
 pub mod AccessRows
 pub mod AccessRules

@@ -1,6 +1,6 @@
 -- What the rules on control flow write: a conditional for a select, a condition that is tested, and code that is never reached
 -- (this project, after the WebAssembly Core Specification 3.0, Execution, Instructions, Parametric Instructions and Control Instructions).
-use Rattle.std.specs.Prelude.{◌≡◌, ℕ, Bool, true, false, List, [], ◌∷◌, ◌++◌, map, Some}
+use Rattle.std.specs.Prelude.{◌≡◌, ℕ, ◌<◌, ◌^◌, Bool, true, false, List, [], ◌∷◌, ◌++◌, map, Some}
 use Rattle.wasm_code.specs.Instruction.{Instruction}
 use Rattle.wasm_code.specs.declared.immediate.BlockType.TheVariants.{Value}
 use Rattle.wasm_code.specs.declared.immediate.ValType.{ValType}
@@ -10,7 +10,7 @@ use Rattle.wasm_types.specs.declared.types.PrimitiveTypeInfo.{PrimitiveTypeInfo}
 use Rattle.wasm_types.specs.declared.types.PrimitiveTypeInfo.TheVariants as primitive
 use Rattle.peephole_machine.specs.declared.integer.IntegerType.{IntegerType}
 use Rattle.peephole_machine.specs.declared.integer.IntegerType.TheVariants as integer
-use Rattle.peephole_machine.specs.declared.operation.Comparison.TheVariants.{Ne}
+use Rattle.peephole_machine.specs.declared.operation.Comparison.TheVariants.{Ne, LtU}
 use Rattle.peephole_machine.specs.declared.operation.Operation.TheVariants as operation
 use Rattle.peephole_machine.specs.Values.{Context}
 use Rattle.peephole_machine.specs.IntegerRow.{IntegerRow, constant, get, integer_row}
@@ -18,7 +18,9 @@ use Rattle.peephole_programs.specs.control.Wider.{wider}
 use Rattle.peephole_programs.specs.validation.StaysValid.{Pushes}
 use Rattle.wrapped_code.specs.Wrapped.{Wrapped, written, WrappedRunsAs, WrappedChecksAs}
 use Rattle.wrapped_code.specs.Ways.{WrappedPushes}
+use Rattle.wrapped_code.specs.Alike.{SameAs}
 use Rattle.wrapped_code.specs.Conditions.{SameTruth}
+use Rattle.wrapped_code.specs.Indices.{LabelAlike}
 use Rattle.rewrite_rules.specs.declared.pattern.Operator.TheVariants.{Whole, Select}
 use Rattle.rewrite_rules.specs.Code.{Leaves, writes}
 use Rattle.rewrite_rules.specs.Instance.{constant_code, operator_code}
@@ -48,6 +50,10 @@ ne_code = operator_code (Whole (operation.Compare integer.I32 Ne))
 -- i32.eqz
 abbrev pub eqz_code : Instruction
 eqz_code = operator_code (Whole (operation.Eqz integer.I32))
+
+-- i32.lt_u
+abbrev pub below_code : Instruction
+below_code = operator_code (Whole (operation.Compare integer.I32 LtU))
 
 -- the select whose type isn't written
 abbrev pub select_code : Instruction
@@ -88,6 +94,23 @@ pub record TestsAreConditions : Type 0 where
       Pushes context (own ++ (zero_code ∷ ne_code ∷ [])) [] (primitive.I32 ∷ [])
   pub pushes_twice_zero : (context : Context) (own : List Instruction) → Leaves context own primitive.I32 →
       Pushes context (own ++ (eqz_code ∷ eqz_code ∷ [])) [] (primitive.I32 ∷ [])
+
+-- ---- indices
+
+-- an index where it is below the number of labels, without signs, else that number
+abbrev pub bounded_code : (count : ℕ) → (own : List Instruction) → List Instruction
+bounded_code count own =
+    let limit = constant_code integer.I32 count in own ++ (limit ∷ (own ++ (limit ∷ below_code ∷ select_code ∷ [])))
+
+-- An index that writes nothing may be bounded by the number of labels, and a bound taken away: either pushes a number of 32 bits, which picks the same label.
+pub record BoundsAreIndices : Type 0 where
+  pub bounded : (context : Context) (own : List Instruction) (count : ℕ) → count < 2 ^ 32 → Leaves context own primitive.I32 → writes own ≡ false →
+      SameAs (LabelAlike count) context own (bounded_code count own)
+  pub bounded_turned : (context : Context) (own : List Instruction) (count : ℕ) → count < 2 ^ 32 → Leaves context own primitive.I32 →
+      writes own ≡ false → SameAs (LabelAlike count) context (bounded_code count own) own
+  pub pushes : (context : Context) (own : List Instruction) → Leaves context own primitive.I32 → Pushes context own [] (primitive.I32 ∷ [])
+  pub pushes_bounded : (context : Context) (own : List Instruction) (count : ℕ) → count < 2 ^ 32 → Leaves context own primitive.I32 →
+      Pushes context (bounded_code count own) [] (primitive.I32 ∷ [])
 
 -- ---- code that is never reached
 

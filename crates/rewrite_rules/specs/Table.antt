@@ -20,19 +20,27 @@ use Rattle.rewrite_rules.specs.declared.table.Widths.TheVariants.{Both, Only, An
 use Rattle.rewrite_rules.specs.declared.table.Condition as asked
 use Rattle.rewrite_rules.specs.declared.table.Condition.TheVariants.{BelowWidth, Power, Mask, Turns}
 use Rattle.rewrite_rules.specs.declared.table.Row.{Row}
-use Rattle.rewrite_rules.specs.declared.table.TheConstants.{ORDERS, GROUPS, LONGER, FORMS, NEUTRAL, POWERS, TWICE}
-use Rattle.rewrite_rules.specs.declared.table.TheConstants.{ALONE, TESTS, OPPOSITES, PARTS, SHORTER, BACK, FRONT, AGAIN, SIGNS, EQUALS, COUNTED, TURNED}
-use Rattle.rewrite_rules.specs.declared.table.TheConstants.{ABSORBED, SETTLED}
-use Rattle.rewrite_rules.specs.declared.table.TheConstants.{FLOATS, FLOAT_BITS, FLOAT_SIGNS, FLOAT_COPIES, FLOAT_TESTS, FLOAT_SELVES, FLOAT_TURNS, FLOAT_ORDERS}
-use Rattle.rewrite_rules.specs.declared.table.TheConstants.{VECTOR_BITS, VECTOR_FORMS, LANE_SUMS, LANE_NEGATIVES, LANE_ZEROS, LANE_MAGNITUDES}
-use Rattle.rewrite_rules.specs.declared.table.TheConstants.{LANE_ORDERS, WIDE_ORDERS, LANE_OPPOSITES, WIDE_OPPOSITES, LANE_COMPLEMENTS, WIDE_COMPLEMENTS}
-use Rattle.rewrite_rules.specs.declared.table.TheConstants.{LANE_BOUNDS, LANE_REPEATS, LANE_CHOICES, LANE_SHIFTS, LANE_TURNS, LANE_FLOATS}
-use Rattle.rewrite_rules.specs.declared.table.TheConstants.{ACCESS_BITS, ACCESS_WIDTHS, LOAD_SIGNS, STORE_SIGNS, ALIGNMENTS, CONSTANTS}
-use Rattle.rewrite_rules.specs.declared.table.TheConstants.{LANE_SPLATS, LANE_BITS, SPLAT_BITS, SIGNED_LANES, EXTENDED_LANES, VECTOR_DECIDED}
-use Rattle.rewrite_rules.specs.declared.table.TheConstants.{EXTENSIONS, EXTENSION_MASKS, EXTENSION_MOVES, SIGN_TESTS, POWER_TESTS, ZERO_COUNTS, HALVES, UNDONE}
-use Rattle.rewrite_rules.specs.declared.table.TheConstants.{FLOAT_LANE_ORDERS, FLOAT_LANE_OPPOSITES, FLOAT_LANE_CHOICES, SATURATED_LANES, LANE_COUNTS, NARROWED_LANES}
-use Rattle.rewrite_rules.specs.declared.table.TheConstants.{LANE_CONVERSIONS, CONVERSIONS, REPLACED_BITS, MASKED_LANES, UNMASKED_LANES, SWIZZLES, WIDE_ACCESSES, FLOAT_LANE_BOUNDS}
-use Rattle.rewrite_rules.specs.declared.table.TheConstants.{CONTROL}
+use Rattle.rewrite_rules.specs.declared.table.integers.TheConstants.{ORDERS, GROUPS, LONGER, FORMS, NEUTRAL, POWERS, TWICE}
+use Rattle.rewrite_rules.specs.declared.table.integers.TheConstants.{ALONE, TESTS, OPPOSITES, PARTS, SHORTER, BACK, FRONT, AGAIN, SIGNS, EQUALS, COUNTED, TURNED}
+use Rattle.rewrite_rules.specs.declared.table.integers.TheConstants.{ABSORBED, SETTLED}
+use Rattle.rewrite_rules.specs.declared.table.floats.TheConstants.{FLOATS, FLOAT_BITS, FLOAT_SIGNS, FLOAT_COPIES, FLOAT_TESTS, FLOAT_SELVES, FLOAT_TURNS, FLOAT_ORDERS}
+use Rattle.rewrite_rules.specs.declared.table.vectors.TheConstants.{VECTOR_BITS, VECTOR_FORMS, LANE_SUMS, LANE_NEGATIVES, LANE_ZEROS, LANE_MAGNITUDES}
+use Rattle.rewrite_rules.specs.declared.table.lane_tests.TheConstants.{LANE_ORDERS, WIDE_ORDERS, LANE_OPPOSITES, WIDE_OPPOSITES, LANE_COMPLEMENTS, WIDE_COMPLEMENTS}
+use Rattle.rewrite_rules.specs.declared.table.vectors.TheConstants.{LANE_SHIFTS, LANE_TURNS, LANE_FLOATS}
+use Rattle.rewrite_rules.specs.declared.table.lane_tests.TheConstants.{LANE_BOUNDS, LANE_REPEATS, LANE_CHOICES}
+use Rattle.rewrite_rules.specs.declared.table.accesses.TheConstants.{ACCESS_BITS, ACCESS_WIDTHS, LOAD_SIGNS, STORE_SIGNS, ALIGNMENTS, CONSTANTS}
+use Rattle.rewrite_rules.specs.declared.table.vectors.TheConstants.{VECTOR_DECIDED}
+use Rattle.rewrite_rules.specs.declared.table.lane_moves.TheConstants.{LANE_SPLATS, LANE_BITS, SPLAT_BITS, SIGNED_LANES, EXTENDED_LANES}
+use Rattle.rewrite_rules.specs.declared.table.integers.TheConstants.{EXTENSIONS, EXTENSION_MASKS, EXTENSION_MOVES, SIGN_TESTS, POWER_TESTS, ZERO_COUNTS, HALVES, UNDONE}
+use Rattle.rewrite_rules.specs.declared.table.vectors.TheConstants.{SATURATED_LANES, LANE_COUNTS}
+use Rattle.rewrite_rules.specs.declared.table.lane_tests.TheConstants.{FLOAT_LANE_ORDERS, FLOAT_LANE_OPPOSITES, FLOAT_LANE_CHOICES}
+use Rattle.rewrite_rules.specs.declared.table.lane_moves.TheConstants.{NARROWED_LANES}
+use Rattle.rewrite_rules.specs.declared.table.floats.TheConstants.{CONVERSIONS}
+use Rattle.rewrite_rules.specs.declared.table.vectors.TheConstants.{SWIZZLES}
+use Rattle.rewrite_rules.specs.declared.table.lane_tests.TheConstants.{FLOAT_LANE_BOUNDS}
+use Rattle.rewrite_rules.specs.declared.table.lane_moves.TheConstants.{LANE_CONVERSIONS, REPLACED_BITS, MASKED_LANES, UNMASKED_LANES}
+use Rattle.rewrite_rules.specs.declared.table.accesses.TheConstants.{WIDE_ACCESSES}
+use Rattle.rewrite_rules.specs.declared.table.control.TheConstants.{CONTROL}
 use Rattle.rewrite_rules.specs.Pattern.{Kind, fixed, any, operands_of, Pattern, Patterns, hole, constant, drawn, apply, none, ◌▹◌}
 use Rattle.rewrite_rules.specs.Instance.{row_number, immediate_of}
 use Rattle.rewrite_rules.specs.Parts.{parts_of}

@@ -108,6 +108,8 @@ impl Own {
             Own::DropDoubleCondition => Growth::Shrinks,
             Own::PutDead => Growth::Grows,
             Own::DropDead => Growth::Shrinks,
+            Own::BoundIndex => Growth::Grows,
+            Own::DropIndexBound => Growth::Shrinks,
         }
     }
 }

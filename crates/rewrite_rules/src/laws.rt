@@ -12,12 +12,12 @@ ghost use Rattle.rewrite_rules.specs.Operands.{TypesAreTold};
 ghost use Rattle.rewrite_rules.specs.Holes.{HolesAreTold};
 ghost use Rattle.rewrite_rules.specs.Beside.{BesidesKeepCode};
 ghost use Rattle.rewrite_rules.specs.Wrap.{WrapsAreRight};
-ghost use Rattle.rewrite_rules.specs.Flow.{SelectsAreConditionals, TestsAreConditions, DroppedCodePushesNothing, DroppedConstantsPushNothing};
+ghost use Rattle.rewrite_rules.specs.Flow.{SelectsAreConditionals, TestsAreConditions, BoundsAreIndices, DroppedCodePushesNothing, DroppedConstantsPushNothing};
 
 use peephole_programs::validity::{typed_rows_check, validity_goes_by_types};
 use wrapped_code::laws::{
-    some_code_is_pure, some_conditions_are_as_true, typed_code_is_alone, wrapped_code_pushes,
-    wrapped_code_runs,
+    indices_may_be_bounded, some_code_is_pure, some_conditions_are_as_true, typed_code_is_alone,
+    wrapped_code_pushes, wrapped_code_runs,
 };
 
 /// What a line asks of the operands in its holes is computed once from its two sides.
@@ -110,6 +110,14 @@ pub fn tests_are_conditions()
 {
     typed_rows_check();
     some_conditions_are_as_true();
+}
+
+/// An index may be bounded by the number of labels, and its bound taken away.
+pub fn bounds_are_indices()
+    ensures { BoundsAreIndices }
+{
+    typed_rows_check();
+    indices_may_be_bounded();
 }
 
 /// Code that leaves one value, and a drop, push nothing.

@@ -374,6 +374,12 @@ impl fmt::Display for Own {
             Own::DropDead => f.write_str(
                 "br, return, unreachable, drop r → the same without drop r",
             ),
+            Own::BoundIndex => {
+                f.write_str("br_table n of x → br_table n of (select x n (lt_u x n))")
+            }
+            Own::DropIndexBound => {
+                f.write_str("br_table n of (select x n (lt_u x n)) → br_table n of x")
+            }
         }
     }
 }

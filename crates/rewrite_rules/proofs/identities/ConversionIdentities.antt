@@ -18,7 +18,7 @@ use Rattle.peephole_machine.specs.Integer.{signed_into}
 use Rattle.peephole_machine.specs.IntegerRow.{integer_row}
 use Rattle.peephole_machine.specs.Lanes.{sign_bit, magnitude}
 use Rattle.peephole_machine.specs.Values.{width_of, IsOfType}
-use Rattle.rewrite_rules.specs.declared.table.TheConstants.{CONVERSIONS}
+use Rattle.rewrite_rules.specs.declared.table.floats.TheConstants.{CONVERSIONS}
 use Rattle.rewrite_rules.specs.Exact.{exact_operator}
 use Rattle.rewrite_rules.specs.Line.{IsRight}
 use Rattle.rewrite_rules.specs.Numbers.{low}

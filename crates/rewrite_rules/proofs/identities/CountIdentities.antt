@@ -19,7 +19,7 @@ use Rattle.peephole_machine.specs.Integer.{ones_in, unary_value, holds}
 use Rattle.peephole_machine.specs.Operation.{unary_of, comparison_of}
 use Rattle.rewrite_rules.specs.Numbers.{low}
 use Rattle.rewrite_rules.specs.Line.{IsRight}
-use Rattle.rewrite_rules.specs.declared.table.TheConstants.{ZERO_COUNTS}
+use Rattle.rewrite_rules.specs.declared.table.integers.TheConstants.{ZERO_COUNTS}
 use Rattle.rewrite_rules.specs.Table.{rows_of}
 use Rattle.rewrite_rules.proofs.identities.RowLemmas.{AtRows, ◌▸◌, turned}
 use Rattle.rewrite_rules.proofs.identities.Words as line

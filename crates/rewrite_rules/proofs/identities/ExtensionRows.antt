@@ -6,7 +6,7 @@ use mir.Val.{bits}
 use Rattle.wasm_types.specs.declared.types.PrimitiveTypeInfo.{PrimitiveTypeInfo}
 use Rattle.wasm_types.specs.declared.types.PrimitiveTypeInfo.TheVariants.{I32, I64}
 use Rattle.peephole_machine.specs.Integer.{signed_into}
-use Rattle.rewrite_rules.specs.declared.table.TheConstants.{EXTENSIONS, EXTENSION_MASKS, EXTENSION_MOVES}
+use Rattle.rewrite_rules.specs.declared.table.integers.TheConstants.{EXTENSIONS, EXTENSION_MASKS, EXTENSION_MOVES}
 use Rattle.rewrite_rules.specs.Line.{IsRight}
 use Rattle.rewrite_rules.specs.Table.{rows_of}
 use Rattle.rewrite_rules.proofs.identities.RowLemmas.{AtRows, ◌▸◌}

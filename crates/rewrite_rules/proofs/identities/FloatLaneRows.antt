@@ -4,7 +4,7 @@ use Rattle.wasm_code.specs.Table.{table, row_at}
 use Rattle.peephole_machine.specs.ExactRow.{exact_row}
 use Rattle.peephole_machine.specs.IntegerRow.{integer_row}
 use Rattle.peephole_machine.specs.Lanes.{each_lane, each_pair}
-use Rattle.rewrite_rules.specs.declared.table.TheConstants.{FLOAT_LANE_ORDERS, FLOAT_LANE_OPPOSITES, FLOAT_LANE_CHOICES, FLOAT_LANE_BOUNDS}
+use Rattle.rewrite_rules.specs.declared.table.lane_tests.TheConstants.{FLOAT_LANE_ORDERS, FLOAT_LANE_OPPOSITES, FLOAT_LANE_CHOICES, FLOAT_LANE_BOUNDS}
 use Rattle.rewrite_rules.specs.Exact.{exact_operator}
 use Rattle.rewrite_rules.specs.Line.{IsRight}
 use Rattle.rewrite_rules.specs.Table.{rows_of}

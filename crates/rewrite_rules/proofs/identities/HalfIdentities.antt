@@ -7,7 +7,7 @@ use Rattle.std.proofs.lemmas.Bool.{lt-ltb, le-ltb, ltb-true, ltb-false}
 use Rattle.std.proofs.Math.Nat.{mod-eq_of_lt, mod_self, zero-mod}
 use mir.Val.{bits, sel}
 use Rattle.peephole_machine.specs.declared.integer.IntegerType.TheVariants as integer
-use Rattle.rewrite_rules.specs.declared.table.TheConstants.{HALVES}
+use Rattle.rewrite_rules.specs.declared.table.integers.TheConstants.{HALVES}
 use Rattle.rewrite_rules.specs.Line.{IsRight}
 use Rattle.rewrite_rules.specs.Table.{rows_of}
 use Rattle.rewrite_rules.proofs.identities.Words as line

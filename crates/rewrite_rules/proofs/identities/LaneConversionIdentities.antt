@@ -12,7 +12,7 @@ use Rattle.peephole_machine.specs.ExactRow.{exact_row, words_wide, doubles_wide}
 use Rattle.peephole_machine.specs.IntegerRow.{integer_row}
 use Rattle.peephole_machine.specs.Lanes.{each_lane, on_lanes, splat, lane_at}
 use Rattle.peephole_machine.specs.Values.{IsOfType}
-use Rattle.rewrite_rules.specs.declared.table.TheConstants.{LANE_CONVERSIONS}
+use Rattle.rewrite_rules.specs.declared.table.lane_moves.TheConstants.{LANE_CONVERSIONS}
 use Rattle.rewrite_rules.specs.Exact.{exact_operator}
 use Rattle.rewrite_rules.specs.Line.{IsRight}
 use Rattle.rewrite_rules.specs.Table.{rows_of}

@@ -4,7 +4,7 @@ use Rattle.wasm_code.specs.Table.{table, row_at}
 use Rattle.peephole_machine.specs.ExactRow.{exact_row}
 use Rattle.peephole_machine.specs.IntegerRow.{integer_row}
 use Rattle.peephole_machine.specs.Lanes.{each_lane, each_pair}
-use Rattle.rewrite_rules.specs.declared.table.TheConstants.{LANE_ORDERS, WIDE_ORDERS, LANE_OPPOSITES, WIDE_OPPOSITES, LANE_COMPLEMENTS, WIDE_COMPLEMENTS, LANE_BOUNDS, LANE_REPEATS, LANE_CHOICES}
+use Rattle.rewrite_rules.specs.declared.table.lane_tests.TheConstants.{LANE_ORDERS, WIDE_ORDERS, LANE_OPPOSITES, WIDE_OPPOSITES, LANE_COMPLEMENTS, WIDE_COMPLEMENTS, LANE_BOUNDS, LANE_REPEATS, LANE_CHOICES}
 use Rattle.rewrite_rules.specs.Exact.{exact_operator}
 use Rattle.rewrite_rules.specs.Line.{IsRight}
 use Rattle.rewrite_rules.specs.Table.{rows_of}

@@ -11,7 +11,7 @@ use Rattle.peephole_machine.specs.Conversions.{to_signed, to_unsigned, each_resi
 use Rattle.peephole_machine.specs.ExactRow.{exact_row, signed_lt}
 use Rattle.peephole_machine.specs.IntegerRow.{integer_row}
 use Rattle.peephole_machine.specs.Lanes.{each_lane, each_pair, on_pairs, splat}
-use Rattle.rewrite_rules.specs.declared.table.TheConstants.{NARROWED_LANES}
+use Rattle.rewrite_rules.specs.declared.table.lane_moves.TheConstants.{NARROWED_LANES}
 use Rattle.rewrite_rules.specs.Exact.{exact_operator}
 use Rattle.rewrite_rules.specs.Line.{IsRight}
 use Rattle.rewrite_rules.specs.Table.{rows_of}

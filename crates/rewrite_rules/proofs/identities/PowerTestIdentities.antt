@@ -8,7 +8,7 @@ use mir.Val.{bits}
 use Rattle.peephole_machine.specs.declared.integer.IntegerType.{IntegerType}
 use Rattle.peephole_machine.specs.declared.operation.Comparison.TheVariants.{LtU, GtU, LeU, GeU}
 use Rattle.peephole_machine.specs.Values.{width_of}
-use Rattle.rewrite_rules.specs.declared.table.TheConstants.{POWER_TESTS}
+use Rattle.rewrite_rules.specs.declared.table.integers.TheConstants.{POWER_TESTS}
 use Rattle.rewrite_rules.specs.Numbers.{low, lowest_bit}
 use Rattle.rewrite_rules.specs.Line.{IsRight}
 use Rattle.rewrite_rules.specs.Table.{rows_of}

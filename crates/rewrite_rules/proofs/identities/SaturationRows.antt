@@ -4,7 +4,7 @@ use Rattle.peephole_machine.specs.Conversions.{add_sat_s, add_sat_u}
 use Rattle.peephole_machine.specs.ExactRow.{exact_row}
 use Rattle.peephole_machine.specs.IntegerRow.{integer_row}
 use Rattle.peephole_machine.specs.Lanes.{each_lane, each_pair}
-use Rattle.rewrite_rules.specs.declared.table.TheConstants.{SATURATED_LANES}
+use Rattle.rewrite_rules.specs.declared.table.vectors.TheConstants.{SATURATED_LANES}
 use Rattle.rewrite_rules.specs.Exact.{exact_operator}
 use Rattle.rewrite_rules.specs.Line.{IsRight}
 use Rattle.rewrite_rules.specs.Table.{rows_of}

@@ -6,7 +6,7 @@ use Rattle.wasm_code.specs.Table.{table, row_at}
 use Rattle.peephole_machine.specs.ExactRow.{exact_row}
 use Rattle.peephole_machine.specs.IntegerRow.{integer_row}
 use Rattle.peephole_machine.specs.Lanes.{each_lane, each_pair}
-use Rattle.rewrite_rules.specs.declared.table.TheConstants.{SWIZZLES}
+use Rattle.rewrite_rules.specs.declared.table.vectors.TheConstants.{SWIZZLES}
 use Rattle.rewrite_rules.specs.Exact.{exact_operator}
 use Rattle.rewrite_rules.specs.Line.{IsRight}
 use Rattle.rewrite_rules.specs.Table.{rows_of}

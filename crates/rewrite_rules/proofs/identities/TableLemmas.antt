@@ -21,7 +21,8 @@ use Rattle.rewrite_rules.specs.declared.table.Widths.TheVariants.{Both, Only, An
 use Rattle.rewrite_rules.specs.declared.table.Row.{Row}
 use Rattle.rewrite_rules.specs.Exact.{exact_operator}
 use Rattle.rewrite_rules.specs.Line.{Line, is_formed, IsRight}
-use Rattle.rewrite_rules.specs.declared.table.TheConstants.{ACCESS_BITS, ACCESS_WIDTHS, LOAD_SIGNS, STORE_SIGNS, ALIGNMENTS, CONSTANTS, WIDE_ACCESSES, CONTROL}
+use Rattle.rewrite_rules.specs.declared.table.accesses.TheConstants.{ACCESS_BITS, ACCESS_WIDTHS, LOAD_SIGNS, STORE_SIGNS, ALIGNMENTS, CONSTANTS, WIDE_ACCESSES}
+use Rattle.rewrite_rules.specs.declared.table.control.TheConstants.{CONTROL}
 use Rattle.rewrite_rules.specs.Table.{Entry, row_in, parts, rows_of, joined, ROWS, width_by, line_of, widths_in, lines_of, OfEachLine}
 use Rattle.rewrite_rules.specs.Laws.{LinesKeepCode, TableIsRight}
 use Rattle.rewrite_rules.proofs.PassLemmas.{passes, passes_at}

@@ -13,7 +13,7 @@ use Rattle.peephole_machine.specs.declared.integer.IntegerType.TheVariants as in
 use Rattle.peephole_machine.specs.declared.operation.Comparison.TheVariants.{LtU, GtU, LeU, GeU}
 use Rattle.peephole_machine.specs.Integer.{signed_into}
 use Rattle.peephole_machine.specs.Values.{width_of}
-use Rattle.rewrite_rules.specs.declared.table.TheConstants.{UNDONE}
+use Rattle.rewrite_rules.specs.declared.table.integers.TheConstants.{UNDONE}
 use Rattle.rewrite_rules.specs.Numbers.{low, lowest_bit}
 use Rattle.rewrite_rules.specs.Line.{IsRight}
 use Rattle.rewrite_rules.specs.Table.{rows_of}

@@ -1,5 +1,0 @@
--- The lines of the constant.
-use Rattle.rewrite_rules.proofs.lines.in_lane_complements.Goals as goal
-
-pub returns : goal.returns
-returns c = c.line_in.ensures

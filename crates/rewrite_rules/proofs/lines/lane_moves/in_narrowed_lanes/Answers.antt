@@ -1,0 +1,5 @@
+-- The lines of the constant.
+use Rattle.rewrite_rules.proofs.lines.lane_moves.in_narrowed_lanes.Goals as goal
+
+pub returns : goal.returns
+returns c = c.line_in.ensures
