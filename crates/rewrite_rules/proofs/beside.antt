@@ -12,5 +12,6 @@ pub mod AccessLemmas
 pub mod ConstantLemmas
 pub mod AccessParts
 pub mod AccessPairs
+pub mod ConstantPairs
 pub mod AccessRows
 pub mod AccessRules

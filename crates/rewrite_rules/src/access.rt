@@ -109,6 +109,8 @@ macro_rules! conversion {
     ((i16x8.splat)) => { Conversion::By(Operator::Exact(205, None)) };
     ((i32x4.splat)) => { Conversion::By(Operator::Exact(206, None)) };
     ((i64x2.splat)) => { Conversion::By(Operator::Exact(207, None)) };
+    ((f32x4.splat)) => { Conversion::By(Operator::Exact(208, None)) };
+    ((f64x2.splat)) => { Conversion::By(Operator::Exact(209, None)) };
     ((v128.not)) => { Conversion::By(Operator::Exact(266, None)) };
     (($n:literal i64x2.replace_lane 1)) => { Conversion::With(IntegerType::I64, $n, Operator::Exact(219, Some(1))) };
     ((i32.wrap_i64)) => { Conversion::By(Operator::Whole(Operation::WrapI64)) };
@@ -147,8 +149,11 @@ macro_rules! store {
     };
 }
 
-// A constant as another one and a conversion behind it, or the other way round.
+// A constant as another one and a conversion behind it, or the other way round; or both with one.
 macro_rules! constant {
+    ($l:tt $c:tt => $r:tt $d:tt) => {
+        (AccessKind::Constant, (row!($l), conversion!($c)), (row!($r), conversion!($d)), None)
+    };
     ($l:tt => $r:tt $c:tt) => {
         (AccessKind::Constant, (row!($l), Conversion::Nothing), (row!($r), conversion!($c)), None)
     };
@@ -170,7 +175,7 @@ macro_rules! align {
 }
 
 /// All of them; rules name them by their numbers.
-pub const ACCESSES: [AccessLine; 144] = [
+pub const ACCESSES: [AccessLine; 148] = [
     // Floats by their bits.
     load!((f32.load) => (i32.load) (f32.reinterpret_i32)),
     load!((f64.load) => (i64.load) (f64.reinterpret_i64)),
@@ -322,10 +327,15 @@ pub const ACCESSES: [AccessLine; 144] = [
     store!((i64.extend_i32_u) (i64.store32) => (i32.store)),
     load!((v128.load64_zero) => (v128.load64_splat) (0 i64x2.replace_lane 1)),
     load!((v128.load64_splat) (0 i64x2.replace_lane 1) => (v128.load64_zero)),
+    // Constants of floats that are read as bits, as constants of integers.
+    constant!((f32.const) (i32.reinterpret_f32) => (i32.const)),
+    constant!((f64.const) (i64.reinterpret_f64) => (i64.const)),
+    constant!((f32.const) (f32x4.splat) => (i32.const) (i32x4.splat)),
+    constant!((f64.const) (f64x2.splat) => (i64.const) (i64x2.splat)),
 ];
 
 // They stand once in memory.
-static ACCESS_LINES: [AccessLine; 144] = ACCESSES;
+static ACCESS_LINES: [AccessLine; 148] = ACCESSES;
 
 // The access with that number among these.
 fn access_among(lines: &[AccessLine], number: usize) -> Option<Access>

@@ -14,8 +14,8 @@ mod lane_tests;
 mod vectors;
 
 use crate::lines::accesses::{
-    in_access_bits, in_access_widths, in_alignments, in_constants, in_load_signs, in_store_signs,
-    in_wide_accesses,
+    in_access_bits, in_access_widths, in_alignments, in_constant_bits, in_constants, in_load_signs,
+    in_store_signs, in_wide_accesses,
 };
 use crate::lines::control::in_control;
 use crate::lines::floats::{
@@ -138,17 +138,18 @@ fn line_of(part: usize, number: usize) -> Option<&'static TableLine>
         79 => in_wide_accesses(number),
         80 => in_float_lane_bounds(number),
         81 => in_control(number),
+        82 => in_constant_bits(number),
         _ => None,
     }
 }
 
 // Where the lines of each constant begin in the table.
-const STARTS: [usize; 82] = [
+const STARTS: [usize; 83] = [
     0, 15, 25, 35, 46, 62, 70, 77, 83, 95, 105, 120, 126, 137, 148, 165, 181, 196, 212, 216, 230,
     249, 269, 289, 307, 319, 339, 351, 375, 387, 406, 424, 445, 469, 489, 505, 525, 541, 561, 577,
     597, 613, 625, 649, 673, 697, 721, 741, 765, 789, 809, 833, 857, 871, 887, 913, 933, 953, 1001,
     1007, 1032, 1052, 1060, 1070, 1074, 1080, 1084, 1094, 1106, 1114, 1122, 1140, 1164, 1172, 1188,
-    1208, 1232, 1256, 1280, 1282, 1290, 1298,
+    1208, 1232, 1256, 1280, 1282, 1290, 1298, 1328,
 ];
 
 // The number of the constant among whose lines one with that number stands; behind them all, the last one.
@@ -200,7 +201,7 @@ pub(crate) fn name_at(number: usize) -> Option<&'static str>
 }
 
 // How many lines there are.
-const LINE_COUNT: usize = 1328;
+const LINE_COUNT: usize = 1332;
 
 /// How many rows there are.
 pub fn row_count() -> usize

@@ -221,6 +221,18 @@ doubles_splat context exact =
     by_operator context exact (Exact 207 None) I64 V128 (by (Exact 207 None)) (λ n h. of_bits_fits V128 (splat doubles_wide n))
     (exactly_one 207 None (record { operands = I64 ∷ []; result = V128; value = λ ns. of_bits V128 (one_to (splat doubles_wide) ns) }) refl) (λ n h. refl)
 
+pub float_words_splat : ConvertsAlways (By (Exact 208 None)) F32 V128 (by (Exact 208 None))
+unfolding exact_operator exact_row integer_row row_at table
+float_words_splat context exact =
+    by_operator context exact (Exact 208 None) F32 V128 (by (Exact 208 None)) (λ n h. of_bits_fits V128 (splat words_wide n))
+    (exactly_one 208 None (record { operands = F32 ∷ []; result = V128; value = λ ns. of_bits V128 (one_to (splat words_wide) ns) }) refl) (λ n h. refl)
+
+pub float_doubles_splat : ConvertsAlways (By (Exact 209 None)) F64 V128 (by (Exact 209 None))
+unfolding exact_operator exact_row integer_row row_at table
+float_doubles_splat context exact =
+    by_operator context exact (Exact 209 None) F64 V128 (by (Exact 209 None)) (λ n h. of_bits_fits V128 (splat doubles_wide n))
+    (exactly_one 209 None (record { operands = F64 ∷ []; result = V128; value = λ ns. of_bits V128 (one_to (splat doubles_wide) ns) }) refl) (λ n h. refl)
+
 pub complement : ConvertsAlways (By (Exact 266 None)) V128 V128 (by (Exact 266 None))
 unfolding exact_operator exact_row integer_row row_at table
 complement context exact =

@@ -21,7 +21,7 @@ use Rattle.rewrite_rules.specs.declared.table.Widths.TheVariants.{Both, Only, An
 use Rattle.rewrite_rules.specs.declared.table.Row.{Row}
 use Rattle.rewrite_rules.specs.Exact.{exact_operator}
 use Rattle.rewrite_rules.specs.Line.{Line, is_formed, IsRight}
-use Rattle.rewrite_rules.specs.declared.table.accesses.TheConstants.{ACCESS_BITS, ACCESS_WIDTHS, LOAD_SIGNS, STORE_SIGNS, ALIGNMENTS, CONSTANTS, WIDE_ACCESSES}
+use Rattle.rewrite_rules.specs.declared.table.accesses.TheConstants.{ACCESS_BITS, ACCESS_WIDTHS, LOAD_SIGNS, STORE_SIGNS, ALIGNMENTS, CONSTANTS, WIDE_ACCESSES, CONSTANT_BITS}
 use Rattle.rewrite_rules.specs.declared.table.control.TheConstants.{CONTROL}
 use Rattle.rewrite_rules.specs.Table.{Entry, row_in, parts, rows_of, joined, ROWS, width_by, line_of, widths_in, lines_of, OfEachLine}
 use Rattle.rewrite_rules.specs.Laws.{LinesKeepCode, TableIsRight}
@@ -590,6 +590,7 @@ vector_rows_right =
     ▸ own_right WIDE_ACCESSES refl
     ▸ float_lane.bounds_right
     ▸ own_right CONTROL refl
+    ▸ own_right CONSTANT_BITS refl
     ▸ tt
 
 -- all of them

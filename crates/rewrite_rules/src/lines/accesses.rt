@@ -5,7 +5,8 @@ ghost use Rattle.rewrite_rules.specs.Lines.{shown_at};
 use crate::lines::line_in;
 use crate::table::TableLine;
 use crate::table::accesses::{
-    ACCESS_BITS, ACCESS_WIDTHS, ALIGNMENTS, CONSTANTS, LOAD_SIGNS, STORE_SIGNS, WIDE_ACCESSES,
+    ACCESS_BITS, ACCESS_WIDTHS, ALIGNMENTS, CONSTANT_BITS, CONSTANTS, LOAD_SIGNS, STORE_SIGNS,
+    WIDE_ACCESSES,
 };
 
 // The lines of each constant, each of which stands once in memory.
@@ -20,6 +21,8 @@ static STORE_SIGNS_LINES: [TableLine; STORE_SIGNS.len()] = STORE_SIGNS;
 static ALIGNMENTS_LINES: [TableLine; ALIGNMENTS.len()] = ALIGNMENTS;
 
 static CONSTANTS_LINES: [TableLine; CONSTANTS.len()] = CONSTANTS;
+
+static CONSTANT_BITS_LINES: [TableLine; CONSTANT_BITS.len()] = CONSTANT_BITS;
 
 static WIDE_ACCESSES_LINES: [TableLine; WIDE_ACCESSES.len()] = WIDE_ACCESSES;
 
@@ -64,4 +67,10 @@ pub(crate) fn in_wide_accesses(number: usize) -> Option<&'static TableLine>
     ensures { shown_at result ≡ slice_get WIDE_ACCESSES number }
 {
     line_in(&WIDE_ACCESSES_LINES, number)
+}
+
+pub(crate) fn in_constant_bits(number: usize) -> Option<&'static TableLine>
+    ensures { shown_at result ≡ slice_get CONSTANT_BITS number }
+{
+    line_in(&CONSTANT_BITS_LINES, number)
 }

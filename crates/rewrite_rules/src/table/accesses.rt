@@ -173,3 +173,11 @@ pub const WIDE_ACCESSES: [TableLine; 8] = [
     own!("load_zero_by_splat": Access 142),
     own!("splat_to_load_zero": Access 143),
 ];
+
+/// Constants of floats that are read as bits, as constants of integers.
+pub const CONSTANT_BITS: [TableLine; 4] = [
+    own!("drop_reinterpretation_of_constant": Access 144),
+    own!(Access 145),
+    own!("splat_constant_to_bits": Access 146),
+    own!(Access 147),
+];

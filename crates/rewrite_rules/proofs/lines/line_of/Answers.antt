@@ -332,5 +332,9 @@ pub returns-in-81 : goal.returns-in-81
 unfolding parts
 returns-in-81 c = c.in_control.ensures ∙ ap (λ part. slice_get (part_at part) c.args.number) (sym c.in-81.is)
 
+pub returns-in-82 : goal.returns-in-82
+unfolding parts
+returns-in-82 c = c.in_constant_bits.ensures ∙ ap (λ part. slice_get (part_at part) c.args.number) (sym c.in-82.is)
+
 pub returns-in_default : goal.returns-in_default
 returns-in_default c = elsewhere c.args.part c.args.number (omega arith)
