@@ -6,7 +6,7 @@ use Rattle.rewrite_rules.specs.declared.growth.Growth.TheVariants.{Shrinks, Keep
 use Rattle.rewrite_rules.specs.declared.table.Own as beside
 use Rattle.rewrite_rules.specs.declared.table.Own.TheVariants.{Unfold, ThroughGlobal, WithNop, Fold, Forget, TeeToSet, DropNop, SetToTee, Access, Wrap, Unwrap}
 use Rattle.rewrite_rules.specs.declared.table.Own.TheVariants.{SelectToIf, IfToSelect, TestCondition, DropConditionTest, DoubleCondition, DropDoubleCondition, PutDead, DropDead}
-use Rattle.rewrite_rules.specs.declared.table.Own.TheVariants.{BoundIndex, DropIndexBound}
+use Rattle.rewrite_rules.specs.declared.table.Own.TheVariants.{BoundIndex, DropIndexBound, BrIfToIf, IfToBrIf}
 use Rattle.rewrite_rules.specs.declared.table.Row.{Row}
 use Rattle.rewrite_rules.specs.declared.table.Step.{Step}
 use Rattle.rewrite_rules.specs.declared.table.Step.TheVariants.{Operand, End}
@@ -57,6 +57,8 @@ own_growth PutDead = Grows
 own_growth DropDead = Shrinks
 own_growth BoundIndex = Grows
 own_growth DropIndexBound = Shrinks
+own_growth BrIfToIf = Grows
+own_growth IfToBrIf = Shrinks
 
 -- It is what each of the row's lines that is well formed does; of a rule beside the table, what that does.
 pub record GrowsAs (row : Row) (growth : code.Growth) : Type 0 where

@@ -110,6 +110,8 @@ impl Own {
             Own::DropDead => Growth::Shrinks,
             Own::BoundIndex => Growth::Grows,
             Own::DropIndexBound => Growth::Shrinks,
+            Own::BrIfToIf => Growth::Grows,
+            Own::IfToBrIf => Growth::Shrinks,
         }
     }
 }

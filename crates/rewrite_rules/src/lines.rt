@@ -149,7 +149,7 @@ const STARTS: [usize; 83] = [
     249, 269, 289, 307, 319, 339, 351, 375, 387, 406, 424, 445, 469, 489, 505, 525, 541, 561, 577,
     597, 613, 625, 649, 673, 697, 721, 741, 765, 789, 809, 833, 857, 871, 887, 913, 933, 953, 1001,
     1007, 1032, 1052, 1060, 1070, 1074, 1080, 1084, 1094, 1106, 1114, 1122, 1140, 1164, 1172, 1188,
-    1208, 1232, 1256, 1280, 1282, 1290, 1298, 1328,
+    1208, 1232, 1256, 1280, 1282, 1290, 1298, 1330,
 ];
 
 // The number of the constant among whose lines one with that number stands; behind them all, the last one.
@@ -201,7 +201,7 @@ pub(crate) fn name_at(number: usize) -> Option<&'static str>
 }
 
 // How many lines there are.
-const LINE_COUNT: usize = 1332;
+const LINE_COUNT: usize = 1334;
 
 /// How many rows there are.
 pub fn row_count() -> usize

@@ -131,6 +131,10 @@ pub enum Own {
     BoundIndex,
     /// That bound left out.
     DropIndexBound,
+    /// A branch under a condition, as a conditional with a branch in it.
+    BrIfToIf,
+    /// The other way round.
+    IfToBrIf,
 }
 
 /// What is asked of the number of a constant, by its index.

@@ -380,6 +380,8 @@ impl fmt::Display for Own {
             Own::DropIndexBound => {
                 f.write_str("br_table n of (select x n (lt_u x n)) → br_table n of x")
             }
+            Own::BrIfToIf => f.write_str("br_if l → if br (l+1) end"),
+            Own::IfToBrIf => f.write_str("if br (l+1) end → br_if l"),
         }
     }
 }

@@ -4,8 +4,8 @@ use crate::table::{Own, Step, TableLine, Widths};
 use crate::wrap::Wrap;
 
 /// Values in control flow of their own, selects as conditionals, tests of conditions, code that is never reached, bounds of indices,
-/// and back.
-pub const CONTROL: [TableLine; 30] = [
+/// branches in conditionals, and back.
+pub const CONTROL: [TableLine; 32] = [
     own!("in_block": Wrap InBlock),
     own!("drop_block": Unwrap InBlock),
     own!("in_loop": Wrap InLoop),
@@ -36,4 +36,6 @@ pub const CONTROL: [TableLine; 30] = [
     own!("drop_dead": DropDead),
     own!("bound_index": BoundIndex),
     own!("drop_index_bound": DropIndexBound),
+    own!("br_if_to_if": BrIfToIf),
+    own!("if_to_br_if": IfToBrIf),
 ];
