@@ -59,7 +59,19 @@ module _ (control : Control) (old new : List Operator) (P : Reached → Type 0) 
 
 -- ---- functions
 
--- one function does as another where it has the same structural operators and runs, and is valid where that is
+-- one function does as another where it comes to the same ends and is valid where that is, and so do what its operators come to
+pub record EndsSame (m : Module) (input : List ℕ) (b : Body) (old new : List Operator) : Type 0 where
+  pub ends : (results : List PrimitiveTypeInfo) (beyond : Beyond) (fuel : ℕ) (s : State) → HasTypes (context_for m b) s →
+      FollowsEnd [] (runs (standard m results (structural old) (by_asked (structural old) beyond)) old fuel (At 0 [] [] s))
+      (runs (standard m results (structural new) (by_asked (structural new) beyond)) new fuel (At 0 [] [] s))
+  pub valid : (results : List PrimitiveTypeInfo) (beyond : Beyond) → IsValid (context_for m b) results (by_asked (structural old) beyond) old →
+      IsValid (wider input [] (context_for m b)) results (by_asked (structural new) beyond) new
+  pub targets : (beyond : Beyond) → HasTargets m (structural old) (by_asked (structural old) beyond) →
+      HasTargets m (structural new) (by_asked (structural new) beyond)
+  pub deeds : (results : List PrimitiveTypeInfo) (beyond : Beyond) → HasDeeds m results (structural old) (by_asked (structural old) beyond) →
+      HasDeeds m results (structural new) (by_asked (structural new) beyond)
+
+-- the same where it has the same structural operators and runs
 pub record RunsSame (m : Module) (input : List ℕ) (b : Body) (old new : List Operator) : Type 0 where
   pub structure : structural old ≡ structural new
   pub same : (results : List PrimitiveTypeInfo) (beyond : Beyond) (fuel : ℕ) (s : State) → HasTypes (context_for m b) s →
@@ -70,52 +82,54 @@ pub record RunsSame (m : Module) (input : List ℕ) (b : Body) (old new : List O
 
 module _ (targets_stay : TargetsStay) (deeds_stay : DeedsStay) (m : Module) (input : List ℕ) (old new : Body) (old_body new_body : List Operator)
     (params_are : old.params ≡ new.params) (locals_are : old.locals ≡ new.locals) (old_is : old.operators ≡ old_body)
-    (new_is : new.operators ≡ new_body) (w : RunsSame m input old old_body new_body) where
+    (new_is : new.operators ≡ new_body) where
   abbrev context : Context
   context = context_for m old
 
-  alike : (results : List PrimitiveTypeInfo) (beyond : Beyond) →
-      EndsAlike context [] (standard m results (structural old_body) (by_asked (structural old_body) beyond))
-      (standard m results (structural new_body) (by_asked (structural new_body) beyond)) old_body new_body
-  alike results beyond fuel requested s typed e z =
-      let control : List Operator → Control = λ os. standard m results os (by_asked os beyond) in
-      let first : Reached = runs (control (structural old_body)) old_body fuel (At 0 [] [] s) in
-      let second : List Operator → State → Reached = λ os s. runs (control os) new_body fuel (At 0 [] [] s) in
-      subst (λ (os : List Operator). FollowsEnd requested first (second os (with_globals requested s))) w.structure
-      (subst (λ (more : List Value). FollowsEnd more first (second (structural old_body) (with_globals more s))) (sym (none_of requested e))
-      (subst (λ (x : State). FollowsEnd [] first (second (structural old_body) x)) (sym (no_globals s))
-      (subst (λ (x : Reached). FollowsEnd [] first x) (w.same results beyond fuel s typed) (go first))))
+  module _ (w : EndsSame m input old old_body new_body) where
+    alike : (results : List PrimitiveTypeInfo) (beyond : Beyond) →
+        EndsAlike context [] (standard m results (structural old_body) (by_asked (structural old_body) beyond))
+        (standard m results (structural new_body) (by_asked (structural new_body) beyond)) old_body new_body
+    alike results beyond fuel requested s typed e z =
+        let first : Reached = runs (standard m results (structural old_body) (by_asked (structural old_body) beyond)) old_body fuel (At 0 [] [] s) in
+        let second : State → Reached =
+        λ s. runs (standard m results (structural new_body) (by_asked (structural new_body) beyond)) new_body fuel (At 0 [] [] s) in
+        subst (λ (more : List Value). FollowsEnd more first (second (with_globals more s))) (sym (none_of requested e))
+        (subst (λ (x : State). FollowsEnd [] first (second x)) (sym (no_globals s)) (w.ends results beyond fuel s typed))
+
+    pub ends_does : DoesAs m input [] old new
+    ends_does = record {
+      params_are = params_are;
+      locals_are = locals_are;
+      alike = λ results beyond. subst (λ (x : List Operator × List Operator). EndsAlike context []
+          (standard m results (structural x.0) (by_asked (structural x.0) beyond)) (standard m results (structural x.1) (by_asked (structural x.1) beyond))
+          x.0 x.1) are (alike results beyond);
+      valid = λ results beyond. subst (λ (x : List Operator × List Operator). IsValid context results (by_asked (structural x.0) beyond) x.0 →
+          IsValid (wider input [] context) results (by_asked (structural x.1) beyond) x.1) are (w.valid results beyond);
+      targets = λ beyond. subst (λ (x : List Operator × List Operator). HasTargets m (structural x.0) (by_asked (structural x.0) beyond) →
+          HasTargets (wider_module input [] m) (structural x.1) (by_asked (structural x.1) beyond)) are
+          (λ h. targets_stay m input [] (structural new_body) (by_asked (structural new_body) beyond) (w.targets beyond h));
+      deeds = λ results beyond. subst (λ (x : List Operator × List Operator). HasDeeds m results (structural x.0) (by_asked (structural x.0) beyond) →
+          HasDeeds (wider_module input [] m) results (structural x.1) (by_asked (structural x.1) beyond)) are
+          (λ h. deeds_stay m input [] results (structural new_body) (by_asked (structural new_body) beyond) (w.deeds results beyond h));
+    }
+      where
+        are : ◌≡◌ {A = List Operator × List Operator} (old_body, new_body) (old.operators, new.operators)
+        are = ap₂ (λ (x y : List Operator). (x, y)) (sym old_is) (sym new_is)
+
+  pub same_does : RunsSame m input old old_body new_body → DoesAs m input [] old new
+  same_does w =
+      ends_does (record {
+        ends = λ results beyond fuel s typed.
+            let control : List Operator → Control = λ os. standard m results os (by_asked os beyond) in
+            let first : Reached = runs (control (structural old_body)) old_body fuel (At 0 [] [] s) in
+            subst (λ (os : List Operator). FollowsEnd [] first (runs (control os) new_body fuel (At 0 [] [] s))) w.structure
+            (subst (λ (x : Reached). FollowsEnd [] first x) (w.same results beyond fuel s typed) (go first));
+        valid = w.valid;
+        targets = λ beyond. subst (λ (os : List Operator). HasTargets m os (by_asked os beyond)) w.structure;
+        deeds = λ results beyond. subst (λ (os : List Operator). HasDeeds m results os (by_asked os beyond)) w.structure;
+      })
     where
       go : (p : Reached) → FollowsEnd [] p p
       go (At k labels stack s) = ([], refl, sym (no_globals s))
       go (Done o) = ([], refl, sym (none_more o))
-
-  targets : (beyond : Beyond) → HasTargets m (structural old_body) (by_asked (structural old_body) beyond) →
-      HasTargets (wider_module input [] m) (structural new_body) (by_asked (structural new_body) beyond)
-  targets beyond h =
-      targets_stay m input [] (structural new_body) (by_asked (structural new_body) beyond)
-      (subst (λ (os : List Operator). HasTargets m os (by_asked os beyond)) w.structure h)
-
-  deeds : (results : List PrimitiveTypeInfo) (beyond : Beyond) → HasDeeds m results (structural old_body) (by_asked (structural old_body) beyond) →
-      HasDeeds (wider_module input [] m) results (structural new_body) (by_asked (structural new_body) beyond)
-  deeds results beyond h =
-      deeds_stay m input [] results (structural new_body) (by_asked (structural new_body) beyond)
-      (subst (λ (os : List Operator). HasDeeds m results os (by_asked os beyond)) w.structure h)
-
-  pub same_does : DoesAs m input [] old new
-  same_does = record {
-    params_are = params_are;
-    locals_are = locals_are;
-    alike = λ results beyond. subst (λ (x : List Operator × List Operator). EndsAlike context []
-        (standard m results (structural x.0) (by_asked (structural x.0) beyond)) (standard m results (structural x.1) (by_asked (structural x.1) beyond))
-        x.0 x.1) are (alike results beyond);
-    valid = λ results beyond. subst (λ (x : List Operator × List Operator). IsValid context results (by_asked (structural x.0) beyond) x.0 →
-        IsValid (wider input [] context) results (by_asked (structural x.1) beyond) x.1) are (w.valid results beyond);
-    targets = λ beyond. subst (λ (x : List Operator × List Operator). HasTargets m (structural x.0) (by_asked (structural x.0) beyond) →
-        HasTargets (wider_module input [] m) (structural x.1) (by_asked (structural x.1) beyond)) are (targets beyond);
-    deeds = λ results beyond. subst (λ (x : List Operator × List Operator). HasDeeds m results (structural x.0) (by_asked (structural x.0) beyond) →
-        HasDeeds (wider_module input [] m) results (structural x.1) (by_asked (structural x.1) beyond)) are (deeds results beyond);
-  }
-    where
-      are : ◌≡◌ {A = List Operator × List Operator} (old_body, new_body) (old.operators, new.operators)
-      are = ap₂ (λ (x y : List Operator). (x, y)) (sym old_is) (sym new_is)

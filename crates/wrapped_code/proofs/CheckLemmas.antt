@@ -1,5 +1,5 @@
 -- Wrapped code in a body that is valid: the body stays valid.
-use Rattle.std.proofs.Common.{◌≡◌, ℕ, suc, ◌+◌, ◌<◌, ◌≤◌, List, [], ◌∷◌, ◌++◌, length, drop, Option, Some, refl, sym, ap, ◌∙◌, arith}
+use Rattle.std.proofs.Common.{◌≡◌, ℕ, suc, ◌+◌, ◌<◌, ◌≤◌, List, [], ◌∷◌, ◌++◌, drop, Option, Some, refl, sym, ap, ◌∙◌, arith}
 use Rattle.std.specs.Prelude.{map, slice_get, option_map, option_and_then}
 use Rattle.wasm_code.specs.Instruction.{Instruction}
 use Rattle.wasm_code.specs.declared.operator.Operator.{Operator}
@@ -11,7 +11,7 @@ use Rattle.peephole_machine.specs.IntegerRow.{integer_row}
 use Rattle.peephole_machine.specs.RowLemmas.{and_then_some, map_some}
 use Rattle.peephole_programs.specs.control.Function.{structural}
 use Rattle.peephole_programs.specs.control.Blocks.{arity_of, has_arity}
-use Rattle.peephole_programs.specs.control.Standard.{Beyond, asked_before, by_asked}
+use Rattle.peephole_programs.specs.control.Standard.{Beyond, by_asked}
 use Rattle.peephole_programs.specs.control.Wider.{wider}
 use Rattle.peephole_programs.specs.validation.Algorithm.{Frame, check_row, check_code, Structural, on_innermost, check}
 use Rattle.peephole_programs.specs.validation.StandardSteps.{pop, push, cut_off, label_types, body_frame, open_frame, close_frame, other_frame, only_where, by_step, standard_steps}
@@ -19,9 +19,10 @@ use Rattle.peephole_programs.specs.validation.Sound.{IsValid}
 use Rattle.peephole_programs.specs.validation.StaysValid.{MoreGlobalsCheckAlike}
 use Rattle.wrapped_code.specs.Wrapped.{Wrapped, plain, both, block, loop, choice, leaving, exits, once, trap, written, check_wrapped, WrappedChecksAs}
 use Rattle.wrapped_code.proofs.PlaceLemmas.{bones, past, coded_structure, written_structure, bones_append, past_adds, past_counts, dropped, count, front_structure}
-use Rattle.wrapped_code.proofs.MovedLemmas.{moved, moved_before, moved_behind, get_moved}
-use Rattle.wrapped_code.proofs.StepLemmas.{step_numbers, step_wider, innermost_wider, coded_check}
-use Rattle.wrapped_code.proofs.TableLemmas.{no_tables, tables_moved}
+use Rattle.wrapped_code.proofs.MovedLemmas.{moved, moved_before, moved_behind, drop_behind}
+use Rattle.wrapped_code.proofs.StepLemmas.{step_wider, innermost_wider, coded_check}
+use Rattle.wrapped_code.proofs.TableLemmas.{no_tables}
+use Rattle.wrapped_code.proofs.BetweenLemmas.{steps_between}
 
 -- ---- the code itself
 
@@ -60,7 +61,7 @@ module _ (context : Context) (results : List PrimitiveTypeInfo) (structure : Lis
   drop_past trap n os e = (dropped structure n op.Unreachable os e).1
 
   -- one structural operator
-  one_step : (n : ℕ) (o : Operator) (os : List Operator) (frames next : List Frame) → slice_get structure n ≡ Some o →
+  pub one_step : (n : ℕ) (o : Operator) (os : List Operator) (frames next : List Frame) → slice_get structure n ≡ Some o →
       by_step context.info results beyond (Some o) n frames ≡ Some next →
       option_and_then (check context steps (suc n) os) (steps n frames) ≡ check context steps (suc n) os next
   one_step n o os frames next at e =
@@ -252,16 +253,10 @@ module _ (law : MoreGlobalsCheckAlike) (input : List ℕ) (more : List Primitive
 
   steps_moved : (k : ℕ) (fs : List Frame) → old_steps k fs ≡ new_steps (moved n m k) fs
   steps_moved k fs =
-      let numbers : asked_before (xs ++ (middle ++ ys)) (moved n m k) ≡ asked_before (xs ++ ys) k =
-      tables_moved xs middle ys n m refl (past_counts c []) (no_tables c []) k in
       ap (λ os. by_step context.info results (by_asked os beyond) (slice_get os k) k fs) old_is ∙
       (step_wider input more context.info results (by_asked (xs ++ ys) beyond) (slice_get (xs ++ ys) k) k fs ∙
-      (step_numbers after.info results (by_asked (xs ++ ys) beyond) (by_asked (xs ++ (middle ++ ys)) beyond) k (moved n m k)
-      (ap beyond.labels (sym numbers)) (ap beyond.default (sym numbers)) (ap beyond.takes (sym numbers)) (ap beyond.leaves (sym numbers))
-      (ap beyond.label (sym numbers)) (ap beyond.clauses (sym numbers)) (slice_get (xs ++ ys) k) fs ∙
-      (ap (λ o. by_step after.info results (by_asked (xs ++ (middle ++ ys)) beyond) o (moved n m k) fs)
-      (sym (get_moved xs middle ys n m refl (past_counts c []) k)) ∙
-      ap (λ os. by_step after.info results (by_asked os beyond) (slice_get os (moved n m k)) (moved n m k) fs) (sym new_is))))
+      (sym (steps_between xs middle ys n m refl (past_counts c []) (no_tables c []) after.info results beyond k fs) ∙
+      ap (λ os. by_step after.info results (by_asked os beyond) (slice_get os (moved n m k)) (moved n m k) fs) (sym new_is)))
 
   here : (left : List Frame) (fs : List Frame) →
       check context old_steps n (map (λ (i : Instruction). op.Instr i) (head ∷ own) ++ back) fs ≡ Some left →
@@ -272,14 +267,10 @@ module _ (law : MoreGlobalsCheckAlike) (input : List ℕ) (more : List Primitive
       (sym (coded_check context old_steps (head ∷ own) back n f fs) ∙ e) in
       let p = past_adds c n in
       wrapped_checks after results (structural new) (by_asked (structural new) beyond) c n back (f ∷ fs) (g ∷ fs)
-      (ap (drop n) (written_is ∙ ap (λ os. xs ++ os) (written_structure c back)) ∙ dropped_front xs (bones c ys))
+      (ap (drop n) (written_is ∙ ap (λ os. xs ++ os) (written_structure c back)) ∙ drop_behind xs (bones c ys) 0 n (omega arith))
       (checks_as f g fs x) ∙
       back_checks law input more context old_steps new_steps m back n (past c n) (g ∷ fs) left (omega arith)
       (λ i fs l. steps_moved i fs ∙ ap (λ j. new_steps j fs) (moved_behind n m i l)) y
-    where
-      dropped_front : (xs ys : List Operator) → drop (length xs) (xs ++ ys) ≡ ys
-      dropped_front [] ys = refl
-      dropped_front (x ∷ xs) ys = dropped_front xs ys
 
   pub wrapped_valid : IsValid context results (by_asked (structural old) beyond) old → IsValid after results (by_asked (structural new) beyond) new
   wrapped_valid h =

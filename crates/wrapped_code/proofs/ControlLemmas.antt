@@ -106,7 +106,7 @@ module _ (xs middle ys : List Operator) (n m : ℕ) (n_is : length xs ≡ n) (m_
     jump_moved (Some (op.Other o)) label outer stack s at = jump_other_moved (role_of o) label outer stack s (op.Other o, at, refl)
     jump_moved o label outer stack s at = refl
 
-    branch_moved : (l : ℕ) (labels : List Label) (stack : List Value) (s : State) →
+    pub branch_moved : (l : ℕ) (labels : List Label) (stack : List Value) (s : State) →
         std.branch w results after other l (las labels) stack s ≡ re (std.branch w results before beyond l labels stack s)
     branch_moved zero [] stack s = refl
     branch_moved (suc l) [] stack s = refl

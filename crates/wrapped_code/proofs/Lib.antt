@@ -9,6 +9,7 @@ mod ReadLemmas
 mod WrapLemmas
 mod FrameLemmas
 mod StepLemmas
+mod BetweenLemmas
 mod CheckLemmas
 mod DoesLemmas
 mod PushLemmas
@@ -30,9 +31,15 @@ mod BoundLemmas
 mod DeadRunLemmas
 mod DeadLemmas
 mod BlockLemmas
+mod NestedVisitLemmas
+mod NestedRunLemmas
+mod NestedFrameLemmas
+mod NestedCheckLemmas
+mod NestedLemmas
 mod PlaceOfLemmas
 mod Examples
 mod UnwrapExamples
 mod HandlerExamples
 mod ChangeExamples
 mod IndexExamples
+mod NestedExamples

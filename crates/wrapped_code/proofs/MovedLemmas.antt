@@ -58,7 +58,7 @@ get_behind [] ys i j e = ap (slice_get ys) (let x : j ≡ i = omega arith in x)
 get_behind (x ∷ xs) ys i zero e = absurd (omega arith)
 get_behind (x ∷ xs) ys i (suc j) e = get_behind xs ys i j (omega arith)
 
-drop_behind : {X : Type 0} (xs ys : List X) (i j : ℕ) → j ≡ length xs + i → drop j (xs ++ ys) ≡ drop i ys
+pub drop_behind : {X : Type 0} (xs ys : List X) (i j : ℕ) → j ≡ length xs + i → drop j (xs ++ ys) ≡ drop i ys
 drop_behind [] ys i j e = ap (λ k. drop k ys) (let x : j ≡ i = omega arith in x)
 drop_behind (x ∷ xs) ys i zero e = absurd (omega arith)
 drop_behind (x ∷ xs) ys i (suc j) e = drop_behind xs ys i j (omega arith)

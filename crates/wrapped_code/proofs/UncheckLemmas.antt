@@ -1,5 +1,5 @@
 -- Wrapped code in a body that is valid, replaced by instructions that push what it pushes: the body stays valid.
-use Rattle.std.proofs.Common.{◌≡◌, ℕ, suc, ◌+◌, ◌≤◌, Bool, true, false, List, [], ◌∷◌, ◌++◌, length, drop, Option, Some, None, refl, sym, ap, ◌∙◌, arith}
+use Rattle.std.proofs.Common.{◌≡◌, ℕ, suc, ◌+◌, ◌≤◌, Bool, true, false, List, [], ◌∷◌, ◌++◌, drop, Option, Some, None, refl, sym, ap, ◌∙◌, arith}
 use Rattle.std.specs.Prelude.{◌||◌, map, slice_get, option_map, option_and_then}
 use Rattle.std.proofs.lemmas.Bool.{or_parts}
 use Rattle.wasm_code.specs.Instruction.{Instruction}
@@ -11,7 +11,7 @@ use Rattle.peephole_machine.specs.IntegerRow.{integer_row}
 use Rattle.peephole_machine.specs.RowLemmas.{and_then_some, map_some}
 use Rattle.peephole_programs.specs.control.Function.{structural}
 use Rattle.peephole_programs.specs.control.Blocks.{has_arity}
-use Rattle.peephole_programs.specs.control.Standard.{Beyond, asked_before, by_asked}
+use Rattle.peephole_programs.specs.control.Standard.{Beyond, by_asked}
 use Rattle.peephole_programs.specs.control.Wider.{wider}
 use Rattle.peephole_programs.specs.validation.Algorithm.{Frame, check_row, check_code, Structural, on_innermost, check}
 use Rattle.peephole_programs.specs.validation.StandardSteps.{body_frame, only_where, by_step, standard_steps}
@@ -20,9 +20,10 @@ use Rattle.peephole_programs.specs.validation.StaysValid.{with_types, Pushes, Mo
 use Rattle.wrapped_code.specs.Wrapped.{Wrapped, plain, both, block, loop, choice, leaving, exits, once, trap, written, has_operators, check_wrapped}
 use Rattle.wrapped_code.specs.Ways.{WrappedPushes}
 use Rattle.wrapped_code.proofs.PlaceLemmas.{bones, past, coded_structure, written_structure, bones_append, past_adds, past_counts, dropped, count, front_structure}
-use Rattle.wrapped_code.proofs.MovedLemmas.{moved, moved_before, moved_behind, get_moved}
-use Rattle.wrapped_code.proofs.StepLemmas.{step_numbers, step_wider, innermost_wider, coded_check}
-use Rattle.wrapped_code.proofs.TableLemmas.{no_tables, tables_moved}
+use Rattle.wrapped_code.proofs.MovedLemmas.{moved, moved_before, moved_behind, drop_behind}
+use Rattle.wrapped_code.proofs.StepLemmas.{step_wider, innermost_wider, coded_check}
+use Rattle.wrapped_code.proofs.TableLemmas.{no_tables}
+use Rattle.wrapped_code.proofs.BetweenLemmas.{steps_between}
 use Rattle.wrapped_code.proofs.FrameLemmas.{none_on}
 use Rattle.wrapped_code.proofs.CheckLemmas.{wrapped_checks, front_checks}
 
@@ -106,7 +107,7 @@ module _ (law : MoreGlobalsCheckAlike) (input : List ℕ) (context : Context) wh
       first_is f g e = cc
 
   -- the operators of the back, whose numbers were larger
-  back_down : (a b : Structural) (m : ℕ) (os : List Operator) (k j : ℕ) (frames left : List Frame) → j ≡ k + m →
+  pub back_down : (a b : Structural) (m : ℕ) (os : List Operator) (k j : ℕ) (frames left : List Frame) → j ≡ k + m →
       ((i : ℕ) (fs : List Frame) → k ≤ i → a (i + m) fs ≡ b i fs) → check context a j os frames ≡ Some left → check all b k os frames ≡ Some left
   back_down a b m [] k j frames left e same h = h
   back_down a b m (op.Instr i ∷ os) k j frames left e same h =
@@ -162,23 +163,13 @@ module _ (law : MoreGlobalsCheckAlike) (input : List ℕ) (context : Context) (r
 
   steps_back : (k : ℕ) (fs : List Frame) → wrapped_steps (moved n m k) fs ≡ plain_steps k fs
   steps_back k fs =
-      let numbers : asked_before (xs ++ (middle ++ ys)) (moved n m k) ≡ asked_before (xs ++ ys) k =
-      tables_moved xs middle ys n m refl (past_counts c []) (no_tables c []) k in
       ap (λ os. by_step context.info results (by_asked os beyond) (slice_get os (moved n m k)) (moved n m k) fs) wrapped_is ∙
-      (ap (λ o. by_step context.info results (by_asked (xs ++ (middle ++ ys)) beyond) o (moved n m k) fs)
-      (get_moved xs middle ys n m refl (past_counts c []) k) ∙
-      (step_numbers context.info results (by_asked (xs ++ (middle ++ ys)) beyond) (by_asked (xs ++ ys) beyond) (moved n m k) k
-      (ap beyond.labels numbers) (ap beyond.default numbers) (ap beyond.takes numbers) (ap beyond.leaves numbers)
-      (ap beyond.label numbers) (ap beyond.clauses numbers) (slice_get (xs ++ ys) k) fs ∙
+      (steps_between xs middle ys n m refl (past_counts c []) (no_tables c []) context.info results beyond k fs ∙
       (step_wider input [] context.info results (by_asked (xs ++ ys) beyond) (slice_get (xs ++ ys) k) k fs ∙
-      ap (λ os. by_step after.info results (by_asked os beyond) (slice_get os k) k fs) (sym plain_is))))
+      ap (λ os. by_step after.info results (by_asked os beyond) (slice_get os k) k fs) (sym plain_is)))
 
   stands : drop n (structural wrapped_body) ≡ bones c ys
-  stands = ap (drop n) (written_is ∙ ap (λ os. xs ++ os) (written_structure c back)) ∙ dropped_front xs (bones c ys)
-    where
-      dropped_front : (os rest : List Operator) → drop (length os) (os ++ rest) ≡ rest
-      dropped_front [] rest = refl
-      dropped_front (o ∷ os) rest = dropped_front os rest
+  stands = ap (drop n) (written_is ∙ ap (λ os. xs ++ os) (written_structure c back)) ∙ drop_behind xs (bones c ys) 0 n (omega arith)
 
   here : (left : List Frame) (fs : List Frame) → check context wrapped_steps n (written c back) fs ≡ Some left →
       check after plain_steps n (map (λ (i : Instruction). op.Instr i) (head ∷ own) ++ back) fs ≡ Some left

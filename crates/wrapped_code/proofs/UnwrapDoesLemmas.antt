@@ -9,67 +9,21 @@ use Rattle.wasm_types.specs.declared.types.PrimitiveTypeInfo.{PrimitiveTypeInfo}
 use Rattle.peephole_machine.specs.Values.{Context}
 use Rattle.peephole_programs.specs.control.Function.{structural, EndsAlike}
 use Rattle.peephole_programs.specs.modules.Program.{Body, context_for}
-use Rattle.peephole_programs.specs.control.Blocks.{role_of}
-use Rattle.peephole_programs.specs.control.Standard.{Beyond, asked_before, by_asked, standard}
+use Rattle.peephole_programs.specs.control.Standard.{Beyond, by_asked, standard}
 use Rattle.peephole_programs.specs.validation.Sound.{ValidCodeRuns, IsValid, HasTargets, HasDeeds, TargetsStay, DeedsStay}
 use Rattle.peephole_programs.specs.validation.StaysValid.{MoreGlobalsCheckAlike}
 use Rattle.peephole_programs.specs.control.Wider.{wider_module, wider}
 use Rattle.peephole_programs.specs.control.Laws.{StandardControlIsSound}
 use Rattle.peephole_programs.specs.hosts.Embedder.{DoesAs}
-use Rattle.wrapped_code.specs.Wrapped.{Wrapped, written}
+use Rattle.wrapped_code.specs.Wrapped.{written}
 use Rattle.wrapped_code.specs.Handlers.{none_handle}
 use Rattle.wrapped_code.specs.Laws.{Unwraps, UnwrappedCodeDoes}
 use Rattle.wrapped_code.proofs.PlaceLemmas.{bones, past, coded_structure, written_structure, bones_append, past_counts, count, front_structure}
-use Rattle.wrapped_code.proofs.MovedLemmas.{moved, get_moved}
 use Rattle.wrapped_code.proofs.HandlerLemmas.{NoHandler, no_handler}
-use Rattle.wrapped_code.proofs.TableLemmas.{no_tables, tables_moved}
-use Rattle.wrapped_code.proofs.DoesLemmas.{uncaught, number_of, by_number, Fits}
+use Rattle.wrapped_code.proofs.TableLemmas.{no_tables}
+use Rattle.wrapped_code.proofs.BetweenLemmas.{no_handler_without, targets_without, deeds_without}
 use Rattle.wrapped_code.proofs.UnwrapLemmas.{unwrapped_alike}
 use Rattle.wrapped_code.proofs.UncheckLemmas.{unwrapped_valid}
-
--- ---- operators by their numbers
-
-module _ (front ys : List Operator) (c : Wrapped) where
-  abbrev xs : List Operator
-  xs = structural front
-
-  abbrev middle : List Operator
-  middle = bones c []
-
-  abbrev n : ℕ
-  n = count front
-
-  abbrev m : ℕ
-  m = past c 0
-
-  abbrev with_code : List Operator
-  with_code = xs ++ (middle ++ ys)
-
-  abbrev without : List Operator
-  without = xs ++ ys
-
-  numbers : (k : ℕ) → asked_before with_code (moved n m k) ≡ asked_before without k
-  numbers k = tables_moved xs middle ys n m refl (past_counts c []) (no_tables c []) k
-
-  no_handler_left : NoHandler with_code → NoHandler without
-  no_handler_left h k o at t = h (moved n m k) o (get_moved xs middle ys n m refl (past_counts c []) k ∙ at) t
-
-  targets_left : (info : Module) (beyond : Beyond) → HasTargets info with_code (by_asked with_code beyond) →
-      HasTargets info without (by_asked without beyond)
-  targets_left info beyond h k type table rest place call at e =
-      h (moved n m k) type table rest place call (get_moved xs middle ys n m refl (past_counts c []) k ∙ at)
-      (ap (λ j. beyond.target j place rest) (numbers k) ∙ e)
-
-  deeds_left : (info : Module) (beyond : Beyond) (results : List PrimitiveTypeInfo) → NoHandler without →
-      HasDeeds info results with_code (by_asked with_code beyond) → HasDeeds info results without (by_asked without beyond)
-  deeds_left info beyond results none h = record {
-    deeds = λ k o operands rest at part t a.
-        by_number info beyond xs ys c results without k (beyond.deed (asked_before without k) operands rest)
-        (subst (λ (j : ℕ). Fits info beyond xs ys c results j operands rest) (numbers k)
-        (λ t. number_of info beyond xs ys c results with_code (moved n m k) (beyond.deed (asked_before with_code (moved n m k)) operands rest)
-        (h.deeds (moved n m k) o operands rest (get_moved xs middle ys n m refl (past_counts c []) k ∙ at) part t a)) t);
-    caught = λ k mark rest o x at e. uncaught without (by_asked without beyond) k (role_of o) x (none k o at);
-  }
 
 -- ---- a function
 
@@ -84,22 +38,31 @@ module _ (law : StandardControlIsSound) (alike_law : MoreGlobalsCheckAlike) (tar
   abbrev new_body : List Operator
   new_body = w.front ++ (map (λ (i : Instruction). op.Instr i) (w.head ∷ w.own) ++ w.back)
 
+  abbrev xs : List Operator
+  xs = structural w.front
+
+  abbrev middle : List Operator
+  middle = bones w.code []
+
   abbrev ys : List Operator
   ys = structural w.back
 
-  old_structure : structural old_body ≡ structural w.front ++ (bones w.code [] ++ ys)
+  abbrev n : ℕ
+  n = count w.front
+
+  old_structure : structural old_body ≡ xs ++ (middle ++ ys)
   old_structure =
       front_structure w.front (written w.code w.back) ∙
-      ap (λ os. structural w.front ++ os) (written_structure w.code w.back ∙ bones_append w.code [] ys)
+      ap (λ os. xs ++ os) (written_structure w.code w.back ∙ bones_append w.code [] ys)
 
-  new_structure : structural new_body ≡ structural w.front ++ ys
+  new_structure : structural new_body ≡ xs ++ ys
   new_structure =
       front_structure w.front (map (λ (i : Instruction). op.Instr i) (w.head ∷ w.own) ++ w.back) ∙
-      ap (λ os. structural w.front ++ os) (coded_structure (w.head ∷ w.own) w.back)
+      ap (λ os. xs ++ os) (coded_structure (w.head ∷ w.own) w.back)
 
-  unhandled : NoHandler (structural w.front ++ ys)
+  unhandled : NoHandler (xs ++ ys)
   unhandled =
-      no_handler_left w.front ys w.code
+      no_handler_without xs middle ys n (past w.code 0) refl (past_counts w.code []) (no_tables w.code [])
       (subst NoHandler old_structure (no_handler old_body (ap none_handle (sym w.old_is) ∙ w.unhandled)))
 
   alike : (results : List PrimitiveTypeInfo) (beyond : Beyond) →
@@ -119,14 +82,15 @@ module _ (law : StandardControlIsSound) (alike_law : MoreGlobalsCheckAlike) (tar
   targets beyond h =
       targets_stay m input [] (structural new_body) (by_asked (structural new_body) beyond)
       (subst (λ (os : List Operator). HasTargets m os (by_asked os beyond)) (sym new_structure)
-      (targets_left w.front ys w.code m beyond (subst (λ (os : List Operator). HasTargets m os (by_asked os beyond)) old_structure h)))
+      (targets_without xs middle ys n (past w.code 0) refl (past_counts w.code []) (no_tables w.code []) m beyond
+      (subst (λ (os : List Operator). HasTargets m os (by_asked os beyond)) old_structure h)))
 
   deeds : (results : List PrimitiveTypeInfo) (beyond : Beyond) → HasDeeds m results (structural old_body) (by_asked (structural old_body) beyond) →
       HasDeeds (wider_module input [] m) results (structural new_body) (by_asked (structural new_body) beyond)
   deeds results beyond h =
       deeds_stay m input [] results (structural new_body) (by_asked (structural new_body) beyond)
       (subst (λ (os : List Operator). HasDeeds m results os (by_asked os beyond)) (sym new_structure)
-      (deeds_left w.front ys w.code m beyond results unhandled
+      (deeds_without xs middle ys n (past w.code 0) refl (past_counts w.code []) (no_tables w.code []) m beyond results unhandled
       (subst (λ (os : List Operator). HasDeeds m results os (by_asked os beyond)) old_structure h)))
 
   does_same : DoesAs m input [] old new

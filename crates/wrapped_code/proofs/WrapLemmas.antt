@@ -1,6 +1,6 @@
 -- A body in which instructions were replaced by wrapped code that runs as they do comes to the same end.
 use Rattle.std.proofs.Common.{◌≡◌, ℕ, zero, suc, ◌-◌, ◌+◌, ◌<◌, ◌≤◌, List, [], ◌++◌, length, refl, sym, ap, ap₂, ◌∙◌, subst, arith, inl, inr}
-use Rattle.std.specs.Prelude.{◌≢◌, ◌⊎◌, map, slice_get}
+use Rattle.std.specs.Prelude.{◌≢◌, ◌⊎◌, map}
 use Rattle.std.specs.List.{All}
 use Rattle.std.proofs.lemmas.Bool.{cases_eq, cases_lt}
 use Rattle.std.proofs.lemmas.List.{length-append}
@@ -19,7 +19,7 @@ use Rattle.peephole_machine.specs.StateLemmas.{with_more, Follows}
 use Rattle.peephole_machine.specs.SameLemmas.{run_follows}
 use Rattle.peephole_machine.specs.TypeLemmas.{run_keeps}
 use Rattle.peephole_programs.specs.control.Function.{structural, piece, Label, Reached, Done, Control, go_on, pass, visit, visits, lap, reached_with, FollowsEnd, IsTyped, IsSoundControl, EndsAlike, At, runs}
-use Rattle.peephole_programs.specs.control.Standard.{Beyond, standard, asked_before, by_asked}
+use Rattle.peephole_programs.specs.control.Standard.{Beyond, standard, by_asked}
 use Rattle.peephole_programs.specs.control.Blocks.{closing, other_part}
 use Rattle.peephole_programs.specs.control.Laws.{StandardControlIsSound}
 use Rattle.wrapped_code.specs.Wrapped.{Wrapped, written, run_wrapped, WrappedRunsAs}
@@ -27,9 +27,9 @@ use Rattle.wrapped_code.proofs.PlaceLemmas.{bones, past, coded_structure, writte
 use Rattle.wrapped_code.proofs.VisitLemmas.{coded_first, go_then, visits_past, visits_split, past_done, visit_not, visit_at, past_skip}
 use Rattle.wrapped_code.proofs.RunLemmas.{through}
 use Rattle.wrapped_code.proofs.MovedLemmas.{moved, moved_piece, moved_labels, moved_reached, moved_before, moved_behind, piece_before, piece_behind}
-use Rattle.wrapped_code.proofs.ControlLemmas.{TellsAlike, control_moved}
 use Rattle.wrapped_code.proofs.HandlerLemmas.{NoHandler}
-use Rattle.wrapped_code.proofs.TableLemmas.{no_tables, tables_moved}
+use Rattle.wrapped_code.proofs.TableLemmas.{no_tables}
+use Rattle.wrapped_code.proofs.BetweenLemmas.{control_between}
 
 -- that many more
 abbrev pub further : ℕ → ℕ → ℕ
@@ -124,26 +124,12 @@ module _ (context : Context) (sound_law : StandardControlIsSound) (requests : Li
       let p = past_adds c k in
       ap (other_part d k) (sym (bones_append c [] ys)) ∙ (other_past c d k ys ∙ ap (λ i. other_part d i ys) (let x : past c k ≡ j = omega arith in x))
 
-  numbers : (k : ℕ) → asked_before (xs ++ (middle ++ ys)) (moved n m k) ≡ asked_before (xs ++ ys) k
-  numbers k = tables_moved xs middle ys n m refl middle_count (no_tables c []) k
-
-  told : TellsAlike n m (xs ++ ys) (by_asked (xs ++ ys) beyond) (by_asked (xs ++ (middle ++ ys)) beyond)
-  told = record {
-    labels_are = λ k a. ap beyond.labels (numbers k);
-    default_is = λ k a. ap beyond.default (numbers k);
-    target_is = λ k a place rest. ap (λ j. beyond.target j place rest) (numbers k);
-    takes_are = λ k a. ap beyond.takes (numbers k);
-    deed_is = λ k a operands rest. ap (λ j. beyond.deed j operands rest) (numbers k);
-    leaves_are = λ k a. ap beyond.leaves (numbers k);
-    catchers_are = λ k mark rest o at handles. absurd (unhandled k o (ap (λ os. slice_get os k) old_is ∙ at) handles);
-  }
-
   pub controls_moved : (k : ℕ) (labels : List Label) (stack : List Value) (s : State) →
       new_control (moved n m k) (las labels) stack s ≡ re (old_control k labels stack s)
   controls_moved k labels stack s =
       ap (λ os. standard info results os (by_asked os beyond) (moved n m k) (las labels) stack s) new_is ∙
-      (control_moved xs middle ys n m refl middle_count closed parted info results (by_asked (xs ++ ys) beyond)
-      (by_asked (xs ++ (middle ++ ys)) beyond) told k labels stack s ∙
+      (control_between xs middle ys n m refl middle_count (no_tables c []) closed parted (subst NoHandler old_is unhandled) info results beyond k labels
+      stack s ∙
       ap (λ os. re (standard info results os (by_asked os beyond) k labels stack s)) (sym old_is))
 
   -- ---- one after another

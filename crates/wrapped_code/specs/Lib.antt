@@ -7,3 +7,4 @@ pub mod Alike
 pub mod Conditions
 pub mod Indices
 pub mod Dead
+pub mod Nested

@@ -5,6 +5,7 @@ ghost use Rattle.wrapped_code.specs.Dead.{DeadCodeMayChange};
 ghost use Rattle.wrapped_code.specs.Handlers.{ReadCodeHasNoHandlers};
 ghost use Rattle.wrapped_code.specs.Indices.{IndicesAreBounded, IndicesMayChange};
 ghost use Rattle.wrapped_code.specs.Laws.{UnwrappedCodeDoes, ValuesInBlocks, WrappedCodeDoes, WrappedModulesDoMore, WrappedModulesStayValid};
+ghost use Rattle.wrapped_code.specs.Nested.{BranchesMayNest, BranchesMayUnnest};
 ghost use Rattle.wrapped_code.specs.Tables.{TablesLoseNothing};
 ghost use Rattle.wrapped_code.specs.Ways.{CodeIsAlone, PureCode, PushedCodeChecksAs, PushingCodeIsThere, WrappedCodePushes, WrappedCodeRuns};
 
@@ -126,6 +127,16 @@ pub fn indices_may_be_bounded()
 /// it did.
 pub fn dead_code_may_change()
     ensures { DeadCodeMayChange }
+{
+    validity_goes_by_types();
+    valid_bodies_stay_valid();
+}
+
+/// A function without blocks that catch exceptions, in which a `br_if` was replaced by an `if` with a `br` in it (`nest`), or the
+/// other way round (`unnest`), does as it did.
+pub fn branches_may_nest()
+    ensures nest { BranchesMayNest }
+    ensures unnest { BranchesMayUnnest }
 {
     validity_goes_by_types();
     valid_bodies_stay_valid();
