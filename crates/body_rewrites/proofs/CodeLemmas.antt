@@ -35,7 +35,7 @@ begins_before context operators (p ∷ ps) (k ∷ ks) end (h, c) =
     let last = part_ordered context operators p k end h in
     omega arith
 
-stands_both : (operators : Operators) (s m e : ℕ) (a b : List Instruction) → s ≤ m → m ≤ e → Stands operators s m a → Stands operators m e b →
+pub stands_both : (operators : Operators) (s m e : ℕ) (a b : List Instruction) → s ≤ m → m ≤ e → Stands operators s m a → Stands operators m e b →
     Stands operators s e (a ++ b)
 stands_both operators s m e a b l k h g =
     ap (map (λ (o : Operator × ℕ). o.0)) (range_split operators s m e l k)

@@ -27,10 +27,11 @@ use Rattle.wrapped_code.specs.Ways.{WrappedPushes, PushingCodeIsThere}
 use Rattle.wrapped_code.specs.Handlers.{none_handle}
 use Rattle.wrapped_code.specs.Laws.{WrappedCodeDoes, UnwrappedCodeDoes}
 use Rattle.wrapped_code.specs.Conditions.{SameTruth, ConditionsMayChange}
+use Rattle.wrapped_code.specs.Indices.{IndicesMayChange}
 use Rattle.wrapped_code.specs.Dead.{never_goes_on, DeadCodeMayChange}
 use Rattle.rewrite_rules.specs.Beside.{drop_code}
 use Rattle.rewrite_rules.specs.Instance.{constant_code}
-use Rattle.rewrite_rules.specs.Flow.{zero_code, ne_code, eqz_code, select_code, MayBranch, SelectsAreConditionals, TestsAreConditions, DroppedCodePushesNothing, DroppedConstantsPushNothing}
+use Rattle.rewrite_rules.specs.Flow.{zero_code, ne_code, eqz_code, select_code, MayBranch, SelectsAreConditionals, TestsAreConditions, BoundsAreIndices, DroppedCodePushesNothing, DroppedConstantsPushNothing}
 use Rattle.body_rewrites.specs.declared.own.Made.TheVariants as made
 use Rattle.body_rewrites.specs.Trees.{Stands}
 use Rattle.body_rewrites.specs.Doing.{DoesAsBody}
@@ -50,6 +51,8 @@ pub record FlowLaws : Type 0 where
   pub branches : SelectsAreConditionals
   pub tests : TestsAreConditions
   pub conditions : ConditionsMayChange
+  pub bounds : BoundsAreIndices
+  pub indices : IndicesMayChange
   pub dead : DeadCodeMayChange
   pub dropped : DroppedCodePushesNothing
   pub constants : DroppedConstantsPushNothing
@@ -69,14 +72,14 @@ module _ (context : Context) (operators : Operators) (at : ℕ) where
   os = without_offsets operators
 
   -- what is kept stands there
-  kept : (start end : ℕ) → start ≤ end → end < length operators → IsPieceIn operators (Kept start end)
+  pub kept : (start end : ℕ) → start ≤ end → end < length operators → IsPieceIn operators (Kept start end)
   kept start end l inside = record { ordered = l; inside = inside }
 
-  abbrev AllIn : List Piece → Type 0
+  abbrev pub AllIn : List Piece → Type 0
   AllIn [] = ⊤
   AllIn (p ∷ ps) = IsPieceIn operators p × AllIn ps
 
-  all_in : (ps : List Piece) → AllIn ps → All (IsPieceIn operators) ps
+  pub all_in : (ps : List Piece) → AllIn ps → All (IsPieceIn operators) ps
   all_in [] h = All-nil (IsPieceIn operators)
   all_in (p ∷ ps) h = All-cons (IsPieceIn operators) p ps h.0 (all_in ps h.1)
 

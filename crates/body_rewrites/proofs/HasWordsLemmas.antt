@@ -1,6 +1,6 @@
 -- Words that choose a rewrite.
 use Rattle.std.proofs.Common.{◌≡◌, ◌⊎◌, ℕ, zero, suc, ◌+◌, ◌*◌, ◌%◌, ◌^◌, ◌<◌, inl, inr, List, [], ◌∷◌, ◌++◌, length, map, Some, option_map, refl, sym, ap, ap₂, subst, ◌∙◌, arith}
-use Rattle.std.specs.Prelude.{◌-◌, Contains, slice_get}
+use Rattle.std.specs.Prelude.{Contains, slice_get}
 use Rattle.std.proofs.lemmas.Bool.{cases_eq}
 use Rattle.std.proofs.lemmas.List.{length-append, length-map}
 use Rattle.std.proofs.lemmas.List.Elements.{Contains-append_left, Contains-append_right}
@@ -17,6 +17,7 @@ use Rattle.rewrite_rules.specs.declared.pattern.Operator.TheVariants.{Whole}
 use Rattle.rewrite_rules.specs.declared.table.Own.{Own}
 use Rattle.rewrite_rules.specs.declared.table.Own.TheVariants.{Unfold, ThroughGlobal, WithNop, Fold, Forget, TeeToSet, DropNop, SetToTee, Access as Accesses, Wrap as Wraps, Unwrap as Unwraps}
 use Rattle.rewrite_rules.specs.declared.table.Own.TheVariants.{SelectToIf, IfToSelect, TestCondition, DropConditionTest, DoubleCondition, DropDoubleCondition, PutDead, DropDead}
+use Rattle.rewrite_rules.specs.declared.table.Own.TheVariants.{BoundIndex, DropIndexBound}
 use Rattle.rewrite_rules.specs.declared.table.Row.{Row}
 use Rattle.rewrite_rules.specs.declared.table.Widths.{Widths}
 use Rattle.rewrite_rules.specs.declared.table.Widths.TheVariants as widths
@@ -37,6 +38,7 @@ use Rattle.body_rewrites.specs.Choice.{Draws, IsOf, IsOpen, HasOpen, Chooses, af
 use Rattle.body_rewrites.specs.HasWords.{HasWords}
 use Rattle.body_rewrites.specs.ThoseLemmas.{contained_cases, those_bounded, those_same}
 use Rattle.body_rewrites.proofs.FlowLemmas.{there_inside}
+use Rattle.body_rewrites.proofs.IndexLemmas.{bound_inside}
 use Rattle.body_rewrites.proofs.AccessLemmas.{access_inside, stands_inside}
 use Rattle.body_rewrites.proofs.CountingLemmas.{asked_few}
 
@@ -112,6 +114,8 @@ own_inside context operators at DoubleCondition start made.DoublyTested h = h.tr
 own_inside context operators at DropDoubleCondition start (made.Inner from end) (e, h) = there_inside operators at _ h.second
 own_inside context operators at PutDead start made.Dead (e, h) = there_inside operators at h.leave.operator h.leave.has
 own_inside context operators at DropDead start made.Nothing h = there_inside operators at _ h.dropped
+own_inside context operators at BoundIndex start (made.Bounded count) h = h.tree.inside
+own_inside context operators at DropIndexBound start (made.Inner from end) (e, h) = bound_inside context operators start at end h
 own_inside context operators at own start m h = absurd h
 
 makes_inside : (context : Context) (operators : List (Operator × ℕ)) (line : Line) (at : ℕ) (change : Change) (w : Widths) →

@@ -26,8 +26,11 @@ pub mod WrapLemmas
 pub mod WrapStandLemmas
 pub mod WrapFindLemmas
 pub mod FlowLemmas
+pub mod IndexLemmas
 pub mod FlowStandLemmas
+pub mod IndexStandLemmas
 pub mod FlowFindLemmas
+pub mod IndexFindLemmas
 pub mod OperationCodeLemmas
 pub mod OwnRowLemmas
 pub mod OwnStandLemmas

@@ -1,11 +1,9 @@
 -- What a row makes may stand in the place of what stood there; and what a body with it is.
-use Rattle.std.proofs.Common.{◌≡◌, ℕ, zero, suc, ◌+◌, ◌-◌, ◌<◌, ◌≤◌, IsTrue, List, [], ◌∷◌, ◌++◌, length, map, drop, Option, Some, refl, sym, ap, subst, ◌∙◌, arith}
+use Rattle.std.proofs.Common.{◌≡◌, ℕ, ◌+◌, ◌-◌, ◌<◌, List, [], ◌∷◌, ◌++◌, length, map, drop, Option, Some, refl, sym, ap, subst, ◌∙◌, arith}
 use Rattle.std.specs.Prelude.{slice_get, slice_range, IfSome, None, OnOk, Result, Ok, Err}
-use Rattle.std.proofs.lemmas.Bool.{false≢true}
 use Rattle.std.proofs.lemmas.List.{length-append, length-drop, length-map, length-take}
 use Rattle.std.proofs.Math.Nat.{min-le_right}
 use Rattle.std.proofs.lemmas.Option.{same_Some, slice_get_within}
-use Rattle.wasm_code.specs.Body.{is_end, ends}
 use Rattle.wasm_code.specs.Instruction.{Instruction}
 use Rattle.wasm_code.specs.declared.operator.Operator.{Operator}
 use Rattle.wasm_code.specs.declared.operator.Operator.TheVariants.{Instr}
@@ -16,6 +14,7 @@ use Rattle.peephole_machine.specs.Values.{Context}
 use Rattle.rewrite_rules.specs.declared.table.Own.{Own}
 use Rattle.rewrite_rules.specs.declared.table.Own.TheVariants.{Unfold, ThroughGlobal, WithNop, Fold, Forget, TeeToSet, DropNop, SetToTee, Access as Accesses, Wrap as Wraps, Unwrap as Unwraps}
 use Rattle.rewrite_rules.specs.declared.table.Own.TheVariants.{SelectToIf, IfToSelect, TestCondition, DropConditionTest, DoubleCondition, DropDoubleCondition, PutDead, DropDead}
+use Rattle.rewrite_rules.specs.declared.table.Own.TheVariants.{BoundIndex, DropIndexBound}
 use Rattle.rewrite_rules.specs.declared.table.Widths.{Widths}
 use Rattle.rewrite_rules.specs.declared.table.Widths.TheVariants as widths
 use Rattle.rewrite_rules.specs.Beside.{constants}
@@ -25,7 +24,6 @@ use Rattle.rewrite_rules.specs.Table.{widths_in}
 use Rattle.body_rewrites.specs.declared.own.Made.{Made}
 use Rattle.body_rewrites.specs.declared.own.Made.TheVariants as made
 use Rattle.body_rewrites.specs.declared.places.Line.{Line}
-use Rattle.body_rewrites.specs.Trees.{Stands}
 use Rattle.body_rewrites.specs.Open.{HasInstruction}
 use Rattle.body_rewrites.specs.Own.{IsFolded, Rewrites, OwnChangesMayStand}
 use Rattle.body_rewrites.specs.Places.{IsLine}
@@ -36,11 +34,10 @@ use Rattle.body_rewrites.specs.Rewrites.{IsLineChange, asked_widths, MakesBy, Is
 use Rattle.body_rewrites.specs.declared.rewrite.Rewrite.{Rewrite}
 use Rattle.body_rewrites.specs.MadeLaws.{ChangesMayStand}
 use Rattle.body_rewrites.proofs.FlowLemmas.{there_inside}
+use Rattle.body_rewrites.proofs.IndexLemmas.{bound_inside}
 use Rattle.body_rewrites.proofs.AccessLemmas.{access_inside}
 use Rattle.body_rewrites.proofs.StandsLemmas.{Operators}
-use Rattle.body_rewrites.proofs.MatchingLemmas.{entry_in, one_there}
 use Rattle.body_rewrites.proofs.PlaceLemmas.{one_place_of}
-use Rattle.body_rewrites.proofs.SplitLemmas.{count_is}
 
 -- ---- something stands behind what is rewritten
 
@@ -91,6 +88,8 @@ own_inside context operators DoubleCondition start at made.DoublyTested h = h.tr
 own_inside context operators DropDoubleCondition start at (made.Inner from end) (e, h) = there_inside operators at _ h.second
 own_inside context operators PutDead start at made.Dead (e, h) = there_inside operators at h.leave.operator h.leave.has
 own_inside context operators DropDead start at made.Nothing h = there_inside operators at _ h.dropped
+own_inside context operators BoundIndex start at (made.Bounded count) h = h.tree.inside
+own_inside context operators DropIndexBound start at (made.Inner from end) (e, h) = bound_inside context operators start at end h
 own_inside context operators own start at m r = absurd r
 
 line_inside : (context : Context) (operators : Operators) (line : Line) (at : ℕ) (change : Change) → IsLineChange context operators line at change →

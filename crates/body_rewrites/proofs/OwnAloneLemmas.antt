@@ -12,7 +12,8 @@ use Rattle.wasm_code.specs.Instruction.{Instruction}
 use Rattle.wasm_code.specs.declared.immediate.ValType.{ValType}
 use Rattle.wasm_code.specs.declared.immediate.Imm.{Imm}
 use Rattle.wasm_code.specs.declared.immediate.Imm.TheVariants as imm
-use Rattle.wasm_code.specs.declared.operator.Operator.TheVariants.{Instr}
+use Rattle.wasm_code.specs.declared.operator.Operator.{Operator}
+use Rattle.wasm_code.specs.declared.operator.Operator.TheVariants.{Instr, BrTable}
 use Rattle.wasm_types.specs.declared.types.PrimitiveTypeInfo.{PrimitiveTypeInfo}
 use Rattle.wasm_types.specs.declared.types.PrimitiveTypeInfo.TheVariants as primitive
 use Rattle.peephole_machine.specs.declared.integer.IntegerType.{IntegerType}
@@ -28,18 +29,20 @@ use Rattle.rewrite_rules.specs.Flow.{zero_code, ne_code, eqz_code}
 use Rattle.rewrite_rules.specs.declared.table.Own.{Own}
 use Rattle.rewrite_rules.specs.declared.table.Own.TheVariants.{Unfold, ThroughGlobal, WithNop, Fold, Forget, TeeToSet, DropNop, SetToTee, Access as Accesses, Wrap as Wraps, Unwrap as Unwraps}
 use Rattle.rewrite_rules.specs.declared.table.Own.TheVariants.{SelectToIf, IfToSelect, TestCondition, DropConditionTest, DoubleCondition, DropDoubleCondition, PutDead, DropDead}
+use Rattle.rewrite_rules.specs.declared.table.Own.TheVariants.{BoundIndex, DropIndexBound}
 use Rattle.body_rewrites.specs.declared.own.Made.{Made}
 use Rattle.body_rewrites.specs.declared.own.Made.TheVariants as made
 use Rattle.body_rewrites.specs.Trees.{Stands, IsTree, tree_after}
 use Rattle.body_rewrites.specs.Open.{HasInstruction}
 use Rattle.body_rewrites.specs.Matching.{number_in}
 use Rattle.body_rewrites.specs.Changes.{Change}
-use Rattle.body_rewrites.specs.Own.{AreLeaves, IsFolded, IsReadBefore, IsTested, Rewrites, change_of, IsOwnChange}
+use Rattle.body_rewrites.specs.Own.{AreLeaves, HasTable, IsBounded, IsFolded, IsReadBefore, IsTested, Rewrites, change_of, IsOwnChange}
 use Rattle.body_rewrites.proofs.AccessLemmas.{one_access}
 use Rattle.body_rewrites.proofs.StandsLemmas.{Operators}
 use Rattle.body_rewrites.proofs.AloneLemmas.{one_code}
 use Rattle.body_rewrites.proofs.CutLemmas.{one_start}
 use Rattle.body_rewrites.proofs.MatchingLemmas.{entry_in}
+use Rattle.body_rewrites.proofs.IndexLemmas.{bound_copy, bound_place, bound_read, bound_there}
 use Rattle.body_rewrites.proofs.OperationCodeLemmas.{one_operation}
 
 -- ---- instructions
@@ -48,6 +51,12 @@ pub one_instruction : (operators : Operators) (at : ℕ) (i j : Instruction) →
 one_instruction operators at i j h g = go (sym h ∙ g)
   where
     go : ◌≡◌ {A = Option _} (Some (Instr i)) (Some (Instr j)) → i ≡ j
+    go e = cc
+
+pub one_table : (operators : Operators) (at n m : ℕ) → HasTable operators at n → HasTable operators at m → n ≡ m
+one_table operators at n m a b = go (sym a.has ∙ b.has)
+  where
+    go : ◌≡◌ {A = Option Operator} (Some (BrTable n)) (Some (BrTable m)) → n ≡ m
     go e = cc
 
 -- that of the code
@@ -176,6 +185,23 @@ module _ (context : Context) (operators : Operators) where
       one_start context operators s k a.last primitive.I32 primitive.I32 a.tree (subst (λ n. IsTree context operators k n primitive.I32) last b.tree) in
       (starts, ap₂ (λ f e. made.Inner f e) (e ∙ (starts ∙ sym f)) same)
 
+  -- ---- indices
+
+  one_bound : (s k at from other end behind : ℕ) → from ≡ s → other ≡ k → IsBounded context operators s at end → IsBounded context operators k at behind →
+      (s ≡ k) × (made.Inner from end ≡ made.Inner other behind)
+  one_bound s k at from other end behind e f a b =
+      let one = bound_place context operators s at end a in
+      let two = bound_place context operators k at behind b in
+      let there = (bound_there context operators s at end a).ends in
+      let too = (bound_there context operators k at behind b).ends in
+      let places : two ≡ one = omega (arith, there, too) in
+      let copies = one_read (end + 1) (behind + 1) one (bound_copy context operators s at end a)
+      (subst (λ n. IsReadBefore context operators (behind + 1) n) places (bound_copy context operators k at behind b)) in
+      let same : end ≡ behind = omega (arith, copies) in
+      let starts = one_read s k end (bound_read context operators s at end a)
+      (subst (λ n. IsReadBefore context operators k n) (sym same) (bound_read context operators k at behind b)) in
+      (starts, ap₂ (λ f e. made.Inner f e) (e ∙ (starts ∙ sym f)) same)
+
   -- ---- sites
 
   same_index : (at n m row : ℕ) → HasInstruction operators at (record { row = row; imm = imm.Index n }) →
@@ -268,6 +294,13 @@ module _ (context : Context) (operators : Operators) where
       let last : b.last ≡ a.last = omega (arith, one, two) in
       (one_start context operators s k a.last a.type b.type a.tree (subst (λ n. IsTree context operators k n b.type) last b.tree), refl)
   one_site DropDead s k at made.Nothing l r q = absurd q
+  one_site BoundIndex s k at (made.Bounded n) (made.Bounded m) a b = (
+    one_start context operators s k at primitive.I32 primitive.I32 a.tree b.tree,
+    ap (λ n. made.Bounded n) (one_table operators (at + 1) n m a.behind b.behind),
+  )
+  one_site BoundIndex s k at (made.Bounded n) l r q = absurd q
+  one_site DropIndexBound s k at (made.Inner from end) (made.Inner other behind) (e, a) (f, b) = one_bound s k at from other end behind e f a b
+  one_site DropIndexBound s k at (made.Inner from end) l r q = absurd q
   one_site own s k at m l r q = absurd r
 
   pub one_change : (at : ℕ) (own : Own) (change other : Change) → IsOwnChange context operators own at change → IsOwnChange context operators own at other →

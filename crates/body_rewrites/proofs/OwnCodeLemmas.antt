@@ -17,6 +17,7 @@ use Rattle.body_rewrites.specs.declared.changes.NewCode.{NewCode}
 use Rattle.rewrite_rules.specs.declared.table.Own.{Own}
 use Rattle.rewrite_rules.specs.declared.table.Own.TheVariants.{Unfold, ThroughGlobal, WithNop, Fold, Forget, TeeToSet, DropNop, SetToTee, Access as Accesses, Wrap as Wraps, Unwrap as Unwraps}
 use Rattle.rewrite_rules.specs.declared.table.Own.TheVariants.{SelectToIf, IfToSelect, TestCondition, DropConditionTest, DoubleCondition, DropDoubleCondition, PutDead, DropDead}
+use Rattle.rewrite_rules.specs.declared.table.Own.TheVariants.{BoundIndex, DropIndexBound}
 use Rattle.body_rewrites.specs.declared.own.Made.{Made}
 use Rattle.body_rewrites.specs.declared.own.Made.TheVariants as made
 use Rattle.body_rewrites.specs.declared.own.Site.{Site}
@@ -28,6 +29,7 @@ use Rattle.body_rewrites.proofs.AccessLemmas.{access_inside}
 use Rattle.body_rewrites.proofs.OwnRowLemmas.{i32_const_row, i64_const_row}
 use Rattle.body_rewrites.proofs.StandsLemmas.{Operators}
 use Rattle.body_rewrites.proofs.FlowLemmas.{there_inside}
+use Rattle.body_rewrites.proofs.IndexLemmas.{bound_inside}
 use Rattle.body_rewrites.proofs.OwnAloneLemmas.{folded_at}
 
 inside : (operators : Operators) (at : ℕ) (i : Instruction) → HasInstruction operators at i → at < length operators
@@ -56,6 +58,8 @@ module _ (context : Context) (operators : Operators) (at : ℕ) where
   within DropDoubleCondition start (made.Inner from end) (e, h) = there_inside operators at _ h.second
   within PutDead start made.Dead (e, h) = there_inside operators at h.leave.operator h.leave.has
   within DropDead start made.Nothing h = there_inside operators at _ h.dropped
+  within BoundIndex start (made.Bounded count) h = h.tree.inside
+  within DropIndexBound start (made.Inner from end) (e, h) = bound_inside context operators start at end h
   within own start m r = absurd r
 
   pub none_behind : length operators ≤ at → (own : Own) (change : Change) → IsOwnChange context operators own at change → ⊥
@@ -111,6 +115,8 @@ module _ (formed : AccessesAreFormed) (context : Context) (operators : Operators
   is_writable DropDoubleCondition start (made.Access a w) r = absurd r
   is_writable PutDead start (made.Access a w) r = absurd r
   is_writable DropDead start (made.Access a w) r = absurd r
+  is_writable BoundIndex start (made.Access a w) r = absurd r
+  is_writable DropIndexBound start (made.Access a w) r = absurd r
   is_writable own start made.Nothing r = tt
   is_writable own start (made.Constant t n) r = tt
   is_writable own start (made.Sum t n) r = tt
@@ -125,6 +131,7 @@ module _ (formed : AccessesAreFormed) (context : Context) (operators : Operators
   is_writable own start made.Tested r = tt
   is_writable own start made.DoublyTested r = tt
   is_writable own start made.Dead r = tt
+  is_writable own start (made.Bounded count) r = tt
 
 pub if_none : {A : Type 0} (o : Option A) (P Q : Type 0) → (P → Q) → IfNone o P → IfNone o Q
 if_none (Some x) P Q f h = tt

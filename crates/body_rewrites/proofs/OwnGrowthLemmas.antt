@@ -15,11 +15,12 @@ use Rattle.peephole_machine.specs.Values.{Context}
 use Rattle.rewrite_rules.specs.declared.growth.Growth.TheVariants as rows
 use Rattle.rewrite_rules.specs.Access.{conversion_size, right_code}
 use Rattle.rewrite_rules.specs.Beside.{drop_code, get_global, set_global}
-use Rattle.rewrite_rules.specs.Flow.{zero_code, ne_code, eqz_code, select_code}
+use Rattle.rewrite_rules.specs.Flow.{zero_code, ne_code, eqz_code, below_code, select_code}
 use Rattle.rewrite_rules.specs.Instance.{constant_code}
 use Rattle.rewrite_rules.specs.declared.table.Own.{Own}
 use Rattle.rewrite_rules.specs.declared.table.Own.TheVariants.{Unfold, ThroughGlobal, WithNop, Fold, Forget, TeeToSet, DropNop, SetToTee, Access as Accesses, Wrap as Wraps, Unwrap as Unwraps}
 use Rattle.rewrite_rules.specs.declared.table.Own.TheVariants.{SelectToIf, IfToSelect, TestCondition, DropConditionTest, DoubleCondition, DropDoubleCondition, PutDead, DropDead}
+use Rattle.rewrite_rules.specs.declared.table.Own.TheVariants.{BoundIndex, DropIndexBound}
 use Rattle.body_rewrites.specs.declared.own.Made.{Made}
 use Rattle.body_rewrites.specs.declared.own.Made.TheVariants as made
 use Rattle.body_rewrites.specs.declared.own.Site.{Site}
@@ -35,6 +36,7 @@ use Rattle.body_rewrites.proofs.OperationCodeLemmas.{takes}
 use Rattle.body_rewrites.proofs.OwnAloneLemmas.{count_left}
 use Rattle.body_rewrites.proofs.WrapLemmas.{front_some, wrapped_count, inner_count}
 use Rattle.body_rewrites.proofs.FlowLemmas.{range_count, there_inside}
+use Rattle.body_rewrites.proofs.IndexLemmas.{bound_behind, bound_inside}
 
 -- the growth of a row is so in bodies
 grows_so : (left right new old : ℕ) → new ≡ right + 1 → old ≡ left + 1 →
@@ -166,6 +168,17 @@ module _ (context : Context) (operators : Operators) (at : ℕ) where
       let last = h.last_is in
       let ordered = h.tree.ordered in
       (let l : 0 < at + 1 - start = omega (arith, last, ordered) in l)
+  growth_at BoundIndex start (made.Bounded count) h word =
+      let limit = op.Instr (constant_code integer.I32 count) in
+      let size = kept_count start (limit ∷ (slice_range os start (at + 1) ++ (limit ∷ op.Instr below_code ∷ op.Instr select_code ∷ []))) h.tree.inside in
+      omega (arith, size)
+  growth_at DropIndexBound start (made.Inner from end) (e, h) word =
+      let ordered = h.tree.ordered in
+      let last = h.last_is in
+      let place = bound_behind context operators start at end h in
+      let inside = bound_inside context operators start at end h in
+      let count = inner_count operators from end (omega (arith, last, ordered, e)) (omega (arith, place, inside)) in
+      (let l : length (pieces_operators os (Kept from end ∷ [])) < at + 1 - start = omega (arith, count, place, last, ordered, e) in l)
   growth_at own start m r word = absurd r
 
   pub is_growing : (own : Own) (site : Site) → Rewrites context operators own site.start at site.made →

@@ -32,6 +32,10 @@ pub ne_row : IsTrue (fits_row (row_at 42) imm.Nothing)
 unfolding row_at table
 ne_row = refl
 
+pub below_row : IsTrue (fits_row (row_at 44) imm.Nothing)
+unfolding row_at table
+below_row = refl
+
 pub i32_add_row : IsTrue (fits_row (row_at 77) imm.Nothing)
 unfolding row_at table
 i32_add_row = refl

@@ -19,6 +19,7 @@ use Rattle.rewrite_rules.specs.Beside.{StandsWith, BesidesKeepCode, nop_code, dr
 use Rattle.rewrite_rules.specs.declared.table.Own.{Own}
 use Rattle.rewrite_rules.specs.declared.table.Own.TheVariants.{Unfold, ThroughGlobal, WithNop, Fold, Forget, TeeToSet, DropNop, SetToTee, Access as Accesses, Wrap as Wraps, Unwrap as Unwraps}
 use Rattle.rewrite_rules.specs.declared.table.Own.TheVariants.{SelectToIf, IfToSelect, TestCondition, DropConditionTest, DoubleCondition, DropDoubleCondition, PutDead, DropDead}
+use Rattle.rewrite_rules.specs.declared.table.Own.TheVariants.{BoundIndex, DropIndexBound}
 use Rattle.body_rewrites.specs.declared.own.Made.{Made}
 use Rattle.body_rewrites.specs.declared.own.Made.TheVariants as made
 use Rattle.body_rewrites.specs.Trees.{Stands}
@@ -38,6 +39,7 @@ use Rattle.body_rewrites.proofs.LeavesLemmas.{trees_leave}
 use Rattle.body_rewrites.proofs.ChangedLemmas.{keeps_may_stand}
 use Rattle.body_rewrites.proofs.WrapStandLemmas.{wrap_stands, unwrap_stands}
 use Rattle.body_rewrites.proofs.FlowStandLemmas.{FlowLaws, select_stands, choice_stands, test_stands, double_stands, untest_stands, undouble_stands, put_stands, gone_stands}
+use Rattle.body_rewrites.proofs.IndexStandLemmas.{bound_stands, unbound_stands}
 
 -- ---- what is written
 
@@ -76,6 +78,7 @@ IsInPlace made.Selected = ⊥
 IsInPlace made.Tested = ⊥
 IsInPlace made.DoublyTested = ⊥
 IsInPlace made.Dead = ⊥
+IsInPlace (made.Bounded count) = ⊥
 IsInPlace m = ⊤
 
 -- the code that is made of this code
@@ -159,6 +162,8 @@ KeepsInPlace DoubleCondition = ⊥
 KeepsInPlace DropDoubleCondition = ⊥
 KeepsInPlace PutDead = ⊥
 KeepsInPlace DropDead = ⊥
+KeepsInPlace BoundIndex = ⊥
+KeepsInPlace DropIndexBound = ⊥
 KeepsInPlace own = ⊤
 
 -- ---- what is rewritten
@@ -217,6 +222,8 @@ module _ (laws : BesidesKeepCode) (context : Context) (operators : Operators) (a
   stand_at DropDoubleCondition start m keeps r = absurd keeps
   stand_at PutDead start m keeps r = absurd keeps
   stand_at DropDead start m keeps r = absurd keeps
+  stand_at BoundIndex start m keeps r = absurd keeps
+  stand_at DropIndexBound start m keeps r = absurd keeps
   stand_at own start m keeps r = absurd r
 
 -- ---- each rule
@@ -251,6 +258,8 @@ module _ (laws : BesidesKeepCode) (wraps : WrapsAreRight) (wrapped : WrappedCode
   may_stand DropDoubleCondition start (made.Inner from end) (e, h) = undouble_stands context operators at flow start from end e h
   may_stand PutDead start made.Dead (e, h) = put_stands context operators at flow h start e
   may_stand DropDead start made.Nothing h = gone_stands context operators at flow start h
+  may_stand BoundIndex start (made.Bounded count) h = bound_stands context operators at flow start count h
+  may_stand DropIndexBound start (made.Inner from end) (e, h) = unbound_stands context operators at flow start from end e h
   may_stand own start m r = absurd r
 
   pub stand : (own : Own) (change : Change) → IsOwnChange context operators own at change → MayStand context operators at change

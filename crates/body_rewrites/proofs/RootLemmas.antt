@@ -16,6 +16,7 @@ use Rattle.rewrite_rules.specs.declared.pattern.Operator.TheVariants.{Whole}
 use Rattle.rewrite_rules.specs.declared.table.Own as own_rules
 use Rattle.rewrite_rules.specs.declared.table.Own.TheVariants.{Unfold, ThroughGlobal, WithNop, Fold, Forget, TeeToSet, DropNop, SetToTee, Access as Accesses, Wrap as Wraps, Unwrap as Unwraps}
 use Rattle.rewrite_rules.specs.declared.table.Own.TheVariants.{SelectToIf, IfToSelect, TestCondition, DropConditionTest, DoubleCondition, DropDoubleCondition, PutDead, DropDead}
+use Rattle.rewrite_rules.specs.declared.table.Own.TheVariants.{BoundIndex, DropIndexBound}
 use Rattle.rewrite_rules.specs.declared.table.Widths.{Widths}
 use Rattle.rewrite_rules.specs.declared.table.Widths.TheVariants.{Both, Only, Any, Operands, Own}
 use Rattle.rewrite_rules.specs.declared.access.AccessKind.{AccessKind}
@@ -48,6 +49,7 @@ use Rattle.body_rewrites.proofs.OwnAccessLemmas.{they_stand_from}
 use Rattle.body_rewrites.proofs.StandsLemmas.{Operators}
 use Rattle.body_rewrites.proofs.WrapLemmas.{ends_with_end}
 use Rattle.body_rewrites.proofs.FlowLemmas.{leave_class}
+use Rattle.body_rewrites.proofs.IndexLemmas.{bound_selects}
 use Rattle.body_rewrites.proofs.OperationCodeLemmas.{operation_class}
 use Rattle.body_rewrites.proofs.OwnAloneLemmas.{folded_at}
 
@@ -168,6 +170,9 @@ module _ (context : Context) (operators : Operators) (at : ℕ) where
       let none : class_told operators at ≡ 446 = ap class_in h.leave.has ∙ leave_class h.leave.operator h.leave.leaves in
       (omega (arith, none), omega (arith, none))
   own_at DropDead start made.Nothing h = has_class (Classes 2 2) drop_code h.dropped (omega arith, omega arith)
+  own_at BoundIndex start (made.Bounded count) h = (start, primitive.I32, h.tree)
+  own_at DropIndexBound start (made.Inner from end) (e, h) =
+      has_class (Classes 3 3) select_code (bound_selects context operators start at end h) (omega arith, omega arith)
   own_at own start m h = absurd h
 
   -- ---- what makes something has its root there

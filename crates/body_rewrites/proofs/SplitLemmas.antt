@@ -47,14 +47,14 @@ pub count_is : (operators : Operators) (s e : ℕ) (code : List Instruction) →
 count_is operators s e code l h = sym (length-map code instr_of) ∙ (ap length (sym h) ∙ length_in operators s e l)
 
 -- code that stands in two pieces
-record Split (operators : Operators) (s e : ℕ) (a b : List Instruction) : Type 0 where
-  at : ℕ
-  before : s ≤ at
-  behind : at ≤ e
-  front : Stands operators s at a
-  back : Stands operators at e b
+pub record Split (operators : Operators) (s e : ℕ) (a b : List Instruction) : Type 0 where
+  pub at : ℕ
+  pub before : s ≤ at
+  pub behind : at ≤ e
+  pub front : Stands operators s at a
+  pub back : Stands operators at e b
 
-split : (operators : Operators) (s e : ℕ) (a b : List Instruction) → s ≤ e → e ≤ length operators → Stands operators s e (a ++ b) → Split operators s e a b
+pub split : (operators : Operators) (s e : ℕ) (a b : List Instruction) → s ≤ e → e ≤ length operators → Stands operators s e (a ++ b) → Split operators s e a b
 split operators s e a b o l h =
     let count = count_is operators s e (a ++ b) l h in
     let parts = length-append a b in
@@ -76,7 +76,7 @@ split operators s e a b o l h =
 
 -- ---- one part
 
-one_stands : (operators : Operators) (k e : ℕ) (i : Instruction) → e ≤ length operators → Stands operators k e (i ∷ []) →
+pub one_stands : (operators : Operators) (k e : ℕ) (i : Instruction) → e ≤ length operators → Stands operators k e (i ∷ []) →
     (e ≡ suc k) × HasInstruction operators k i
 one_stands operators k e i l h =
     let count = count_is operators k e (i ∷ []) l h in

@@ -5,6 +5,7 @@ use Rattle.wasm_code.specs.Instruction.{Instruction, IsInstruction}
 use Rattle.wasm_code.specs.declared.immediate.Imm.{Imm}
 use Rattle.wasm_code.specs.declared.immediate.ValType.{ValType}
 use Rattle.wasm_code.specs.declared.operator.Operator.{Operator}
+use Rattle.wasm_code.specs.declared.operator.Operator.TheVariants.{BrTable}
 use Rattle.wasm_types.specs.declared.types.PrimitiveTypeInfo.{PrimitiveTypeInfo}
 use Rattle.wasm_types.specs.declared.types.PrimitiveTypeInfo.TheVariants as primitive
 use Rattle.body_splices.specs.declared.piece.Piece.{Piece}
@@ -30,11 +31,12 @@ use Rattle.rewrite_rules.specs.declared.wrap.Wrap.{Wrap}
 use Rattle.rewrite_rules.specs.declared.wrap.WrapItem.{WrapItem}
 use Rattle.rewrite_rules.specs.declared.wrap.WrapItem.TheVariants as item
 use Rattle.rewrite_rules.specs.Wrap.{front_of, back_of, value_of, IsItem}
-use Rattle.rewrite_rules.specs.Flow.{is_leaf, zero_code, ne_code, eqz_code, select_code}
+use Rattle.rewrite_rules.specs.Flow.{is_leaf, zero_code, ne_code, eqz_code, below_code, select_code}
 use Rattle.rewrite_rules.specs.declared.table.Own.{Own}
 use Rattle.rewrite_rules.specs.declared.table.Own.TheVariants as own_rule
 use Rattle.rewrite_rules.specs.declared.table.Own.TheVariants.{Unfold, ThroughGlobal, WithNop, Fold, Forget, TeeToSet, DropNop, SetToTee}
 use Rattle.rewrite_rules.specs.declared.table.Own.TheVariants.{SelectToIf, IfToSelect, TestCondition, DropConditionTest, DoubleCondition, DropDoubleCondition, PutDead, DropDead}
+use Rattle.rewrite_rules.specs.declared.table.Own.TheVariants.{BoundIndex, DropIndexBound}
 use Rattle.body_rewrites.specs.declared.own.Made.{Made}
 use Rattle.body_rewrites.specs.declared.own.Made.TheVariants as made
 use Rattle.body_rewrites.specs.declared.own.Site.{Site}
@@ -184,6 +186,31 @@ pub record IsTested (context : Context) (operators : List (Operator × ℕ)) (on
   pub second : HasInstruction operators at other
   pub behind : HasCondition operators (at + 1)
 
+-- ---- indices
+
+-- a branch by a table of so many labels stands there, its default one apart
+pub record HasTable (operators : List (Operator × ℕ)) (at count : ℕ) : Type 0 where
+  pub has : slice_get (without_offsets operators) at ≡ Some (BrTable count)
+  pub fits : count < 2 ^ 32
+
+-- From `start` on, up to the operator at `at`, stands a tree of 32 bits that writes nothing, and behind it a branch by a table of so many labels.
+pub record IsIndex (context : Context) (operators : List (Operator × ℕ)) (start at count : ℕ) : Type 0 where
+  pub tree : IsTree context operators start at primitive.I32
+  pub reads : writes tree.code ≡ false
+  pub behind : HasTable operators (at + 1) count
+
+-- From `start` up to the operator before `end` stands such a tree; then, up to the operator at `at`, the number of labels, the same code, that number, and what
+-- bounds it; and behind them the branch.
+pub record IsBounded (context : Context) (operators : List (Operator × ℕ)) (start at end : ℕ) : Type 0 where
+  pub last : ℕ
+  pub last_is : last + 1 ≡ end
+  pub tree : IsTree context operators start last primitive.I32
+  pub reads : writes tree.code ≡ false
+  pub count : ℕ
+  pub stands : Stands operators end (at + 1) (constant_code integer.I32 count
+      ∷ (tree.code ++ (constant_code integer.I32 count ∷ below_code ∷ select_code ∷ [])))
+  pub behind : HasTable operators (at + 1) count
+
 -- ---- code that is never reached
 
 -- an operator stands there behind which nothing is reached
@@ -235,6 +262,8 @@ Rewrites context operators DoubleCondition start at made.DoublyTested = IsAsked 
 Rewrites context operators DropDoubleCondition start at (made.Inner from end) = (from ≡ start) × IsTested context operators eqz_code eqz_code start at end
 Rewrites context operators PutDead start at made.Dead = (start ≡ at) × HasPlainLeave operators at
 Rewrites context operators DropDead start at made.Nothing = IsDead context operators start at
+Rewrites context operators BoundIndex start at (made.Bounded count) = IsIndex context operators start at count
+Rewrites context operators DropIndexBound start at (made.Inner from end) = (from ≡ start) × IsBounded context operators start at end
 Rewrites context operators own start at m = ⊥
 
 -- ---- what is written
@@ -279,6 +308,9 @@ made_pieces start at made.Selected word = Kept (at - 3) (at - 2) ∷ Kept (at - 
 made_pieces start at made.Tested word = Kept start (at + 1) ∷ new (zero_code ∷ ne_code ∷ [])
 made_pieces start at made.DoublyTested word = Kept start (at + 1) ∷ new (eqz_code ∷ eqz_code ∷ [])
 made_pieces start at made.Dead word = Kept start (at + 1) ∷ new (constant_code integer.I32 word ∷ drop_code ∷ [])
+made_pieces start at (made.Bounded count) word =
+    Kept start (at + 1) ∷ New (constant_code integer.I32 count) ∷ Kept start (at + 1)
+    ∷ new (constant_code integer.I32 count ∷ below_code ∷ select_code ∷ [])
 
 -- the global that is asked for
 abbrev pub made_asks : Made → List PrimitiveTypeInfo

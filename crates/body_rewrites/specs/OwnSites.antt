@@ -4,7 +4,7 @@ use Rattle.wasm_code.specs.Instruction.{Instruction, IsInstruction}
 use Rattle.wasm_code.specs.declared.immediate.Imm.{Imm}
 use Rattle.wasm_code.specs.declared.immediate.Imm.TheVariants as imm
 use Rattle.wasm_code.specs.declared.operator.Operator.{Operator}
-use Rattle.wasm_code.specs.declared.operator.Operator.TheVariants.{Instr}
+use Rattle.wasm_code.specs.declared.operator.Operator.TheVariants.{Instr, BrTable}
 use Rattle.wasm_types.specs.declared.types.PrimitiveTypeInfo.{PrimitiveTypeInfo}
 use Rattle.wasm_types.specs.declared.types.PrimitiveTypeInfo.TheVariants as primitive
 use Rattle.body_splices.specs.declared.piece.Piece.{Piece}
@@ -23,6 +23,7 @@ use Rattle.rewrite_rules.specs.declared.growth.Growth.TheVariants as growths
 use Rattle.rewrite_rules.specs.Access.{IsOfRow, access_growth, code_with, right_code, side_code}
 use Rattle.rewrite_rules.specs.Instance.{constant_code, operator_code}
 use Rattle.rewrite_rules.specs.Beside.{left_by}
+use Rattle.rewrite_rules.specs.Flow.{below_code, select_code}
 use Rattle.body_rewrites.specs.declared.changes.NewCode.{NewCode}
 use Rattle.body_rewrites.specs.declared.growth.Growth.{Growth}
 use Rattle.body_rewrites.specs.declared.growth.Growth.TheVariants.{Shrinks, Keeps, Grows}
@@ -39,7 +40,7 @@ use Rattle.rewrite_rules.specs.Wrap.{front_of, back_of, value_of}
 use Rattle.wasm_code.specs.declared.immediate.ValType.{ValType}
 use Rattle.body_rewrites.specs.declared.trees.Tree.{Tree}
 use Rattle.body_rewrites.specs.Trees.{IsTree}
-use Rattle.body_rewrites.specs.Own.{HasCondition, HaveItems, IsFolded, Rewrites}
+use Rattle.body_rewrites.specs.Own.{HasCondition, HasTable, HaveItems, IsFolded, Rewrites}
 
 -- ---- instructions
 
@@ -118,6 +119,18 @@ pub record IsAskedBehind (context : Context) (operators : List (Operator × ℕ)
   pub tree : IsTree context operators start last primitive.I32
   pub asks : HasCondition operators behind
 
+-- it is a branch by a table of so many labels
+abbrev pub IsTableOperator : Operator → ℕ → Type 0
+IsTableOperator o n = (n < 2 ^ 32) × (o ≡ BrTable n)
+
+-- The number of labels stands at `place`, then what compares with it without signs, a select, at `at`, and a branch by a table of so many.
+pub record IsBoundAt (operators : List (Operator × ℕ)) (place at count : ℕ) : Type 0 where
+  pub ends : place + 2 ≡ at
+  pub limit : HasInstruction operators place (constant_code integer.I32 count)
+  pub compares : HasInstruction operators (place + 1) below_code
+  pub selects : HasInstruction operators at select_code
+  pub behind : HasTable operators (at + 1) count
+
 -- ---- what is written
 
 -- the piece with the immediate, with those of the conversion
@@ -165,3 +178,4 @@ growth_of made.Selected = Shrinks
 growth_of made.Tested = Grows
 growth_of made.DoublyTested = Grows
 growth_of made.Dead = Grows
+growth_of (made.Bounded count) = Grows

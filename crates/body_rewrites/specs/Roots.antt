@@ -1,6 +1,5 @@
 -- What has to stand at an operator where a line of the table applies (this project).
 use Rattle.std.specs.Prelude.{◌≡◌, ◌&&◌, ℕ, ◌≤◌, nat_le, nat_lt, if◌then◌else◌, Bool, true, Option, Some, None, List, [], ◌∷◌, map, slice_get}
-use Rattle.wasm_code.specs.Instruction.{Instruction}
 use Rattle.wasm_code.specs.declared.operator.Operator.{Operator}
 use Rattle.wasm_code.specs.declared.operator.Operator.TheVariants.{Instr}
 use Rattle.wasm_types.specs.declared.types.PrimitiveTypeInfo.{PrimitiveTypeInfo}
@@ -29,7 +28,6 @@ use Rattle.body_rewrites.specs.declared.places.Line.{Line}
 use Rattle.body_rewrites.specs.declared.root.Root.{Root}
 use Rattle.body_rewrites.specs.declared.root.Root.TheVariants as root
 use Rattle.body_rewrites.specs.Trees.{IsTree}
-use Rattle.body_rewrites.specs.Open.{HasInstruction}
 use Rattle.body_rewrites.specs.Places.{left_parts}
 
 -- ---- classes of instructions
@@ -121,6 +119,8 @@ own_root own.DoubleCondition = root.Tree
 own_root own.DropDoubleCondition = root.Classes 40 40
 own_root own.PutDead = root.Classes 446 446
 own_root own.DropDead = root.Classes 2 2
+own_root own.BoundIndex = root.Tree
+own_root own.DropIndexBound = root.Classes 3 3
 
 abbrev pub root_by : Line → Widths → Root
 root_by line (Own o) = own_root o

@@ -1,16 +1,19 @@
 //! The rules that are no rows of the table, and what they make.
 
 pub(crate) mod access;
+pub(crate) mod bound_index;
 pub(crate) mod conditions;
 pub(crate) mod double_condition;
 pub(crate) mod drop_condition_test;
 pub(crate) mod drop_dead;
 pub(crate) mod drop_double_condition;
+pub(crate) mod drop_index_bound;
 pub(crate) mod drop_nop;
 pub(crate) mod fold;
 pub(crate) mod forget;
 pub(crate) mod growing;
 pub(crate) mod if_to_select;
+pub(crate) mod indices;
 pub(crate) mod leaves;
 pub(crate) mod put_dead;
 pub(crate) mod rewriting;
@@ -64,6 +67,8 @@ pub enum Made {
     DoublyTested,
     /// The same code, and behind it a constant of the drawn word and a drop.
     Dead,
+    /// The same code, and that number where it isn't below that, without signs.
+    Bounded(u32),
 }
 
 /// From which operator on something is made, and what.

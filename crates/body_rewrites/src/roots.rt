@@ -133,6 +133,8 @@ fn own_root(own: Own) -> Root
         Own::DropDoubleCondition => Root::Classes(40, 40),
         Own::PutDead => Root::Classes(446, 446),
         Own::DropDead => Root::Classes(2, 2),
+        Own::BoundIndex => Root::Tree,
+        Own::DropIndexBound => Root::Classes(3, 3),
     }
 }
 

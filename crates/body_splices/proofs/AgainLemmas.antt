@@ -10,7 +10,7 @@ use Rattle.body_splices.specs.Splice.{pieces_bytes, IsRangeIn, AppendsSpliced}
 use Rattle.body_splices.proofs.SpellingLemmas.{Spelling, all_joined, spelled_append, spelled_take, spelled_drop, bytes_of-append}
 use Rattle.body_splices.proofs.SpellingLemmas.{ends_with, ends_placed, ends_behind}
 use Rattle.body_splices.proofs.BodyLemmas.{own_there, is_spelled, count_is}
-use Rattle.body_splices.proofs.PieceLemmas.{CodesSpell, pieces_spelled}
+use Rattle.body_splices.proofs.PieceLemmas.{CodesSpell, LabelsSpell, pieces_spelled}
 
 -- the last operator stays
 last_kept : (own middle : List Spelling) (start end : ℕ) → end < length own → ends_with (take start own ++ (middle ++ drop end own)) ≡ ends_with own
@@ -21,10 +21,11 @@ last_kept own middle start end l =
     ap ends_with (sym (append_assoc front middle back)) ∙ (ends_behind (front ++ middle) back some
     ∙ sym (ap ends_with (sym (take-append-drop end own)) ∙ ends_behind (take end own) back some))
 
-pub appends_spliced : CodesSpell → (input : List ℕ) (operators : List (Operator × ℕ)) (start end : ℕ) (pieces : List Piece) (old new : List ℕ) →
+pub appends_spliced : CodesSpell → LabelsSpell →
+    (input : List ℕ) (operators : List (Operator × ℕ)) (start end : ℕ) (pieces : List Piece) (old new : List ℕ) →
     IsBodyIn input operators → IsRangeIn operators start end → PutsSpliced (own_bytes input operators) start end pieces old new →
     AppendsSpliced input operators start end pieces old new
-appends_spliced spell input operators start end pieces old new body range put =
+appends_spliced spell labels input operators start end pieces old new body range put =
     let own = own_bytes input operators in
     let middle = pieces_bytes own pieces in
     let is = is_spelled input operators body in
@@ -36,7 +37,7 @@ appends_spliced spell input operators start end pieces old new body range put =
     ∙ ap (λ (t : List ℕ). bytes_of (take start own) ++ t) (bytes_of-append middle (drop end own)) in
     let each : AreSpelled ps =
     spelled_append (take start own) (middle ++ drop end own) (spelled_take start own is.each)
-    (spelled_append middle (drop end own) (pieces_spelled spell own is.each pieces put.coded) (spelled_drop end own is.each)) in
+    (spelled_append middle (drop end own) (pieces_spelled spell labels own is.each pieces put.coded) (spelled_drop end own is.each)) in
     let last : IsTrue (ends_with ps) = last_kept own middle start end inside ∙ is.last in
     record {
       text = text;

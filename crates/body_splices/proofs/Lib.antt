@@ -1,3 +1,4 @@
+pub mod LabelLemmas
 pub mod SpellingLemmas
 pub mod BodyLemmas
 pub mod PieceLemmas

@@ -1,20 +1,21 @@
 -- The operators of pieces, as they are written.
-use Rattle.std.proofs.Common.{◌≡◌, ℕ, ◌+◌, ◌-◌, ◌<◌, List, [], ◌∷◌, ◌++◌, length, take, drop, get_or, refl, sym, ap, subst, ◌∙◌, append_assoc, append-nil}
-use Rattle.std.proofs.Common.{◌≤◌, Result, Ok, Err, arith}
-use Rattle.std.specs.Prelude.{OnErr}
+use Rattle.std.proofs.Common.{◌≡◌, ℕ, ◌+◌, ◌-◌, ◌^◌, ◌<◌, List, [], ◌∷◌, ◌++◌, length, take, drop, get_or, refl, sym, ap, subst, ◌∙◌}
+use Rattle.std.proofs.Common.{◌≤◌, Result, Ok, Err, append_assoc, append-nil}
+use Rattle.std.specs.Prelude.{OnErr, ◌==◌}
 use Rattle.std.specs.List.{All}
 use Rattle.std.proofs.lemmas.List.{take_more, take_all}
 use Rattle.std.proofs.lemmas.List.Elements.{All-nil, All-more, All-head, All-tail}
 use Rattle.wasm_code.specs.Body.{AreSpelled, bytes_of}
-use Rattle.wasm_code.specs.Code.{code}
+use Rattle.wasm_code.specs.Code.{code, shortest}
+use Rattle.wasm_code.specs.Grammar.{Choose, Of, NoBytes}
 use Rattle.wasm_code.specs.Instruction.{Instruction, IsInstruction}
 use Rattle.wasm_code.specs.Number.{SpellsUnsigned}
 use Rattle.wasm_code.specs.Operator.{SpellsOpcode, SpellsBehind, Spells, SpellsAny}
 use Rattle.wasm_code.specs.Immediate.{val_type_code}
-use Rattle.wasm_code.specs.declared.table.Opcode.TheVariants.{Byte}
-use Rattle.wasm_code.specs.declared.immediate.BlockType.TheVariants.{Value}
+use Rattle.wasm_code.specs.declared.table.Opcode.TheVariants.{Byte, Fc, Fd}
+use Rattle.wasm_code.specs.declared.immediate.BlockType.TheVariants.{Empty, Value}
 use Rattle.wasm_code.specs.declared.operator.Operator.{Operator}
-use Rattle.body_splices.specs.Control.{control_operator, control_bytes}
+use Rattle.body_splices.specs.Control.{control_operator, control_bytes, InRange}
 use Rattle.body_splices.specs.declared.control.Control.{Control}
 use Rattle.body_splices.specs.declared.control.Control.TheVariants as control
 use Rattle.wasm_code.specs.declared.operator.Operator.TheVariants as op
@@ -30,47 +31,57 @@ use Rattle.body_splices.proofs.SpellingLemmas.{Spelling, spelled_append, spelled
 abbrev pub CodesSpell : Type 0
 CodesSpell = (i : Instruction) → IsInstruction i → Spells (code i) (op.Instr i)
 
--- an opcode of one byte, and what is behind it
-whole : (b : ℕ) (back : List ℕ) (o : Operator) → SpellsOpcode (b ∷ []) (Byte b) → SpellsBehind (Byte b) back o → Spells (b ∷ back) o
-whole b back o first second = record { value = Byte b; front = b ∷ []; back = back; parts = refl; first = first; second = second }
+-- the shortest spelling of every label spells it, as the law `shortest_is_a_spelling` says
+abbrev pub LabelsSpell : Type 0
+LabelsSpell = (label : ℕ) → label < 2 ^ 8 → SpellsUnsigned 32 (shortest label) label
 
--- the label 0
-zero_spelled : SpellsUnsigned 32 (0 ∷ []) 0
-zero_spelled = record { group = omega arith; short = omega arith; is = refl; fits = omega arith }
+-- the byte is an opcode with nothing behind it
+abbrev IsOpcode : ℕ → Type 0
+IsOpcode b =
+    Choose (b == 0xfc) (Of (λ n. Fc n) (SpellsUnsigned 32)) (Choose (b == 0xfd) (Of (λ n. Fd n) (SpellsUnsigned 32)) (NoBytes (Byte b))) [] (Byte b)
+
+-- an opcode of one byte, and what is behind it
+whole : (b : ℕ) (back : List ℕ) (o : Operator) → IsOpcode b → SpellsBehind (Byte b) back o → Spells (b ∷ back) o
+whole b back o opcode behind =
+    let first : SpellsOpcode (b ∷ []) (Byte b) = record { value = b; front = b ∷ []; back = []; parts = refl; first = refl; second = opcode } in
+    record { value = Byte b; front = b ∷ []; back = back; parts = refl; first = first; second = behind }
 
 -- the bytes of a structural operator spell it
-control_spelled : (c : Control) → Spells (control_bytes c) (control_operator c)
-control_spelled (control.Block t) = whole 0x02 (val_type_code t ∷ []) (op.Block (Value t)) (record { value = 0x02; front = 0x02 ∷ []; back = []; parts = refl; first = refl; second = (refl, refl) }) (refl, refl)
-control_spelled (control.Loop t) = whole 0x03 (val_type_code t ∷ []) (op.Loop (Value t)) (record { value = 0x03; front = 0x03 ∷ []; back = []; parts = refl; first = refl; second = (refl, refl) }) (refl, refl)
-control_spelled (control.If t) = whole 0x04 (val_type_code t ∷ []) (op.If (Value t)) (record { value = 0x04; front = 0x04 ∷ []; back = []; parts = refl; first = refl; second = (refl, refl) }) (refl, refl)
-control_spelled control.Else = whole 0x05 [] op.Else (record { value = 0x05; front = 0x05 ∷ []; back = []; parts = refl; first = refl; second = (refl, refl) }) (refl, refl)
-control_spelled control.End = whole 0x0b [] op.End (record { value = 0x0b; front = 0x0b ∷ []; back = []; parts = refl; first = refl; second = (refl, refl) }) (refl, refl)
-control_spelled control.Branch = whole 0x0c (0 ∷ []) (op.Br 0) (record { value = 0x0c; front = 0x0c ∷ []; back = []; parts = refl; first = refl; second = (refl, refl) }) (refl, zero_spelled)
-control_spelled control.BranchIf = whole 0x0d (0 ∷ []) (op.BrIf 0) (record { value = 0x0d; front = 0x0d ∷ []; back = []; parts = refl; first = refl; second = (refl, refl) }) (refl, zero_spelled)
-control_spelled control.Unreachable = whole 0x00 [] op.Unreachable (record { value = 0x00; front = 0x00 ∷ []; back = []; parts = refl; first = refl; second = (refl, refl) }) (refl, refl)
+control_spelled : LabelsSpell → (c : Control) → InRange c → Spells (control_bytes c) (control_operator c)
+control_spelled spell (control.Block t) fits = whole 0x02 (val_type_code t ∷ []) (op.Block (Value t)) (refl, refl) (refl, refl)
+control_spelled spell (control.Loop t) fits = whole 0x03 (val_type_code t ∷ []) (op.Loop (Value t)) (refl, refl) (refl, refl)
+control_spelled spell (control.If t) fits = whole 0x04 (val_type_code t ∷ []) (op.If (Value t)) (refl, refl) (refl, refl)
+control_spelled spell control.BareIf fits = whole 0x04 (0x40 ∷ []) (op.If Empty) (refl, refl) (refl, refl)
+control_spelled spell control.Else fits = whole 0x05 [] op.Else (refl, refl) (refl, refl)
+control_spelled spell control.End fits = whole 0x0b [] op.End (refl, refl) (refl, refl)
+control_spelled spell (control.Branch label) fits = whole 0x0c (shortest label) (op.Br label) (refl, refl) (refl, spell label fits)
+control_spelled spell (control.BranchIf label) fits = whole 0x0d (shortest label) (op.BrIf label) (refl, refl) (refl, spell label fits)
+control_spelled spell control.Unreachable fits = whole 0x00 [] op.Unreachable (refl, refl) (refl, refl)
 
 -- of an operator that is known, any spelling is one of these
-control_any : (c : Control) → SpellsAny (control_bytes c) (control_operator c)
-control_any (control.Block t) = control_spelled (control.Block t)
-control_any (control.Loop t) = control_spelled (control.Loop t)
-control_any (control.If t) = control_spelled (control.If t)
-control_any control.Else = control_spelled control.Else
-control_any control.End = control_spelled control.End
-control_any control.Branch = control_spelled control.Branch
-control_any control.BranchIf = control_spelled control.BranchIf
-control_any control.Unreachable = control_spelled control.Unreachable
+control_any : LabelsSpell → (c : Control) → InRange c → SpellsAny (control_bytes c) (control_operator c)
+control_any spell (control.Block t) fits = control_spelled spell (control.Block t) fits
+control_any spell (control.Loop t) fits = control_spelled spell (control.Loop t) fits
+control_any spell (control.If t) fits = control_spelled spell (control.If t) fits
+control_any spell control.BareIf fits = control_spelled spell control.BareIf fits
+control_any spell control.Else fits = control_spelled spell control.Else fits
+control_any spell control.End fits = control_spelled spell control.End fits
+control_any spell (control.Branch label) fits = control_spelled spell (control.Branch label) fits
+control_any spell (control.BranchIf label) fits = control_spelled spell (control.BranchIf label) fits
+control_any spell control.Unreachable fits = control_spelled spell control.Unreachable fits
 
-piece_spelled : CodesSpell → (own : List Spelling) → AreSpelled own → (piece : Piece) → IsCoded piece → AreSpelled (piece_bytes own piece)
-piece_spelled spell own each (Kept start end) coded = spelled_take (end - start) (drop start own) (spelled_drop start own each)
-piece_spelled spell own each (New i) coded = (spell i coded, tt)
-piece_spelled spell own each (Structural c) coded = (control_any c, tt)
+piece_spelled : CodesSpell → LabelsSpell → (own : List Spelling) → AreSpelled own → (piece : Piece) → IsCoded piece →
+    AreSpelled (piece_bytes own piece)
+piece_spelled spell labels own each (Kept start end) coded = spelled_take (end - start) (drop start own) (spelled_drop start own each)
+piece_spelled spell labels own each (New i) coded = (spell i coded, tt)
+piece_spelled spell labels own each (Structural c) coded = (control_any labels c coded, tt)
 
-pub pieces_spelled : CodesSpell → (own : List Spelling) → AreSpelled own → (pieces : List Piece) → All IsCoded pieces →
+pub pieces_spelled : CodesSpell → LabelsSpell → (own : List Spelling) → AreSpelled own → (pieces : List Piece) → All IsCoded pieces →
     AreSpelled (pieces_bytes own pieces)
-pieces_spelled spell own each [] coded = tt
-pieces_spelled spell own each (p ∷ ps) coded =
-    spelled_append (piece_bytes own p) (pieces_bytes own ps) (piece_spelled spell own each p (All-head IsCoded p ps coded))
-    (pieces_spelled spell own each ps (All-tail IsCoded p ps coded))
+pieces_spelled spell labels own each [] coded = tt
+pieces_spelled spell labels own each (p ∷ ps) coded =
+    spelled_append (piece_bytes own p) (pieces_bytes own ps) (piece_spelled spell labels own each p (All-head IsCoded p ps coded))
+    (pieces_spelled spell labels own each ps (All-tail IsCoded p ps coded))
 
 -- ---- piece by piece
 

@@ -6,17 +6,18 @@ use Rattle.wasm_code.specs.Instruction.{IsInstruction}
 use Rattle.wasm_code.specs.declared.operator.Operator.{Operator}
 use Rattle.body_splices.specs.declared.piece.Piece.{Piece}
 use Rattle.body_splices.specs.declared.piece.Piece.TheVariants.{Kept, New, Structural}
+use Rattle.body_splices.specs.Control.{InRange}
 use Rattle.body_splices.specs.Splice.{piece_bytes, pieces_bytes}
 
 -- where an operator starts in the input
 abbrev pub offset_of : List (Operator × ℕ) → ℕ → ℕ
 offset_of operators at = slice_index (map (λ (o : Operator × ℕ). o.1) operators) at
 
--- what is new is an instruction of the table
+-- what is new is an instruction of the table, or a structural operator whose label is of its type
 abbrev pub IsCoded : Piece → Type 0
 IsCoded (Kept start end) = ⊤
 IsCoded (New i) = IsInstruction i
-IsCoded (Structural c) = ⊤
+IsCoded (Structural c) = InRange c
 
 -- The bytes of the piece are behind what there was.
 pub record PutsPiece (own : List (Operator × List ℕ)) (piece : Piece) (old new : List ℕ) : Type 0 where

@@ -10,7 +10,7 @@ use crate::bytes::{bytes_between, bytes_from};
 use crate::control::put_control;
 use crate::piece::Piece;
 use std::ops::Range;
-use wasm_code::laws::code_spells;
+use wasm_code::laws::{code_spells, shortest_is_a_spelling};
 use wasm_code::{Function, OperatorAndByteOffset, SinkError};
 
 // Writes a piece.
@@ -109,6 +109,7 @@ pub fn splice(
     ensures restored { OnErr result (newfunc.new ≡ newfunc.old) }
 {
     code_spells();
+    shortest_is_a_spelling();
     let old_len = newfunc.len();
     match put_spliced(operators, input_wasm, range, pieces, newfunc) {
         Ok(()) => Ok(()),

@@ -4,20 +4,22 @@ ghost use Rattle.std.specs.Prelude.{IfOk, IfSome};
 ghost use Rattle.body_splices.specs.OwnBytes.{IsBodyIn};
 ghost use Rattle.body_splices.specs.Splice.{IsPieceIn};
 
-use crate::{Piece, splice};
+use crate::{Control, Piece, splice};
 use std::alloc::Global;
 use std::test::Fail;
 use wasm_code::{Function, Imm, Instr, OperatorAndByteOffset, read_code};
 
-/// A piece: operators that are kept, `i32.const` of a number, or the row of an instruction without an immediate.
+/// A piece: operators that are kept, `i32.const` of a number, the row of an instruction without an immediate, or a structural
+/// operator.
 #[derive(Clone, Copy)]
 enum Part {
     Kept(usize, usize),
     Constant(i32),
     Plain(u16),
+    Nested(Control),
 }
 
-use Part::{Constant, Kept, Plain};
+use Part::{Constant, Kept, Nested, Plain};
 
 const ADD: u16 = 77;
 
@@ -30,7 +32,7 @@ const BODY: &[u8] = b"\xff\x02\x40\x20\x80\0\x41\x85\x80\0\x6a\x1a\x0b\x0b";
 /// From which operator up to which one, what stands in their place, and the body then, behind the byte that the sink holds.
 type Case = (usize, usize, &'static [Part], &'static [u8]);
 
-const CASES: [Case; 7] = [
+const CASES: [Case; 12] = [
     // The operands change places.
     (
         1,
@@ -70,6 +72,41 @@ const CASES: [Case; 7] = [
         &[Kept(0, 2), Kept(4, 6)],
         b"\x07\x02\x40\x20\x80\0\x41\x85\x80\0\x6a\x1a\x0b\x02\x40\x20\x80\0\x1a\x0b\x0b",
     ),
+    // A branch to the innermost label.
+    (
+        1,
+        5,
+        &[Nested(Control::Branch(0))],
+        b"\x07\x02\x40\x0c\0\x0b\x0b",
+    ),
+    // To another one.
+    (
+        1,
+        5,
+        &[Nested(Control::Branch(5))],
+        b"\x07\x02\x40\x0c\x05\x0b\x0b",
+    ),
+    // To one whose depth has two bytes.
+    (
+        1,
+        5,
+        &[Nested(Control::Branch(200))],
+        b"\x07\x02\x40\x0c\xc8\x01\x0b\x0b",
+    ),
+    // A branch under a condition.
+    (
+        2,
+        5,
+        &[Nested(Control::BranchIf(1))],
+        b"\x07\x02\x40\x20\x80\0\x0d\x01\x0b\x0b",
+    ),
+    // A conditional that gives nothing.
+    (
+        2,
+        5,
+        &[Nested(Control::BareIf), Nested(Control::End)],
+        b"\x07\x02\x40\x20\x80\0\x04\x40\x0b\x0b\x0b",
+    ),
 ];
 
 /// The piece, where it stands in the body.
@@ -92,6 +129,7 @@ fn piece_in(operators: &[OperatorAndByteOffset], part: Part) -> Option<Piece>
             Some(instr) => Some(Piece::New(instr)),
             None => None,
         },
+        Part::Nested(control) => Some(Piece::Structural(control)),
     }
 }
 

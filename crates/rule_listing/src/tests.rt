@@ -128,7 +128,7 @@ fn lists_rules_as_text(rt: HostRuntime) -> Result<(), Fail> {
     let mut output = Vec::new(rt.alloc());
     write_rules(rt.alloc(), &mut output, Form::Text)?;
     let text = str::from_utf8(&output)?;
-    assert!(rt; text.lines().count() == 1706);
+    assert!(rt; text.lines().count() == 1710);
     for (number, line) in LINES {
         assert!(rt; text.lines().nth(number) == Some(line), "line {number}");
     }
@@ -140,7 +140,7 @@ fn lists_rules_as_objects(rt: HostRuntime) -> Result<(), Fail> {
     let mut output = Vec::new(rt.alloc());
     write_rules(rt.alloc(), &mut output, Form::Json)?;
     let text = str::from_utf8(&output)?;
-    assert!(rt; text.lines().count() == 380);
+    assert!(rt; text.lines().count() == 382);
     for (number, line) in OBJECTS {
         assert!(rt; text.lines().nth(number) == Some(line), "line {number}");
     }

@@ -10,7 +10,7 @@ use std::test::Fail;
 use wasm_code::{Imm, MemArg};
 
 /// Names of rules, and their numbers, as callers in C have them.
-const NAMES: [(&str, usize); 48] = [
+const NAMES: [(&str, usize); 49] = [
     ("commute", 0),
     ("turn_comparison", 1),
     ("associate_left", 2),
@@ -59,6 +59,7 @@ const NAMES: [(&str, usize); 48] = [
     ("drop_once", 371),
     ("select_to_if", 372),
     ("drop_dead", 379),
+    ("drop_index_bound", 381),
 ];
 
 #[test]
@@ -69,10 +70,10 @@ fn tells_rules_by_their_names(rt: HostRuntime) -> Result<(), Fail> {
         assert!(rt; rule.name() == name);
         assert!(rt; Rule::from_number(number) == Some(rule));
     }
-    assert!(rt; rule_count() == 380);
+    assert!(rt; rule_count() == 382);
     assert!(rt; all_rules(rt.alloc())?.get(256).copied() == Rule::from_number(256));
     assert!(rt; rule_names(rt.alloc())?.get(76).copied() == Some("join_sums"));
-    assert!(rt; Rule::from_number(380).is_none());
+    assert!(rt; Rule::from_number(382).is_none());
     assert!(rt; "no_rule".parse::<Rule>().is_err());
     Ok(())
 }
@@ -80,7 +81,7 @@ fn tells_rules_by_their_names(rt: HostRuntime) -> Result<(), Fail> {
 #[test]
 fn tells_of_which_rule_a_row_is(rt: HostRuntime) -> Result<(), Fail> {
     let rules = rules_of_rows(rt.alloc())?;
-    assert!(rt; row_count() == 1326);
+    assert!(rt; row_count() == 1328);
     assert!(rt; rules.len() == row_count());
     assert!(rt; rules.get(6).copied() == Some(0));
     assert!(rt; rules.get(7).copied() == Some(1));

@@ -6,7 +6,7 @@ use std::test::Fail;
 use wasm_types::PrimitiveTypeInfo;
 
 /// Numbers of rows, and their texts.
-const TEXTS: [(usize, &str); 59] = [
+const TEXTS: [(usize, &str); 60] = [
     (0, "add x y → add y x"),
     (7, "lt_s x y → gt_s y x"),
     (15, "add x (add y z) → add (add x y) z"),
@@ -93,6 +93,10 @@ const TEXTS: [(usize, &str); 59] = [
     (1319, "c if x else y end → select x y c"),
     (1320, "br_if c, if c → br_if (ne c 0), if (ne c 0)"),
     (1324, "br, return, unreachable → the same, drop r"),
+    (
+        1326,
+        "br_table n of x → br_table n of (select x n (lt_u x n))",
+    ),
 ];
 
 #[test]
@@ -106,7 +110,7 @@ fn prints_rows(rt: HostRuntime) -> Result<(), Fail> {
 }
 
 /// Numbers of rows, and what they do to the number of instructions.
-const GROWTHS: [(usize, Growth); 35] = [
+const GROWTHS: [(usize, Growth); 37] = [
     (0, Growth::Keeps),
     (25, Growth::Grows),
     (32, Growth::Grows),
@@ -142,6 +146,8 @@ const GROWTHS: [(usize, Growth); 35] = [
     (1323, Growth::Shrinks),
     (1324, Growth::Grows),
     (1325, Growth::Shrinks),
+    (1326, Growth::Grows),
+    (1327, Growth::Shrinks),
 ];
 
 #[test]

@@ -1,5 +1,5 @@
 //! What rules on control flow make of bodies written by hand, and that others take it back: values in control flow of their own, selects and
-//! conditionals, conditions that are tested, and code that is never reached.
+//! conditionals, conditions that are tested, code that is never reached, and indices of branches by a table.
 
 use body_rewrites::{Body, Rewrite, rewrite_body, trees_of};
 use peephole_machine::IntegerType;
@@ -80,7 +80,7 @@ type Pair = (
     usize,
 );
 
-const PAIRS: [Pair; 12] = [
+const PAIRS: [Pair; 14] = [
     // Constants and variables of each type, and a condition of two operators.
     (
         "select_to_if",
@@ -180,12 +180,29 @@ const PAIRS: [Pair; 12] = [
         b"\x0f\x41\x02\x1a\x20\0\x1a\x0b",
         2,
     ),
+    // Of two labels; and of none but the default one, by a tree of two operators.
+    (
+        "bound_index",
+        "drop_index_bound",
+        b"\x20\0\x0e\x02\0\0\0\x0b",
+        0,
+        b"\x20\0\x41\x02\x20\0\x41\x02\x49\x1b\x0e\x02\0\0\0\x0b",
+        5,
+    ),
+    (
+        "bound_index",
+        "drop_index_bound",
+        b"\x20\0\x45\x0e\0\0\x0b",
+        1,
+        b"\x20\0\x45\x41\0\x20\0\x45\x41\0\x49\x1b\x0e\0\0\x0b",
+        7,
+    ),
 ];
 
 /// A rule, an operator, a body with such locals, and what it makes of it by the word 2, or none.
 type Other = (&'static str, usize, &'static [u8], Option<&'static [u8]>);
 
-const OTHERS: [Other; 32] = [
+const OTHERS: [Other; 43] = [
     // A value of each other type; a tree of several operators; and one in a block that stands there.
     (
         "in_block",
@@ -320,6 +337,54 @@ const OTHERS: [Other; 32] = [
         Some(b"\x20\0\x0e\0\0\x0b"),
     ),
     ("drop_dead", 1, FIVE, None),
+    // No branch by a table behind it; one that isn't by one; another type; an index that writes; one that may trap.
+    ("bound_index", 0, FIVE, None),
+    ("bound_index", 0, b"\x20\0\x0d\0\x0b", None),
+    ("bound_index", 0, b"\x20\x01\x0e\0\0\x0b", None),
+    ("bound_index", 1, b"\x41\x01\x22\0\x0e\0\0\x0b", None),
+    (
+        "bound_index",
+        2,
+        b"\x20\0\x20\0\x6e\x0e\0\0\x0b",
+        Some(b"\x20\0\x20\0\x6e\x41\0\x20\0\x20\0\x6e\x41\0\x49\x1b\x0e\0\0\x0b"),
+    ),
+    // Two indices; another number, and another one first; an index that writes; a comparison with signs; no branch by a table.
+    (
+        "drop_index_bound",
+        5,
+        b"\x20\0\x41\0\x41\x05\x41\0\x49\x1b\x0e\0\0\x0b",
+        None,
+    ),
+    (
+        "drop_index_bound",
+        5,
+        b"\x20\0\x41\x01\x20\0\x41\x01\x49\x1b\x0e\0\0\x0b",
+        None,
+    ),
+    (
+        "drop_index_bound",
+        5,
+        b"\x20\0\x41\x01\x20\0\x41\0\x49\x1b\x0e\0\0\x0b",
+        None,
+    ),
+    (
+        "drop_index_bound",
+        7,
+        b"\x41\x05\x22\0\x41\0\x41\x05\x22\0\x41\0\x49\x1b\x0e\0\0\x0b",
+        None,
+    ),
+    (
+        "drop_index_bound",
+        5,
+        b"\x20\0\x41\0\x20\0\x41\0\x48\x1b\x0e\0\0\x0b",
+        None,
+    ),
+    (
+        "drop_index_bound",
+        5,
+        b"\x20\0\x41\0\x20\0\x41\0\x49\x1b\x1a\x0b",
+        None,
+    ),
 ];
 
 /// The number of the first row of control flow. Those from there on are here, since their operators have no names in other rows.

@@ -44,6 +44,7 @@ fn growth_of(made: Made) -> Growth
         Made::Tested => Growth::Grows,
         Made::DoublyTested => Growth::Grows,
         Made::Dead => Growth::Grows,
+        Made::Bounded(_) => Growth::Grows,
     }
 }
 

@@ -2,16 +2,17 @@
 ghost use Rattle.std.specs.Prelude.{◌≡◌, ◌+◌, ◌-◌, ◌%◌, ◌<◌, ◌^◌, ℕ, suc, List, [], ◌∷◌, ◌++◌, ◌≤◌, IfSome, IfNone, length, option_to_list};
 ghost use mir.Val.{bits};
 ghost use Rattle.body_splices.specs.declared.piece.Piece.{Piece as PieceOf};
-ghost use Rattle.body_splices.specs.declared.piece.Piece.TheVariants.{New};
+ghost use Rattle.body_splices.specs.declared.piece.Piece.TheVariants.{Kept, New};
 ghost use Rattle.peephole_machine.specs.Values.{width_of};
+ghost use Rattle.peephole_machine.specs.declared.integer.IntegerType.TheVariants as integer;
 ghost use Rattle.peephole_machine.specs.declared.operation.Operation.TheVariants as operation;
 ghost use Rattle.peephole_machine.specs.declared.operation.Binary.TheVariants as binary;
 ghost use Rattle.rewrite_rules.specs.declared.pattern.Operator.TheVariants.{Whole};
 ghost use Rattle.rewrite_rules.specs.Access.{IsOfRow, side_code};
 ghost use Rattle.rewrite_rules.specs.Numbers.{low};
-ghost use Rattle.rewrite_rules.specs.Instance.{operator_code};
+ghost use Rattle.rewrite_rules.specs.Instance.{constant_code, operator_code};
 ghost use Rattle.rewrite_rules.specs.Beside.{nop_code, drop_code, get_local, set_local, tee_local, get_global, set_global, sum_code};
-ghost use Rattle.rewrite_rules.specs.Flow.{ne_code, eqz_code, select_code};
+ghost use Rattle.rewrite_rules.specs.Flow.{ne_code, eqz_code, below_code, select_code};
 ghost use Rattle.body_rewrites.specs.Changes.{IsWritten};
 ghost use Rattle.rewrite_rules.specs.Wrap.{front_of, back_of};
 ghost use Rattle.body_rewrites.specs.Own.{new, item_piece, item_pieces, made_asks, made_pieces, change_of};
@@ -61,6 +62,13 @@ fn ne() -> Instr
     ensures { result ≡ ne_code }
 {
     instr(42, Imm::Nothing)
+}
+
+#[tactic(auto, using(crate::proofs::OwnRowLemmas::below_row))]
+fn below() -> Instr
+    ensures { result ≡ below_code }
+{
+    instr(44, Imm::Nothing)
 }
 
 #[tactic(auto, using(crate::proofs::OwnRowLemmas::get_local_row))]
@@ -315,6 +323,23 @@ fn followed(start: usize, kept: Piece, one: Instr, other: Instr) -> NewCode
     code(start, &[kept, Piece::New(one), Piece::New(other)], None)
 }
 
+// What stands from `start` on before `end`, and the number where its value isn't below that.
+fn bounded(start: usize, end: usize, count: u32) -> NewCode
+    ensures { IsCode start (Kept start end ∷ New (constant_code integer.I32 count) ∷ Kept start end
+        ∷ new (constant_code integer.I32 count ∷ below_code ∷ select_code ∷ [])) [] result }
+{
+    let limit = constant(IntegerType::I32, count as u64);
+    let pieces = [
+        Piece::Kept { start, end },
+        Piece::New(limit),
+        Piece::Kept { start, end },
+        Piece::New(limit),
+        Piece::New(below()),
+        Piece::New(select()),
+    ];
+    code(start, &pieces, None)
+}
+
 // What is made at the site, by the word; none where it isn't made of instructions of the standard.
 pub(crate) fn written(site: Site, at: usize, word: u64) -> Option<NewCode>
     requires { at < 2 ^ 64 - 1 }
@@ -352,5 +377,6 @@ pub(crate) fn written(site: Site, at: usize, word: u64) -> Option<NewCode>
         Made::Tested => Some(followed(start, kept, constant(IntegerType::I32, 0), ne())),
         Made::DoublyTested => Some(followed(start, kept, eqz(), eqz())),
         Made::Dead => Some(followed(start, kept, constant(IntegerType::I32, word), discard())),
+        Made::Bounded(count) => Some(bounded(start, at + 1, count)),
     }
 }

@@ -97,3 +97,13 @@ pub returns-in-DropDead : goal.returns-in-DropDead
 returns-in-DropDead c = λ context same trees.
     let found = c.find-in-DropDead.ensures context trees in
     subst (λ own. IsSiteOf context c.args.body.now.operators.now own c.args.at c.find-in-DropDead.result) (sym c.in-DropDead.is) found
+
+pub returns-in-BoundIndex : goal.returns-in-BoundIndex
+returns-in-BoundIndex c = λ context same trees.
+    let found = c.find-in-BoundIndex.ensures context trees in
+    subst (λ own. IsSiteOf context c.args.body.now.operators.now own c.args.at c.find-in-BoundIndex.result) (sym c.in-BoundIndex.is) found
+
+pub returns-in-DropIndexBound : goal.returns-in-DropIndexBound
+returns-in-DropIndexBound c = λ context same trees.
+    let found = c.find-in-DropIndexBound.ensures context trees in
+    subst (λ own. IsSiteOf context c.args.body.now.operators.now own c.args.at c.find-in-DropIndexBound.result) (sym c.in-DropIndexBound.is) found
