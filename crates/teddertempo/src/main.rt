@@ -11,6 +11,8 @@
 mod beside;
 mod destination;
 mod files;
+#[cfg(test)]
+mod options_read;
 mod progress;
 #[cfg(test)]
 mod refused_modules;
@@ -18,9 +20,11 @@ mod refused_modules;
 mod repeats;
 #[cfg(test)]
 mod runs_on_files;
-mod standard_files;
 #[cfg(test)]
-mod tests;
+mod small_modules;
+#[cfg(test)]
+mod small_runs;
+mod standard_files;
 mod trouble;
 mod watched_output;
 

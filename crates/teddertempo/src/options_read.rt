@@ -1,0 +1,202 @@
+//! Options, as they are read.
+
+use clap::error::ErrorKind;
+use module_commands::{Options, options_of};
+use module_rewrites::Dose;
+use rewrite_rules::{Rule, all_rules, rule_names};
+use std::alloc::{AllocError, Global};
+use std::test::Fail;
+
+/// Words of the command line, and the task, the seed, the count, the function, the names of the flags that hold, and the rules: all,
+/// or the number, the first and the last; or the kind of the error.
+const OPTIONS: &str = "
+| Rewrite 0 1 None all
+--seed=7 --count 3 --function 2 --rule fold --rule commute --stats | Rewrite 7 3 Some(2) stats 2 fold commute
+--list | List 0 1 None all
+--blocks | Blocks 0 1 None all
+--strip-debug | Rewrite 0 1 None strip-debug all
+--show | Rewrite 0 1 None show all
+--quiet | Rewrite 0 1 None quiet all
+--list-rules | Rules(Text) 0 1 None all
+--list-rules=text | Rules(Text) 0 1 None all
+--list-rules=json | Rules(Json) 0 1 None all
+--list-rules markdown | Rules(Markdown) 0 1 None all
+--list-rules -o rules.txt --quiet | Rules(Text) 0 1 None quiet all
+--list-rules=yaml | InvalidValue
+--list-rules a.wasm | InvalidValue
+a.wasm --list-rules | ArgumentConflict
+- --list-rules | ArgumentConflict
+--list-rules --json | ArgumentConflict
+--list-rules --list | ArgumentConflict
+--list-rules --blocks | ArgumentConflict
+--list-rules --stats | ArgumentConflict
+--list-rules --reach | ArgumentConflict
+--list-rules --show | ArgumentConflict
+--list-rules --strip-debug | ArgumentConflict
+--list-rules --shrink | ArgumentConflict
+--list-rules --rule fold | ArgumentConflict
+--list-rules --not-rule fold | ArgumentConflict
+--list-rules --function 0 | ArgumentConflict
+--list-rules --seed 1 | ArgumentConflict
+--list-rules --count 2 | ArgumentConflict
+--list-rules --max-size 9 | ArgumentConflict
+--list-rules --list-rules | ArgumentConflict
+--list --quiet | List 0 1 None quiet all
+--list --json | List 0 1 None json all
+--blocks --json | Blocks 0 1 None json all
+--json --stats | Rewrite 0 1 None stats json all
+--stats --json --show --strip-debug | Rewrite 0 1 None stats json show strip-debug all
+--json | MissingRequiredArgument
+--json --show | MissingRequiredArgument
+--list --strip-debug | ArgumentConflict
+--list --show | ArgumentConflict
+--show --blocks | ArgumentConflict
+--rule fold --rule commute --not-rule fold | Rewrite 0 1 None 1 commute commute
+--rule fold --not-rule fold | Rewrite 0 1 None 0 none none
+--not-rule melt | InvalidValue
+--shrink | Rewrite 0 18446744073709551615 None shrink all
+--rule commute --rule drop_add_zero --rule add_zero --shrink | Rewrite 0 18446744073709551615 None shrink 3 commute add_zero
+--shrink --rule fold --rule commute --not-rule fold | Rewrite 0 18446744073709551615 None shrink 1 commute commute
+--shrink --count 5 --rule drop_add_zero | Rewrite 0 5 None shrink 1 drop_add_zero drop_add_zero
+--exact | Rewrite 0 1 None exact all
+--exact --shrink | Rewrite 0 18446744073709551615 None shrink exact all
+--list --exact | List 0 1 None exact all
+--blocks --exact | ArgumentConflict
+--list-rules --exact | ArgumentConflict
+--rule melt | InvalidValue
+--rule fold --rule melt --rule commute | InvalidValue
+--rule fold --rule fold | Rewrite 0 1 None 2 fold fold
+--count 0 | ValueValidation
+--count 20% | Rewrite 0 20% None all
+--count each | Rewrite 0 100% None all
+--count 250% --function 2 | Rewrite 0 250% Some(2) all
+--count=18446744073709551615% | Rewrite 0 18446744073709551615% None all
+--shrink --count each --rule drop_add_zero | Rewrite 0 100% None shrink 1 drop_add_zero drop_add_zero
+--count 0% | ValueValidation
+--count=-1 | ValueValidation
+--count=-1% | ValueValidation
+--count x | ValueValidation
+--count= | ValueValidation
+--count % | ValueValidation
+--count 20%% | ValueValidation
+--count 2.5% | ValueValidation
+--count 20x | ValueValidation
+--count each% | ValueValidation
+--count Each | ValueValidation
+--count 18446744073709551616 | ValueValidation
+--count 18446744073709551616% | ValueValidation
+--count +20% | ValueValidation
+--list --blocks | ArgumentConflict
+--list --stats | ArgumentConflict
+--stats --blocks | ArgumentConflict
+--list --list | ArgumentConflict
+--list --reach | ArgumentConflict
+--reach --json | Rewrite 0 1 None stats reach json all
+--list --seed 0 | ArgumentConflict
+--list --count 1 | ArgumentConflict
+--blocks --max-size 9 | ArgumentConflict
+--blocks --rule fold | ArgumentConflict
+--blocks --not-rule fold | ArgumentConflict
+--blocks --shrink | ArgumentConflict
+--list --shrink --rule drop_add_zero | List 0 18446744073709551615 None shrink 1 drop_add_zero drop_add_zero
+--seed +1 | ValueValidation
+--seed 0x+1 | ValueValidation
+--count +1 | ValueValidation
+--function +1 | ValueValidation
+--max-size +1 | ValueValidation
+--seed 18446744073709551616 | ValueValidation
+--seed 0x1F | Rewrite 31 1 None all
+--seed 0xffffffffffffffff | Rewrite 18446744073709551615 1 None all
+--seed 0x10000000000000000 | ValueValidation
+--seed 0x | ValueValidation
+--seed 1f | ValueValidation
+a.wasm -o b.wasm | Rewrite 0 1 None all
+- --output=- | Rewrite 0 1 None all
+a.wasm b.wasm | UnknownArgument
+--melt | UnknownArgument
+";
+
+/// The options of the words of a command line behind the program's name.
+pub(crate) fn options(alloc: Global, line: &str) -> Result<Options, clap::Error> {
+    let mut words: Vec<&str> = Vec::new(alloc);
+    words.push("teddertempo")?;
+    for word in line.split_whitespace() {
+        words.push(word)?;
+    }
+    options_of(alloc, &rule_names(alloc)?, &words)
+}
+
+/// The name of the rule, where there is one.
+fn name_of(rule: Option<&Rule>) -> &'static str {
+    match rule {
+        Some(rule) => rule.name(),
+        None => "none",
+    }
+}
+
+/// The rules of options.
+fn rules_text(alloc: Global, rules: &[Rule]) -> Result<String, AllocError> {
+    if rules == all_rules(alloc)?.as_slice() {
+        return format!(in alloc; "all");
+    }
+    let (first, last) = (name_of(rules.first()), name_of(rules.last()));
+    format!(in alloc; "{} {first} {last}", rules.len())
+}
+
+/// The name, where the flag holds.
+fn if_set(flag: bool, name: &'static str) -> &'static str {
+    if flag { name } else { "" }
+}
+
+/// The names of the flags that hold.
+fn flags_text(alloc: Global, options: &Options) -> Result<String, AllocError> {
+    let shrink = if_set(options.shrink, "shrink ");
+    let exact = if_set(options.exact, "exact ");
+    let stats = if_set(options.stats, "stats ");
+    let reach = if_set(options.reach, "reach ");
+    let json = if_set(options.json, "json ");
+    let show = if_set(options.show, "show ");
+    let strip = if_set(options.strip_debug, "strip-debug ");
+    let quiet = if_set(options.quiet, "quiet ");
+    format!(in alloc; "{shrink}{exact}{stats}{reach}{json}{show}{strip}{quiet}")
+}
+
+/// A dose as the command line has it.
+fn dose_text(alloc: Global, dose: Dose) -> Result<String, AllocError> {
+    match dose {
+        Dose::Times(count) => format!(in alloc; "{count}"),
+        Dose::Percent(percent) => format!(in alloc; "{percent}%"),
+    }
+}
+
+#[test]
+fn reads_options(rt: HostRuntime) -> Result<(), Fail> {
+    let alloc = rt.alloc();
+    for case in OPTIONS.trim().lines() {
+        let (line, wanted) = case.split_once('|').ok_or("no options")?;
+        let text = match options(alloc, line) {
+            Ok(found) => {
+                let flags = flags_text(alloc, &found)?;
+                let rules = rules_text(alloc, &found.rules)?;
+                let dose = dose_text(alloc, found.dose)?;
+                format!(in alloc;
+                    "{:?} {} {} {:?} {flags}{rules}",
+                    found.task, found.seed, dose, found.function
+                )?
+            }
+            Err(error) => format!(in alloc; "{:?}", error.kind())?,
+        };
+        assert!(rt; text.as_str() == wanted.trim(), "{case}");
+    }
+    let words = ["teddertempo", "--count", "20 %"];
+    let Err(error) = options_of(alloc, &rule_names(alloc)?, &words) else {
+        panic!(rt; "a percentage with a blank");
+    };
+    assert!(rt; error.kind() == ErrorKind::ValueValidation);
+    let Err(error) = options(alloc, "--rule ad_zero") else {
+        panic!(rt; "a rule of no name");
+    };
+    let text = format!(in alloc; "{error}")?;
+    assert!(rt; text.contains("'ad_zero'; --help names them all, and the nearest are add_zero"));
+    Ok(())
+}
