@@ -120,3 +120,23 @@ uint64_t flow(uint32_t x, uint64_t y) {
     digest = taken(digest, x);
     return taken(digest, x & 1 ? x : 3);
 }
+
+uint64_t branches(uint32_t x, uint64_t y)
+{
+    uint64_t digest = 0;
+    uint32_t i = 0;
+    double pair = -512.0;
+    uint64_t single = bits_of_float(0.125f), wide;
+    (void)y;
+    digest = taken(digest, x == 0 ? 10 : x == 1 ? 11 : 4);
+    digest = taken(digest, x ? 13 : 12);
+    do {
+        i++;
+    } while (i < (x & 7));
+    digest = taken(digest, i);
+    digest = taken(digest, bits_of_float(-3.0f));
+    digest = taken(digest, 1);
+    digest = taken(digest, single << 32 | single);
+    __builtin_memcpy(&wide, &pair, sizeof wide);
+    return taken(digest, wide);
+}

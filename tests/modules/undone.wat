@@ -105,4 +105,35 @@
     (call $taken_i32 (block (result i32) (br_if 0 (i32.const 5) (i32.ne (local.get $x) (i32.const 0))) (drop) (i32.const 6)))
     (call $taken_i32 (block (result i32) (br_if 0 (i32.const 8) (i32.eqz (i32.eqz (local.get $x)))) (drop) (i32.const 9)))
     (call $taken_i32 (block (result i32) (br 0 (local.get $x)) (drop (i32.const 1))))
-    (call $taken_i32 (select (local.get $x) (i32.const 3) (i32.and (local.get $x) (i32.const 1))))))
+    (call $taken_i32 (select (local.get $x) (i32.const 3) (i32.and (local.get $x) (i32.const 1)))))
+
+  ;; An index with its bound, a branch in a conditional, in a loop too, and constants of floats that are read as bits.
+  (func (export "branches") (param $x i32) (param $y i64) (result i64)
+    (local $i i32)
+    (i64.const 0)
+    (call $taken_i32
+      (block $out (result i32)
+        (block $default
+          (block $one
+            (block $zero
+              (br_table $zero $one $default
+                (select (local.get $x) (i32.const 2) (i32.lt_u (local.get $x) (i32.const 2)))))
+            (br $out (i32.const 10)))
+          (br $out (i32.const 11)))
+        (i32.const 4)))
+    (call $taken_i32
+      (block $out (result i32)
+        (block $in
+          (local.get $x)
+          (if (then (br $in)))
+          (br $out (i32.const 12)))
+        (i32.const 13)))
+    (loop $again
+      (local.set $i (i32.add (local.get $i) (i32.const 1)))
+      (i32.lt_u (local.get $i) (i32.and (local.get $x) (i32.const 7)))
+      (if (then (br $again))))
+    (call $taken_i32 (local.get $i))
+    (call $taken_i32 (i32.reinterpret_f32 (f32.const -0x1.8p+1)))
+    (call $taken (i64.reinterpret_f64 (f64.const 0x1p-1074)))
+    (call $taken_v128 (f32x4.splat (f32.const 0x1p-3)))
+    (call $taken_v128 (f64x2.splat (f64.const -0x1p+9)))))
