@@ -29,6 +29,7 @@ use Rattle.wrapped_code.specs.Laws.{WrappedCodeDoes, UnwrappedCodeDoes}
 use Rattle.wrapped_code.specs.Conditions.{SameTruth, ConditionsMayChange}
 use Rattle.wrapped_code.specs.Indices.{IndicesMayChange}
 use Rattle.wrapped_code.specs.Dead.{never_goes_on, DeadCodeMayChange}
+use Rattle.wrapped_code.specs.Nested.{BranchesMayNest, BranchesMayUnnest}
 use Rattle.rewrite_rules.specs.Beside.{drop_code}
 use Rattle.rewrite_rules.specs.Instance.{constant_code}
 use Rattle.rewrite_rules.specs.Flow.{zero_code, ne_code, eqz_code, select_code, MayBranch, SelectsAreConditionals, TestsAreConditions, BoundsAreIndices, DroppedCodePushesNothing, DroppedConstantsPushNothing}
@@ -54,6 +55,8 @@ pub record FlowLaws : Type 0 where
   pub bounds : BoundsAreIndices
   pub indices : IndicesMayChange
   pub dead : DeadCodeMayChange
+  pub nests : BranchesMayNest
+  pub unnests : BranchesMayUnnest
   pub dropped : DroppedCodePushesNothing
   pub constants : DroppedConstantsPushNothing
 

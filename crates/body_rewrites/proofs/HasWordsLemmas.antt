@@ -17,7 +17,7 @@ use Rattle.rewrite_rules.specs.declared.pattern.Operator.TheVariants.{Whole}
 use Rattle.rewrite_rules.specs.declared.table.Own.{Own}
 use Rattle.rewrite_rules.specs.declared.table.Own.TheVariants.{Unfold, ThroughGlobal, WithNop, Fold, Forget, TeeToSet, DropNop, SetToTee, Access as Accesses, Wrap as Wraps, Unwrap as Unwraps}
 use Rattle.rewrite_rules.specs.declared.table.Own.TheVariants.{SelectToIf, IfToSelect, TestCondition, DropConditionTest, DoubleCondition, DropDoubleCondition, PutDead, DropDead}
-use Rattle.rewrite_rules.specs.declared.table.Own.TheVariants.{BoundIndex, DropIndexBound}
+use Rattle.rewrite_rules.specs.declared.table.Own.TheVariants.{BoundIndex, DropIndexBound, BrIfToIf, IfToBrIf}
 use Rattle.rewrite_rules.specs.declared.table.Row.{Row}
 use Rattle.rewrite_rules.specs.declared.table.Widths.{Widths}
 use Rattle.rewrite_rules.specs.declared.table.Widths.TheVariants as widths
@@ -116,6 +116,8 @@ own_inside context operators at PutDead start made.Dead (e, h) = there_inside op
 own_inside context operators at DropDead start made.Nothing h = there_inside operators at _ h.dropped
 own_inside context operators at BoundIndex start (made.Bounded count) h = h.tree.inside
 own_inside context operators at DropIndexBound start (made.Inner from end) (e, h) = bound_inside context operators start at end h
+own_inside context operators at BrIfToIf start (made.InConditional label) (e, h) = there_inside operators at _ h.branch
+own_inside context operators at IfToBrIf start (made.BranchIf label) h = there_inside operators at _ h.closes
 own_inside context operators at own start m h = absurd h
 
 makes_inside : (context : Context) (operators : List (Operator × ℕ)) (line : Line) (at : ℕ) (change : Change) (w : Widths) →

@@ -8,22 +8,23 @@ use Rattle.wasm_types.specs.declared.types.PrimitiveTypeInfo.TheVariants as prim
 use Rattle.body_splices.specs.OwnBytes.{without_offsets}
 use Rattle.peephole_machine.specs.declared.integer.IntegerType.TheVariants as integer
 use Rattle.peephole_machine.specs.Values.{Context}
-use Rattle.rewrite_rules.specs.Code.{writes}
+use Rattle.rewrite_rules.specs.Code.{writes, asks}
 use Rattle.rewrite_rules.specs.Flow.{below_code, select_code}
 use Rattle.rewrite_rules.specs.Instance.{constant_code}
 use Rattle.rewrite_rules.specs.declared.table.Own.TheVariants.{BoundIndex, DropIndexBound}
 use Rattle.body_rewrites.specs.declared.own.Made.{Made}
 use Rattle.body_rewrites.specs.declared.own.Made.TheVariants as made
-use Rattle.body_rewrites.specs.Trees.{Stands, IsTree}
+use Rattle.body_rewrites.specs.declared.trees.Tree.{Tree}
+use Rattle.body_rewrites.specs.Trees.{Stands, IsTree, HasTree}
 use Rattle.body_rewrites.specs.Open.{HasInstruction}
 use Rattle.body_rewrites.specs.Matching.{HaveSameCode}
 use Rattle.body_rewrites.specs.Own.{HasTable, IsBounded, IsIndex, IsReadBefore, Rewrites}
-use Rattle.body_rewrites.specs.OwnSites.{IsBoundAt, IsTableOperator}
+use Rattle.body_rewrites.specs.OwnSites.{IsBoundAt, IsSettledBefore, IsTableOperator}
 use Rattle.body_rewrites.proofs.StandsLemmas.{Operators, stands_nothing, stands_snoc}
 use Rattle.body_rewrites.proofs.AloneLemmas.{one_code}
 use Rattle.body_rewrites.proofs.CodeLemmas.{stands_both}
 use Rattle.body_rewrites.proofs.IndexLemmas.{bound_code, bound_copy, bound_number, bound_place, bound_read, bound_there}
-use Rattle.body_rewrites.proofs.OwnAloneLemmas.{one_read, one_table}
+use Rattle.body_rewrites.proofs.OwnAloneLemmas.{one_read, one_table, one_tree}
 use Rattle.body_rewrites.proofs.FlowFindLemmas.{one_operator}
 
 -- ---- branches by a table
@@ -62,6 +63,19 @@ module _ (operators : Operators) (at : ℕ) where
     behind = table;
   }
 
+-- ---- trees that don't ask the world
+
+module _ (context : Context) (operators : Operators) where
+  pub what_is_asked : (last end : ℕ) (tree : Tree) → last + 1 ≡ end → HasTree context operators last tree → (start : ℕ) →
+      (r : IsReadBefore context operators start end) → tree.asks ≡ asks r.tree.code
+  what_is_asked last end tree e has start r =
+      let ends = r.last_is in
+      let same : last ≡ r.last = omega (arith, e, ends) in
+      subst (λ k. (is : IsTree context operators start k primitive.I32) → tree.asks ≡ asks is.code) same does r.tree
+    where
+      does : (is : IsTree context operators start last primitive.I32) → tree.asks ≡ asks is.code
+      does is = has.asks_is ∙ ap asks (one_tree context operators tree.start start last tree.gives primitive.I32 has.is is)
+
 module _ (context : Context) (operators : Operators) (at : ℕ) where
   -- ---- what isn't found
 
@@ -77,20 +91,21 @@ module _ (context : Context) (operators : Operators) (at : ℕ) where
 
   -- ---- indices
 
-  pub index_read : (start count : ℕ) → IsIndex context operators start at count → IsReadBefore context operators start (at + 1)
-  index_read start count h = record { last = at; last_is = refl; tree = h.tree; reads = h.reads }
+  pub index_read : (start count : ℕ) → IsIndex context operators start at count → IsSettledBefore context operators start (at + 1)
+  index_read start count h = record { read = record { last = at; last_is = refl; tree = h.tree; reads = h.reads }; settled = h.settled }
 
-  pub is_index : (start count : ℕ) → HasTable operators (at + 1) count → IsReadBefore context operators start (at + 1) →
+  pub is_index : (start count : ℕ) → HasTable operators (at + 1) count → IsSettledBefore context operators start (at + 1) →
       IsIndex context operators start at count
   is_index start count table r =
-      let ends = r.last_is in
-      ends_here r.last (let same : r.last ≡ at = omega (arith, ends) in same) r.tree r.reads
+      let ends = r.read.last_is in
+      ends_here r.read.last (let same : r.read.last ≡ at = omega (arith, ends) in same) r.read.tree r.read.reads r.settled
     where
       ends_here : (last : ℕ) → last ≡ at → (tree : IsTree context operators start last primitive.I32) → writes tree.code ≡ false →
-          IsIndex context operators start at count
+          asks tree.code ≡ false → IsIndex context operators start at count
       ends_here last same =
-          subst (λ k. (tree : IsTree context operators start k primitive.I32) → writes tree.code ≡ false → IsIndex context operators start at count) (sym same)
-          (λ tree reads. record { tree = tree; reads = reads; behind = table })
+          subst (λ k. (tree : IsTree context operators start k primitive.I32) → writes tree.code ≡ false → asks tree.code ≡ false →
+          IsIndex context operators start at count) (sym same)
+          (λ tree reads settled. record { tree = tree; reads = reads; settled = settled; behind = table })
 
   -- ---- bounded ones
 
@@ -118,8 +133,8 @@ module _ (context : Context) (operators : Operators) (at : ℕ) where
           (subst (λ n. HasInstruction operators end (constant_code integer.I32 n)) (one_table operators (at + 1) h.count count h.behind b.behind)
           (bound_number context operators start at end h))
 
-      pub index_before : (start end : ℕ) → IsBounded context operators start at end → IsReadBefore context operators start (copy - 1)
-      index_before start end h = subst (λ k. IsReadBefore context operators start k) (ends_before start end h) (bound_read context operators start at end h)
+      pub index_before : (start end : ℕ) → IsBounded context operators start at end → IsSettledBefore context operators start (copy - 1)
+      index_before start end h = subst (λ k. IsSettledBefore context operators start k) (ends_before start end h) (bound_read context operators start at end h)
 
       pub same_twice : (start end : ℕ) → IsBounded context operators start at end → HaveSameCode operators (start, copy - 1) (copy, place)
       same_twice start end h = (
@@ -131,8 +146,9 @@ module _ (context : Context) (operators : Operators) (at : ℕ) where
 
     -- and what is found so is bounded
     pub is_bounded : (start end copy : ℕ) → end + 1 ≡ copy → copy ≤ place → HasInstruction operators end (constant_code integer.I32 count) →
-        (r : IsReadBefore context operators start end) → HaveSameCode operators (start, end) (copy, place) → IsBounded context operators start at end
-    is_bounded start end copy e l number r (code, one, other) =
+        (r : IsSettledBefore context operators start end) → HaveSameCode operators (start, end) (copy, place) → IsBounded context operators start at end
+    is_bounded start end copy e l number settled (code, one, other) =
+        let r = settled.read in
         let limit = constant_code integer.I32 count in
         let same = one_code operators start end code r.tree.code one (subst (λ k. Stands operators start k r.tree.code) r.last_is r.tree.stands) in
         let ends = b.ends in
@@ -153,6 +169,7 @@ module _ (context : Context) (operators : Operators) (at : ℕ) where
           last_is = r.last_is;
           tree = r.tree;
           reads = r.reads;
+          settled = settled.settled;
           count = count;
           stands = stands_both operators end copy (at + 1) (limit ∷ []) (r.tree.code ++ (limit ∷ below_code ∷ select_code ∷ [])) (omega (arith, e))
               (omega (arith, ends, l)) first second;

@@ -10,7 +10,7 @@ use Rattle.rewrite_rules.specs.Instance.{constant_code}
 use Rattle.body_rewrites.specs.Trees.{Stands}
 use Rattle.body_rewrites.specs.Open.{HasInstruction}
 use Rattle.body_rewrites.specs.Own.{IsBounded, IsReadBefore}
-use Rattle.body_rewrites.specs.OwnSites.{IsBoundAt}
+use Rattle.body_rewrites.specs.OwnSites.{IsBoundAt, IsSettledBefore}
 use Rattle.body_rewrites.proofs.StandsLemmas.{Operators}
 use Rattle.body_rewrites.proofs.SplitLemmas.{Split, split, count_is, one_stands}
 use Rattle.body_rewrites.proofs.FlowLemmas.{there_inside}
@@ -140,8 +140,8 @@ module _ (context : Context) (operators : Operators) (start at end : ℕ) (h : I
   bound_behind = let l = after_end in let e = bound_there.ends in omega (arith, l, e)
 
   -- the tree, and the same once more
-  pub bound_read : IsReadBefore context operators start end
-  bound_read = record { last = h.last; last_is = h.last_is; tree = h.tree; reads = h.reads }
+  pub bound_read : IsSettledBefore context operators start end
+  bound_read = record { read = record { last = h.last; last_is = h.last_is; tree = h.tree; reads = h.reads }; settled = h.settled }
 
   pub bound_copy : IsReadBefore context operators (end + 1) bound_place
   bound_copy =

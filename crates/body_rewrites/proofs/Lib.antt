@@ -29,8 +29,10 @@ pub mod FlowLemmas
 pub mod IndexLemmas
 pub mod FlowStandLemmas
 pub mod IndexStandLemmas
+pub mod BranchStandLemmas
 pub mod FlowFindLemmas
 pub mod IndexFindLemmas
+pub mod BranchFindLemmas
 pub mod OperationCodeLemmas
 pub mod OwnRowLemmas
 pub mod OwnStandLemmas

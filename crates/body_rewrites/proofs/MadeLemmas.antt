@@ -14,7 +14,7 @@ use Rattle.peephole_machine.specs.Values.{Context}
 use Rattle.rewrite_rules.specs.declared.table.Own.{Own}
 use Rattle.rewrite_rules.specs.declared.table.Own.TheVariants.{Unfold, ThroughGlobal, WithNop, Fold, Forget, TeeToSet, DropNop, SetToTee, Access as Accesses, Wrap as Wraps, Unwrap as Unwraps}
 use Rattle.rewrite_rules.specs.declared.table.Own.TheVariants.{SelectToIf, IfToSelect, TestCondition, DropConditionTest, DoubleCondition, DropDoubleCondition, PutDead, DropDead}
-use Rattle.rewrite_rules.specs.declared.table.Own.TheVariants.{BoundIndex, DropIndexBound}
+use Rattle.rewrite_rules.specs.declared.table.Own.TheVariants.{BoundIndex, DropIndexBound, BrIfToIf, IfToBrIf}
 use Rattle.rewrite_rules.specs.declared.table.Widths.{Widths}
 use Rattle.rewrite_rules.specs.declared.table.Widths.TheVariants as widths
 use Rattle.rewrite_rules.specs.Beside.{constants}
@@ -90,6 +90,8 @@ own_inside context operators PutDead start at made.Dead (e, h) = there_inside op
 own_inside context operators DropDead start at made.Nothing h = there_inside operators at _ h.dropped
 own_inside context operators BoundIndex start at (made.Bounded count) h = h.tree.inside
 own_inside context operators DropIndexBound start at (made.Inner from end) (e, h) = bound_inside context operators start at end h
+own_inside context operators BrIfToIf start at (made.InConditional label) (e, h) = there_inside operators at _ h.branch
+own_inside context operators IfToBrIf start at (made.BranchIf label) h = there_inside operators at _ h.closes
 own_inside context operators own start at m r = absurd r
 
 line_inside : (context : Context) (operators : Operators) (line : Line) (at : ℕ) (change : Change) → IsLineChange context operators line at change →

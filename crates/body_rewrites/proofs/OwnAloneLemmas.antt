@@ -13,9 +13,10 @@ use Rattle.wasm_code.specs.declared.immediate.ValType.{ValType}
 use Rattle.wasm_code.specs.declared.immediate.Imm.{Imm}
 use Rattle.wasm_code.specs.declared.immediate.Imm.TheVariants as imm
 use Rattle.wasm_code.specs.declared.operator.Operator.{Operator}
-use Rattle.wasm_code.specs.declared.operator.Operator.TheVariants.{Instr, BrTable}
+use Rattle.wasm_code.specs.declared.operator.Operator.TheVariants.{Instr, Br, BrIf, BrTable}
 use Rattle.wasm_types.specs.declared.types.PrimitiveTypeInfo.{PrimitiveTypeInfo}
 use Rattle.wasm_types.specs.declared.types.PrimitiveTypeInfo.TheVariants as primitive
+use Rattle.body_splices.specs.OwnBytes.{without_offsets}
 use Rattle.peephole_machine.specs.declared.integer.IntegerType.{IntegerType}
 use Rattle.peephole_machine.specs.declared.integer.IntegerType.TheVariants as integer
 use Rattle.peephole_machine.specs.Computed.{computed}
@@ -29,7 +30,7 @@ use Rattle.rewrite_rules.specs.Flow.{zero_code, ne_code, eqz_code}
 use Rattle.rewrite_rules.specs.declared.table.Own.{Own}
 use Rattle.rewrite_rules.specs.declared.table.Own.TheVariants.{Unfold, ThroughGlobal, WithNop, Fold, Forget, TeeToSet, DropNop, SetToTee, Access as Accesses, Wrap as Wraps, Unwrap as Unwraps}
 use Rattle.rewrite_rules.specs.declared.table.Own.TheVariants.{SelectToIf, IfToSelect, TestCondition, DropConditionTest, DoubleCondition, DropDoubleCondition, PutDead, DropDead}
-use Rattle.rewrite_rules.specs.declared.table.Own.TheVariants.{BoundIndex, DropIndexBound}
+use Rattle.rewrite_rules.specs.declared.table.Own.TheVariants.{BoundIndex, DropIndexBound, BrIfToIf, IfToBrIf}
 use Rattle.body_rewrites.specs.declared.own.Made.{Made}
 use Rattle.body_rewrites.specs.declared.own.Made.TheVariants as made
 use Rattle.body_rewrites.specs.Trees.{Stands, IsTree, tree_after}
@@ -57,6 +58,20 @@ pub one_table : (operators : Operators) (at n m : ℕ) → HasTable operators at
 one_table operators at n m a b = go (sym a.has ∙ b.has)
   where
     go : ◌≡◌ {A = Option Operator} (Some (BrTable n)) (Some (BrTable m)) → n ≡ m
+    go e = cc
+
+pub one_branch : (operators : Operators) (at n m : ℕ) → slice_get (without_offsets operators) at ≡ Some (BrIf n) →
+    slice_get (without_offsets operators) at ≡ Some (BrIf m) → n ≡ m
+one_branch operators at n m a b = go (sym a ∙ b)
+  where
+    go : ◌≡◌ {A = Option Operator} (Some (BrIf n)) (Some (BrIf m)) → n ≡ m
+    go e = cc
+
+one_outer : (operators : Operators) (at n m : ℕ) → slice_get (without_offsets operators) at ≡ Some (Br (suc n)) →
+    slice_get (without_offsets operators) at ≡ Some (Br (suc m)) → n ≡ m
+one_outer operators at n m a b = go (sym a ∙ b)
+  where
+    go : ◌≡◌ {A = Option Operator} (Some (Br (suc n))) (Some (Br (suc m))) → n ≡ m
     go e = cc
 
 -- that of the code
@@ -198,8 +213,8 @@ module _ (context : Context) (operators : Operators) where
       let copies = one_read (end + 1) (behind + 1) one (bound_copy context operators s at end a)
       (subst (λ n. IsReadBefore context operators (behind + 1) n) places (bound_copy context operators k at behind b)) in
       let same : end ≡ behind = omega (arith, copies) in
-      let starts = one_read s k end (bound_read context operators s at end a)
-      (subst (λ n. IsReadBefore context operators k n) (sym same) (bound_read context operators k at behind b)) in
+      let starts = one_read s k end (bound_read context operators s at end a).read
+      (subst (λ n. IsReadBefore context operators k n) (sym same) (bound_read context operators k at behind b).read) in
       (starts, ap₂ (λ f e. made.Inner f e) (e ∙ (starts ∙ sym f)) same)
 
   -- ---- sites
@@ -301,6 +316,18 @@ module _ (context : Context) (operators : Operators) where
   one_site BoundIndex s k at (made.Bounded n) l r q = absurd q
   one_site DropIndexBound s k at (made.Inner from end) (made.Inner other behind) (e, a) (f, b) = one_bound s k at from other end behind e f a b
   one_site DropIndexBound s k at (made.Inner from end) l r q = absurd q
+  one_site BrIfToIf s k at (made.InConditional n) (made.InConditional m) (e, a) (f, b) =
+      (e ∙ sym f, ap (λ n. made.InConditional n) (one_branch operators at n m a.branch b.branch))
+  one_site BrIfToIf s k at (made.InConditional n) l r q = absurd q
+  one_site IfToBrIf s k at (made.BranchIf n) (made.BranchIf m) a b =
+      let one = a.ends in
+      let two = b.ends in
+      let same : k ≡ s = omega (arith, one, two) in (
+        sym same,
+        ap (λ n. made.BranchIf n) (one_outer operators (s + 1) n m a.branch
+            (subst (λ p. slice_get (without_offsets operators) (p + 1) ≡ Some (Br (suc m))) same b.branch)),
+      )
+  one_site IfToBrIf s k at (made.BranchIf n) l r q = absurd q
   one_site own s k at m l r q = absurd r
 
   pub one_change : (at : ℕ) (own : Own) (change other : Change) → IsOwnChange context operators own at change → IsOwnChange context operators own at other →

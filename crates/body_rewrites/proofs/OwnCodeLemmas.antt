@@ -1,5 +1,5 @@
 -- What is written is what is made, and there is nothing else to make.
-use Rattle.std.proofs.Common.{ℕ, zero, suc, ◌<◌, ◌≤◌, [], ◌∷◌, length, refl, arith}
+use Rattle.std.proofs.Common.{ℕ, zero, suc, ◌+◌, ◌^◌, ◌<◌, ◌≤◌, [], ◌∷◌, length, refl, arith}
 use Rattle.std.specs.Prelude.{IfNone, Option, Some, None}
 use Rattle.wasm_code.specs.Instruction.{Instruction}
 use Rattle.wasm_code.specs.declared.immediate.Imm.{Imm}
@@ -17,7 +17,7 @@ use Rattle.body_rewrites.specs.declared.changes.NewCode.{NewCode}
 use Rattle.rewrite_rules.specs.declared.table.Own.{Own}
 use Rattle.rewrite_rules.specs.declared.table.Own.TheVariants.{Unfold, ThroughGlobal, WithNop, Fold, Forget, TeeToSet, DropNop, SetToTee, Access as Accesses, Wrap as Wraps, Unwrap as Unwraps}
 use Rattle.rewrite_rules.specs.declared.table.Own.TheVariants.{SelectToIf, IfToSelect, TestCondition, DropConditionTest, DoubleCondition, DropDoubleCondition, PutDead, DropDead}
-use Rattle.rewrite_rules.specs.declared.table.Own.TheVariants.{BoundIndex, DropIndexBound}
+use Rattle.rewrite_rules.specs.declared.table.Own.TheVariants.{BoundIndex, DropIndexBound, BrIfToIf, IfToBrIf}
 use Rattle.body_rewrites.specs.declared.own.Made.{Made}
 use Rattle.body_rewrites.specs.declared.own.Made.TheVariants as made
 use Rattle.body_rewrites.specs.declared.own.Site.{Site}
@@ -60,6 +60,8 @@ module _ (context : Context) (operators : Operators) (at : ℕ) where
   within DropDead start made.Nothing h = there_inside operators at _ h.dropped
   within BoundIndex start (made.Bounded count) h = h.tree.inside
   within DropIndexBound start (made.Inner from end) (e, h) = bound_inside context operators start at end h
+  within BrIfToIf start (made.InConditional label) (e, h) = there_inside operators at _ h.branch
+  within IfToBrIf start (made.BranchIf label) h = there_inside operators at _ h.closes
   within own start m r = absurd r
 
   pub none_behind : length operators ≤ at → (own : Own) (change : Change) → IsOwnChange context operators own at change → ⊥
@@ -93,6 +95,10 @@ side_fits Store row (By o) m h g = (g, (h, tt))
 side_fits Store row (With t n o) m h g = (constant_fits t n, (g, (h, tt)))
 
 module _ (formed : AccessesAreFormed) (context : Context) (operators : Operators) (at : ℕ) where
+  label_fits : (own : Own) (start label : ℕ) → Rewrites context operators own start at (made.InConditional label) → label + 1 < 2 ^ 8
+  label_fits BrIfToIf start label (e, h) = h.fits
+  label_fits own start label r = absurd r
+
   pub is_writable : (own : Own) (start : ℕ) (m : Made) → Rewrites context operators own start at m → IsWritable m
   is_writable (Accesses n) start (made.Access a w) f =
       let h = formed n a f.listed in
@@ -117,6 +123,8 @@ module _ (formed : AccessesAreFormed) (context : Context) (operators : Operators
   is_writable DropDead start (made.Access a w) r = absurd r
   is_writable BoundIndex start (made.Access a w) r = absurd r
   is_writable DropIndexBound start (made.Access a w) r = absurd r
+  is_writable BrIfToIf start (made.Access a w) r = absurd r
+  is_writable IfToBrIf start (made.Access a w) r = absurd r
   is_writable own start made.Nothing r = tt
   is_writable own start (made.Constant t n) r = tt
   is_writable own start (made.Sum t n) r = tt
@@ -132,6 +140,8 @@ module _ (formed : AccessesAreFormed) (context : Context) (operators : Operators
   is_writable own start made.DoublyTested r = tt
   is_writable own start made.Dead r = tt
   is_writable own start (made.Bounded count) r = tt
+  is_writable own start (made.InConditional label) r = label_fits own start label r
+  is_writable own start (made.BranchIf label) r = tt
 
 pub if_none : {A : Type 0} (o : Option A) (P Q : Type 0) → (P → Q) → IfNone o P → IfNone o Q
 if_none (Some x) P Q f h = tt

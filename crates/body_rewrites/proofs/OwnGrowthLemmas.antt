@@ -20,7 +20,7 @@ use Rattle.rewrite_rules.specs.Instance.{constant_code}
 use Rattle.rewrite_rules.specs.declared.table.Own.{Own}
 use Rattle.rewrite_rules.specs.declared.table.Own.TheVariants.{Unfold, ThroughGlobal, WithNop, Fold, Forget, TeeToSet, DropNop, SetToTee, Access as Accesses, Wrap as Wraps, Unwrap as Unwraps}
 use Rattle.rewrite_rules.specs.declared.table.Own.TheVariants.{SelectToIf, IfToSelect, TestCondition, DropConditionTest, DoubleCondition, DropDoubleCondition, PutDead, DropDead}
-use Rattle.rewrite_rules.specs.declared.table.Own.TheVariants.{BoundIndex, DropIndexBound}
+use Rattle.rewrite_rules.specs.declared.table.Own.TheVariants.{BoundIndex, DropIndexBound, BrIfToIf, IfToBrIf}
 use Rattle.body_rewrites.specs.declared.own.Made.{Made}
 use Rattle.body_rewrites.specs.declared.own.Made.TheVariants as made
 use Rattle.body_rewrites.specs.declared.own.Site.{Site}
@@ -179,6 +179,8 @@ module _ (context : Context) (operators : Operators) (at : ℕ) where
       let inside = bound_inside context operators start at end h in
       let count = inner_count operators from end (omega (arith, last, ordered, e)) (omega (arith, place, inside)) in
       (let l : length (pieces_operators os (Kept from end ∷ [])) < at + 1 - start = omega (arith, count, place, last, ordered, e) in l)
+  growth_at BrIfToIf start (made.InConditional label) (e, h) word = (let l : at + 1 - start < 3 = omega (arith, e) in l)
+  growth_at IfToBrIf start (made.BranchIf label) h word = let ends = h.ends in (let l : 1 < at + 1 - start = omega (arith, ends) in l)
   growth_at own start m r word = absurd r
 
   pub is_growing : (own : Own) (site : Site) → Rewrites context operators own site.start at site.made →

@@ -19,7 +19,7 @@ use Rattle.rewrite_rules.specs.Beside.{StandsWith, BesidesKeepCode, nop_code, dr
 use Rattle.rewrite_rules.specs.declared.table.Own.{Own}
 use Rattle.rewrite_rules.specs.declared.table.Own.TheVariants.{Unfold, ThroughGlobal, WithNop, Fold, Forget, TeeToSet, DropNop, SetToTee, Access as Accesses, Wrap as Wraps, Unwrap as Unwraps}
 use Rattle.rewrite_rules.specs.declared.table.Own.TheVariants.{SelectToIf, IfToSelect, TestCondition, DropConditionTest, DoubleCondition, DropDoubleCondition, PutDead, DropDead}
-use Rattle.rewrite_rules.specs.declared.table.Own.TheVariants.{BoundIndex, DropIndexBound}
+use Rattle.rewrite_rules.specs.declared.table.Own.TheVariants.{BoundIndex, DropIndexBound, BrIfToIf, IfToBrIf}
 use Rattle.body_rewrites.specs.declared.own.Made.{Made}
 use Rattle.body_rewrites.specs.declared.own.Made.TheVariants as made
 use Rattle.body_rewrites.specs.Trees.{Stands}
@@ -40,6 +40,7 @@ use Rattle.body_rewrites.proofs.ChangedLemmas.{keeps_may_stand}
 use Rattle.body_rewrites.proofs.WrapStandLemmas.{wrap_stands, unwrap_stands}
 use Rattle.body_rewrites.proofs.FlowStandLemmas.{FlowLaws, select_stands, choice_stands, test_stands, double_stands, untest_stands, undouble_stands, put_stands, gone_stands}
 use Rattle.body_rewrites.proofs.IndexStandLemmas.{bound_stands, unbound_stands}
+use Rattle.body_rewrites.proofs.BranchStandLemmas.{nest_stands, unnest_stands}
 
 -- ---- what is written
 
@@ -79,6 +80,8 @@ IsInPlace made.Tested = ⊥
 IsInPlace made.DoublyTested = ⊥
 IsInPlace made.Dead = ⊥
 IsInPlace (made.Bounded count) = ⊥
+IsInPlace (made.InConditional label) = ⊥
+IsInPlace (made.BranchIf label) = ⊥
 IsInPlace m = ⊤
 
 -- the code that is made of this code
@@ -164,6 +167,8 @@ KeepsInPlace PutDead = ⊥
 KeepsInPlace DropDead = ⊥
 KeepsInPlace BoundIndex = ⊥
 KeepsInPlace DropIndexBound = ⊥
+KeepsInPlace BrIfToIf = ⊥
+KeepsInPlace IfToBrIf = ⊥
 KeepsInPlace own = ⊤
 
 -- ---- what is rewritten
@@ -224,6 +229,8 @@ module _ (laws : BesidesKeepCode) (context : Context) (operators : Operators) (a
   stand_at DropDead start m keeps r = absurd keeps
   stand_at BoundIndex start m keeps r = absurd keeps
   stand_at DropIndexBound start m keeps r = absurd keeps
+  stand_at BrIfToIf start m keeps r = absurd keeps
+  stand_at IfToBrIf start m keeps r = absurd keeps
   stand_at own start m keeps r = absurd r
 
 -- ---- each rule
@@ -260,6 +267,8 @@ module _ (laws : BesidesKeepCode) (wraps : WrapsAreRight) (wrapped : WrappedCode
   may_stand DropDead start made.Nothing h = gone_stands context operators at flow start h
   may_stand BoundIndex start (made.Bounded count) h = bound_stands context operators at flow start count h
   may_stand DropIndexBound start (made.Inner from end) (e, h) = unbound_stands context operators at flow start from end e h
+  may_stand BrIfToIf start (made.InConditional label) (e, h) = nest_stands context operators at flow label h start e
+  may_stand IfToBrIf start (made.BranchIf label) h = unnest_stands context operators at flow start label h
   may_stand own start m r = absurd r
 
   pub stand : (own : Own) (change : Change) → IsOwnChange context operators own at change → MayStand context operators at change

@@ -16,7 +16,7 @@ use Rattle.rewrite_rules.specs.declared.pattern.Operator.TheVariants.{Whole}
 use Rattle.rewrite_rules.specs.declared.table.Own as own_rules
 use Rattle.rewrite_rules.specs.declared.table.Own.TheVariants.{Unfold, ThroughGlobal, WithNop, Fold, Forget, TeeToSet, DropNop, SetToTee, Access as Accesses, Wrap as Wraps, Unwrap as Unwraps}
 use Rattle.rewrite_rules.specs.declared.table.Own.TheVariants.{SelectToIf, IfToSelect, TestCondition, DropConditionTest, DoubleCondition, DropDoubleCondition, PutDead, DropDead}
-use Rattle.rewrite_rules.specs.declared.table.Own.TheVariants.{BoundIndex, DropIndexBound}
+use Rattle.rewrite_rules.specs.declared.table.Own.TheVariants.{BoundIndex, DropIndexBound, BrIfToIf, IfToBrIf}
 use Rattle.rewrite_rules.specs.declared.table.Widths.{Widths}
 use Rattle.rewrite_rules.specs.declared.table.Widths.TheVariants.{Both, Only, Any, Operands, Own}
 use Rattle.rewrite_rules.specs.declared.access.AccessKind.{AccessKind}
@@ -173,6 +173,8 @@ module _ (context : Context) (operators : Operators) (at : ℕ) where
   own_at BoundIndex start (made.Bounded count) h = (start, primitive.I32, h.tree)
   own_at DropIndexBound start (made.Inner from end) (e, h) =
       has_class (Classes 3 3) select_code (bound_selects context operators start at end h) (omega arith, omega arith)
+  own_at BrIfToIf start (made.InConditional label) (e, h) = let none = ap class_in h.branch in (omega (arith, none), omega (arith, none))
+  own_at IfToBrIf start (made.BranchIf label) h = let none = ap class_in h.closes in (omega (arith, none), omega (arith, none))
   own_at own start m h = absurd h
 
   -- ---- what makes something has its root there

@@ -257,11 +257,13 @@ module _ (context : Context) (operators : Operators) (at start : ℕ) where
   fewer own.DoubleCondition m h e = absurd cc
   fewer own.PutDead m h e = absurd cc
   fewer own.BoundIndex m h e = absurd cc
+  fewer own.BrIfToIf m h e = absurd cc
   fewer own.IfToSelect made.Selected h e = growth_at context operators at own.IfToSelect start made.Selected h 0
   fewer own.DropConditionTest (made.Inner from end) h e = growth_at context operators at own.DropConditionTest start (made.Inner from end) h 0
   fewer own.DropDoubleCondition (made.Inner from end) h e = growth_at context operators at own.DropDoubleCondition start (made.Inner from end) h 0
   fewer own.DropDead made.Nothing h e = growth_at context operators at own.DropDead start made.Nothing h 0
   fewer own.DropIndexBound (made.Inner from end) h e = growth_at context operators at own.DropIndexBound start (made.Inner from end) h 0
+  fewer own.IfToBrIf (made.BranchIf label) h e = growth_at context operators at own.IfToBrIf start (made.BranchIf label) h 0
   fewer own m h e = absurd h
 
   as_many : (own : Own) (m : Made) → Rewrites context operators own start at m → own_growth own ≡ rows.Keeps →
@@ -289,6 +291,8 @@ module _ (context : Context) (operators : Operators) (at start : ℕ) where
   as_many own.DropDead m h e = absurd cc
   as_many own.BoundIndex m h e = absurd cc
   as_many own.DropIndexBound m h e = absurd cc
+  as_many own.BrIfToIf m h e = absurd cc
+  as_many own.IfToBrIf m h e = absurd cc
   as_many own m h e = absurd h
 
   own_as_told : (own : Own) (m : Made) (told : told.Growth) → Rewrites context operators own start at m → told ≡ own_growth own →
@@ -357,6 +361,8 @@ own_word operators start at made.Dead word =
     length-append kept (Instr (constant_code integer.I32 word) ∷ Instr drop_code ∷ [])
     ∙ sym (length-append kept (Instr (constant_code integer.I32 0) ∷ Instr drop_code ∷ []))
 own_word operators start at (made.Bounded count) word = refl
+own_word operators start at (made.InConditional label) word = refl
+own_word operators start at (made.BranchIf label) word = refl
 
 line_word : (operators : Operators) (line : Line) (place : Place) (word : ℕ) →
     length (pieces_operators (without_offsets operators) ((by_line line place).pieces word))

@@ -1,11 +1,12 @@
 -- The rules that are no rows of the table, on the operators of a body (this project).
-use Rattle.std.specs.Prelude.{◌≡◌, ℕ, suc, ◌+◌, ◌-◌, ◌%◌, ◌^◌, ◌<◌, Bool, true, false, List, [], ◌∷◌, ◌++◌, length, map, slice_get, ⊤, Some}
+use Rattle.std.specs.Prelude.{◌≡◌, ℕ, suc, ◌+◌, ◌-◌, ◌%◌, ◌^◌, ◌<◌, Bool, true, false, List, [], ◌∷◌, ◌++◌, length, map, take, slice_get, ⊤, Some}
 use mir.Val.{bits}
 use Rattle.wasm_code.specs.Instruction.{Instruction, IsInstruction}
 use Rattle.wasm_code.specs.declared.immediate.Imm.{Imm}
 use Rattle.wasm_code.specs.declared.immediate.ValType.{ValType}
 use Rattle.wasm_code.specs.declared.operator.Operator.{Operator}
-use Rattle.wasm_code.specs.declared.operator.Operator.TheVariants.{BrTable}
+use Rattle.wasm_code.specs.declared.immediate.BlockType.TheVariants.{Empty}
+use Rattle.wasm_code.specs.declared.operator.Operator.TheVariants.{Instr, If, End, Br, BrIf, BrTable}
 use Rattle.wasm_types.specs.declared.types.PrimitiveTypeInfo.{PrimitiveTypeInfo}
 use Rattle.wasm_types.specs.declared.types.PrimitiveTypeInfo.TheVariants as primitive
 use Rattle.body_splices.specs.declared.piece.Piece.{Piece}
@@ -15,6 +16,7 @@ use Rattle.body_splices.specs.OwnBytes.{without_offsets}
 use Rattle.peephole_programs.specs.control.Standard.{asks_beyond}
 use Rattle.wrapped_code.specs.Conditions.{is_condition}
 use Rattle.wrapped_code.specs.Dead.{never_goes_on}
+use Rattle.wrapped_code.specs.Nested.{OpenBare}
 use Rattle.peephole_machine.specs.declared.integer.IntegerType.{IntegerType}
 use Rattle.peephole_machine.specs.declared.integer.IntegerType.TheVariants as integer
 use Rattle.peephole_machine.specs.declared.operation.Operation.{Operation}
@@ -24,7 +26,7 @@ use Rattle.peephole_machine.specs.Operation.{operator_of}
 use Rattle.rewrite_rules.specs.declared.pattern.Operator.TheVariants.{Whole}
 use Rattle.rewrite_rules.specs.declared.access.Access.{Access}
 use Rattle.rewrite_rules.specs.Access.{access_at, code_with, left_code, right_code, written_imm}
-use Rattle.rewrite_rules.specs.Code.{writes, traps}
+use Rattle.rewrite_rules.specs.Code.{writes, traps, asks}
 use Rattle.rewrite_rules.specs.Instance.{constant_code, operator_code}
 use Rattle.rewrite_rules.specs.Beside.{nop_code, drop_code, get_local, set_local, tee_local, get_global, set_global, constants, left_by, sum_code}
 use Rattle.rewrite_rules.specs.declared.wrap.Wrap.{Wrap}
@@ -36,7 +38,7 @@ use Rattle.rewrite_rules.specs.declared.table.Own.{Own}
 use Rattle.rewrite_rules.specs.declared.table.Own.TheVariants as own_rule
 use Rattle.rewrite_rules.specs.declared.table.Own.TheVariants.{Unfold, ThroughGlobal, WithNop, Fold, Forget, TeeToSet, DropNop, SetToTee}
 use Rattle.rewrite_rules.specs.declared.table.Own.TheVariants.{SelectToIf, IfToSelect, TestCondition, DropConditionTest, DoubleCondition, DropDoubleCondition, PutDead, DropDead}
-use Rattle.rewrite_rules.specs.declared.table.Own.TheVariants.{BoundIndex, DropIndexBound}
+use Rattle.rewrite_rules.specs.declared.table.Own.TheVariants.{BoundIndex, DropIndexBound, BrIfToIf, IfToBrIf}
 use Rattle.body_rewrites.specs.declared.own.Made.{Made}
 use Rattle.body_rewrites.specs.declared.own.Made.TheVariants as made
 use Rattle.body_rewrites.specs.declared.own.Site.{Site}
@@ -193,10 +195,12 @@ pub record HasTable (operators : List (Operator × ℕ)) (at count : ℕ) : Type
   pub has : slice_get (without_offsets operators) at ≡ Some (BrTable count)
   pub fits : count < 2 ^ 32
 
--- From `start` on, up to the operator at `at`, stands a tree of 32 bits that writes nothing, and behind it a branch by a table of so many labels.
+-- From `start` on, up to the operator at `at`, stands a tree of 32 bits that writes nothing and doesn't ask the world, and behind it a branch by a table of so
+-- many labels.
 pub record IsIndex (context : Context) (operators : List (Operator × ℕ)) (start at count : ℕ) : Type 0 where
   pub tree : IsTree context operators start at primitive.I32
   pub reads : writes tree.code ≡ false
+  pub settled : asks tree.code ≡ false
   pub behind : HasTable operators (at + 1) count
 
 -- From `start` up to the operator before `end` stands such a tree; then, up to the operator at `at`, the number of labels, the same code, that number, and what
@@ -206,10 +210,34 @@ pub record IsBounded (context : Context) (operators : List (Operator × ℕ)) (s
   pub last_is : last + 1 ≡ end
   pub tree : IsTree context operators start last primitive.I32
   pub reads : writes tree.code ≡ false
+  pub settled : asks tree.code ≡ false
   pub count : ℕ
   pub stands : Stands operators end (at + 1) (constant_code integer.I32 count
       ∷ (tree.code ++ (constant_code integer.I32 count ∷ below_code ∷ select_code ∷ [])))
   pub behind : HasTable operators (at + 1) count
+
+-- ---- branches in conditionals
+
+-- A `br_if` to that label stands at `at`; before it, behind the openers of blocks, the outermost of which is that label's, instructions. A branch to that label
+-- takes nothing, and it has one byte also where it is one further out.
+pub record IsBareBranch (operators : List (Operator × ℕ)) (at label : ℕ) : Type 0 where
+  pub branch : slice_get (without_offsets operators) at ≡ Some (BrIf label)
+  pub fits : label + 1 < 2 ^ 8
+  pub front : List Operator
+  pub openers : List Operator
+  pub own : List Instruction
+  pub before : take at (without_offsets operators) ≡ front ++ (openers ++ map (λ (i : Instruction). Instr i) own)
+  pub openers_are : OpenBare label openers
+
+-- From `start` on stand an `if` without results, a branch to the label around the one with that depth, and the end of the `if`, at `at`. Something stands
+-- behind it.
+pub record IsNestedBranch (operators : List (Operator × ℕ)) (start at label : ℕ) : Type 0 where
+  pub ends : start + 2 ≡ at
+  pub inside : at + 1 < length operators
+  pub opens : slice_get (without_offsets operators) start ≡ Some (If Empty)
+  pub branch : slice_get (without_offsets operators) (start + 1) ≡ Some (Br (suc label))
+  pub closes : slice_get (without_offsets operators) at ≡ Some End
+  pub fits : label < 2 ^ 8
 
 -- ---- code that is never reached
 
@@ -264,6 +292,8 @@ Rewrites context operators PutDead start at made.Dead = (start ≡ at) × HasPla
 Rewrites context operators DropDead start at made.Nothing = IsDead context operators start at
 Rewrites context operators BoundIndex start at (made.Bounded count) = IsIndex context operators start at count
 Rewrites context operators DropIndexBound start at (made.Inner from end) = (from ≡ start) × IsBounded context operators start at end
+Rewrites context operators BrIfToIf start at (made.InConditional label) = (start ≡ at) × IsBareBranch operators at label
+Rewrites context operators IfToBrIf start at (made.BranchIf label) = IsNestedBranch operators start at label
 Rewrites context operators own start at m = ⊥
 
 -- ---- what is written
@@ -279,8 +309,8 @@ item_piece t word item.Loop = Structural (control.Loop t)
 item_piece t word item.If = Structural (control.If t)
 item_piece t word item.Else = Structural control.Else
 item_piece t word item.End = Structural control.End
-item_piece t word item.Branch = Structural control.Branch
-item_piece t word item.BranchIf = Structural control.BranchIf
+item_piece t word item.Branch = Structural (control.Branch 0)
+item_piece t word item.BranchIf = Structural (control.BranchIf 0)
 item_piece t word item.Unreachable = Structural control.Unreachable
 item_piece t word item.Zero = New (constant_code integer.I32 0)
 item_piece t word item.NonZero = New (constant_code integer.I32 (suc (word % (2 ^ 32 - 1))))
@@ -311,6 +341,9 @@ made_pieces start at made.Dead word = Kept start (at + 1) ∷ new (constant_code
 made_pieces start at (made.Bounded count) word =
     Kept start (at + 1) ∷ New (constant_code integer.I32 count) ∷ Kept start (at + 1)
     ∷ new (constant_code integer.I32 count ∷ below_code ∷ select_code ∷ [])
+made_pieces start at (made.InConditional label) word =
+    Structural control.BareIf ∷ Structural (control.Branch (label + 1)) ∷ Structural control.End ∷ []
+made_pieces start at (made.BranchIf label) word = Structural (control.BranchIf label) ∷ []
 
 -- the global that is asked for
 abbrev pub made_asks : Made → List PrimitiveTypeInfo

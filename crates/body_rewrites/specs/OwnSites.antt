@@ -1,13 +1,15 @@
 -- How rules beside the table are found and written in a body: for private functions (this project).
-use Rattle.std.specs.Prelude.{◌≡◌, ℕ, ◌+◌, ◌^◌, ◌<◌, ◌≤◌, List, [], ◌∷◌, ◌++◌, length, map, ⊤, Option, Some, None, option_to_list}
+use Rattle.std.specs.Prelude.{◌≡◌, ℕ, suc, ◌+◌, ◌^◌, ◌<◌, ◌≤◌, false, List, [], ◌∷◌, ◌++◌, length, map, ⊤, Option, Some, None, Bool, true, option_to_list, slice_get}
 use Rattle.wasm_code.specs.Instruction.{Instruction, IsInstruction}
 use Rattle.wasm_code.specs.declared.immediate.Imm.{Imm}
 use Rattle.wasm_code.specs.declared.immediate.Imm.TheVariants as imm
 use Rattle.wasm_code.specs.declared.operator.Operator.{Operator}
-use Rattle.wasm_code.specs.declared.operator.Operator.TheVariants.{Instr, BrTable}
+use Rattle.wasm_code.specs.declared.operator.Operator.TheVariants.{Instr, Br, BrIf, BrTable}
 use Rattle.wasm_types.specs.declared.types.PrimitiveTypeInfo.{PrimitiveTypeInfo}
 use Rattle.wasm_types.specs.declared.types.PrimitiveTypeInfo.TheVariants as primitive
 use Rattle.body_splices.specs.declared.piece.Piece.{Piece}
+use Rattle.body_splices.specs.OwnBytes.{without_offsets}
+use Rattle.wrapped_code.specs.Nested.{opens_bare, opens_block}
 use Rattle.peephole_machine.specs.declared.integer.IntegerType.{IntegerType}
 use Rattle.peephole_machine.specs.declared.integer.IntegerType.TheVariants as integer
 use Rattle.peephole_machine.specs.declared.operation.Operation.{Operation}
@@ -21,6 +23,7 @@ use Rattle.rewrite_rules.specs.declared.access.AccessSide.{AccessSide}
 use Rattle.rewrite_rules.specs.declared.growth.Growth as rows
 use Rattle.rewrite_rules.specs.declared.growth.Growth.TheVariants as growths
 use Rattle.rewrite_rules.specs.Access.{IsOfRow, access_growth, code_with, right_code, side_code}
+use Rattle.rewrite_rules.specs.Code.{asks}
 use Rattle.rewrite_rules.specs.Instance.{constant_code, operator_code}
 use Rattle.rewrite_rules.specs.Beside.{left_by}
 use Rattle.rewrite_rules.specs.Flow.{below_code, select_code}
@@ -39,8 +42,8 @@ use Rattle.rewrite_rules.specs.declared.wrap.WrapItem.TheVariants.{Zero, NonZero
 use Rattle.rewrite_rules.specs.Wrap.{front_of, back_of, value_of}
 use Rattle.wasm_code.specs.declared.immediate.ValType.{ValType}
 use Rattle.body_rewrites.specs.declared.trees.Tree.{Tree}
-use Rattle.body_rewrites.specs.Trees.{IsTree}
-use Rattle.body_rewrites.specs.Own.{HasCondition, HasTable, HaveItems, IsFolded, Rewrites}
+use Rattle.body_rewrites.specs.Trees.{Stands, IsTree}
+use Rattle.body_rewrites.specs.Own.{HasCondition, HasTable, HaveItems, IsFolded, IsReadBefore, Rewrites}
 
 -- ---- instructions
 
@@ -119,6 +122,11 @@ pub record IsAskedBehind (context : Context) (operators : List (Operator × ℕ)
   pub tree : IsTree context operators start last primitive.I32
   pub asks : HasCondition operators behind
 
+-- from `start` up to the operator before `end` stands a tree of 32 bits that writes nothing and doesn't ask the world
+pub record IsSettledBefore (context : Context) (operators : List (Operator × ℕ)) (start end : ℕ) : Type 0 where
+  pub read : IsReadBefore context operators start end
+  pub settled : asks read.tree.code ≡ false
+
 -- it is a branch by a table of so many labels
 abbrev pub IsTableOperator : Operator → ℕ → Type 0
 IsTableOperator o n = (n < 2 ^ 32) × (o ≡ BrTable n)
@@ -130,6 +138,42 @@ pub record IsBoundAt (operators : List (Operator × ℕ)) (place at count : ℕ)
   pub compares : HasInstruction operators (place + 1) below_code
   pub selects : HasInstruction operators at select_code
   pub behind : HasTable operators (at + 1) count
+
+-- It is a `br_if` to that label, which has one byte also where it is one further out.
+abbrev pub IsBranchIf : Operator → ℕ → Type 0
+IsBranchIf o label = (label + 1 < 2 ^ 8) × (o ≡ BrIf label)
+
+-- such a one stands there
+abbrev pub HasBranchIf : List (Operator × ℕ) → (at label : ℕ) → Type 0
+HasBranchIf operators at label = (label + 1 < 2 ^ 8) × (slice_get (without_offsets operators) at ≡ Some (BrIf label))
+
+-- It is a branch to the label around the one with that depth, which has one byte.
+abbrev pub IsOuterBranch : Operator → ℕ → Type 0
+IsOuterBranch o label = (label < 2 ^ 8) × (o ≡ Br (suc label))
+
+-- such a one stands there
+abbrev pub HasOuterBranch : List (Operator × ℕ) → (at label : ℕ) → Type 0
+HasOuterBranch operators at label = (label < 2 ^ 8) × (slice_get (without_offsets operators) at ≡ Some (Br (suc label)))
+
+-- From `first` on, up to the operator before that at `at`, stand instructions, and right before them stands none.
+pub record AreBehind (operators : List (Operator × ℕ)) (first at : ℕ) : Type 0 where
+  pub ordered : first ≤ at
+  pub own : List Instruction
+  pub stand : Stands operators first at own
+  pub no_more : (place : ℕ) (i : Instruction) → place + 1 ≡ first → ¬ (HasInstruction operators place i)
+
+-- an operator that opens a block of that kind stands there
+pub record HasOpener (opens : Operator → Bool) (operators : List (Operator × ℕ)) (at : ℕ) : Type 0 where
+  pub operator : Operator
+  pub has : slice_get (without_offsets operators) at ≡ Some operator
+  pub is : opens operator ≡ true
+
+-- Right before the operator stand openers of blocks, one in another, down from that of the label, to which a branch takes nothing.
+pub record OpenBefore (operators : List (Operator × ℕ)) (first label : ℕ) : Type 0 where
+  pub outermost : ℕ
+  pub ends : outermost + 1 + label ≡ first
+  pub bare : HasOpener opens_bare operators outermost
+  pub inner : (k : ℕ) → k < label → HasOpener opens_block operators (outermost + 1 + k)
 
 -- ---- what is written
 
@@ -147,6 +191,7 @@ AreOfRows (i ∷ code) = IsOfRow i.row i.imm × AreOfRows code
 -- so is what is made
 abbrev pub IsWritable : Made → Type 0
 IsWritable (made.Access a m) = AreOfRows (right_code a m)
+IsWritable (made.InConditional label) = label + 1 < 2 ^ 8
 IsWritable m = ⊤
 
 -- the code is these pieces in the place of code from `start` on
@@ -179,3 +224,5 @@ growth_of made.Tested = Grows
 growth_of made.DoublyTested = Grows
 growth_of made.Dead = Grows
 growth_of (made.Bounded count) = Grows
+growth_of (made.InConditional label) = Grows
+growth_of (made.BranchIf label) = Shrinks

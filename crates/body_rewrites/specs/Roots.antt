@@ -121,6 +121,8 @@ own_root own.PutDead = root.Classes 446 446
 own_root own.DropDead = root.Classes 2 2
 own_root own.BoundIndex = root.Tree
 own_root own.DropIndexBound = root.Classes 3 3
+own_root own.BrIfToIf = root.Classes 446 446
+own_root own.IfToBrIf = root.Classes 446 446
 
 abbrev pub root_by : Line → Widths → Root
 root_by line (Own o) = own_root o

@@ -2,6 +2,8 @@
 
 pub(crate) mod access;
 pub(crate) mod bound_index;
+pub(crate) mod br_if_to_if;
+pub(crate) mod branches;
 pub(crate) mod conditions;
 pub(crate) mod double_condition;
 pub(crate) mod drop_condition_test;
@@ -12,6 +14,7 @@ pub(crate) mod drop_nop;
 pub(crate) mod fold;
 pub(crate) mod forget;
 pub(crate) mod growing;
+pub(crate) mod if_to_br_if;
 pub(crate) mod if_to_select;
 pub(crate) mod indices;
 pub(crate) mod leaves;
@@ -69,6 +72,10 @@ pub enum Made {
     Dead,
     /// The same code, and that number where it isn't below that, without signs.
     Bounded(u32),
+    /// A conditional, and in it a branch to the label that had that depth outside it.
+    InConditional(u8),
+    /// A branch under a condition to the label with that depth.
+    BranchIf(u8),
 }
 
 /// From which operator on something is made, and what.

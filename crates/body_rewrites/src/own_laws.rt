@@ -10,8 +10,8 @@ use rewrite_rules::laws::{
     wraps_are_right,
 };
 use wrapped_code::laws::{
-    conditions_may_change, dead_code_may_change, indices_may_change, unwrapped_code_does_as_before,
-    wrapped_code_does_as_before, wrapped_code_pushes,
+    branches_may_nest, conditions_may_change, dead_code_may_change, indices_may_change,
+    unwrapped_code_does_as_before, wrapped_code_does_as_before, wrapped_code_pushes,
 };
 
 /// What a rule beside the table makes may stand in the place of what stood there, and at an operator it makes one thing at most.
@@ -29,6 +29,7 @@ pub fn own_changes_may_stand()
     bounds_are_indices();
     indices_may_change();
     dead_code_may_change();
+    branches_may_nest();
     dropped_code_pushes_nothing();
     dropped_constants_push_nothing();
     replaced_code_is_in_one_piece();

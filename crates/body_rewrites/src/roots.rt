@@ -135,6 +135,8 @@ fn own_root(own: Own) -> Root
         Own::DropDead => Root::Classes(2, 2),
         Own::BoundIndex => Root::Tree,
         Own::DropIndexBound => Root::Classes(3, 3),
+        Own::BrIfToIf => Root::Classes(446, 446),
+        Own::IfToBrIf => Root::Classes(446, 446),
     }
 }
 

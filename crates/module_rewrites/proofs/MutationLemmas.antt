@@ -169,6 +169,8 @@ own_asks context operators own.PutDead start at (made.Global t g) h = absurd h
 own_asks context operators own.DropDead start at (made.Global t g) h = absurd h
 own_asks context operators own.BoundIndex start at (made.Global t g) h = absurd h
 own_asks context operators own.DropIndexBound start at (made.Global t g) h = absurd h
+own_asks context operators own.BrIfToIf start at (made.Global t g) h = absurd h
+own_asks context operators own.IfToBrIf start at (made.Global t g) h = absurd h
 own_asks context operators o start at made.Nothing h = inl refl
 own_asks context operators o start at (made.Constant t n) h = inl refl
 own_asks context operators o start at (made.Sum t n) h = inl refl
@@ -184,6 +186,8 @@ own_asks context operators o start at made.Tested h = inl refl
 own_asks context operators o start at made.DoublyTested h = inl refl
 own_asks context operators o start at made.Dead h = inl refl
 own_asks context operators o start at (made.Bounded count) h = inl refl
+own_asks context operators o start at (made.InConditional label) h = inl refl
+own_asks context operators o start at (made.BranchIf label) h = inl refl
 
 row_asks : (context : Context) (operators : Operators) (line : Line) (at : ℕ) (change : Change) (w : Widths) → MakesBy context operators line at change w →
     AsksForNumbers change.asks

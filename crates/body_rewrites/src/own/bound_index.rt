@@ -4,8 +4,7 @@ ghost use Rattle.rewrite_rules.specs.declared.table.Own.TheVariants.{BoundIndex}
 ghost use Rattle.body_rewrites.specs.Trees.{AreTrees};
 ghost use Rattle.body_rewrites.specs.OwnSites.{IsSiteOf};
 
-use crate::own::indices::table_at;
-use crate::own::leaves::read_before;
+use crate::own::indices::{settled_before, table_at};
 use crate::own::{Made, Site};
 use crate::trees::Tree;
 use wasm_code::OperatorAndByteOffset;
@@ -25,7 +24,7 @@ pub(crate) fn find(
     let Some(count) = table_at(operators, at + 1) else {
         return None;
     };
-    let Some(start) = read_before(trees, at + 1) else {
+    let Some(start) = settled_before(trees, at + 1) else {
         return None;
     };
     Some(Site {

@@ -5,7 +5,7 @@ ghost use Rattle.body_rewrites.specs.Trees.{AreTrees};
 ghost use Rattle.body_rewrites.specs.OwnSites.{IsSiteOf};
 
 use crate::matching::are_same;
-use crate::own::indices::{bound_at, has_number};
+use crate::own::indices::{bound_at, has_number, settled_before};
 use crate::own::leaves::read_before;
 use crate::own::{Made, Site};
 use crate::trees::Tree;
@@ -36,7 +36,7 @@ pub(crate) fn find(
     if !has_number(operators, end, count) {
         return None;
     }
-    let Some(start) = read_before(trees, end) else {
+    let Some(start) = settled_before(trees, end) else {
         return None;
     };
     if start > end {

@@ -45,6 +45,8 @@ fn growth_of(made: Made) -> Growth
         Made::DoublyTested => Growth::Grows,
         Made::Dead => Growth::Grows,
         Made::Bounded(_) => Growth::Grows,
+        Made::InConditional(_) => Growth::Grows,
+        Made::BranchIf(_) => Growth::Shrinks,
     }
 }
 

@@ -1,15 +1,20 @@
 //! Indices of branches by a table, and what bounds them.
-ghost use Rattle.std.specs.Prelude.{◌≡◌, ◌↔◌, ℕ, IsTrue, IfSome, IfNone};
+ghost use Rattle.std.specs.Prelude.{◌≡◌, ◌↔◌, ℕ, List, IsTrue, IfSome, IfNone};
+ghost use Rattle.wasm_code.specs.declared.operator.Operator.{Operator as OperatorOf};
+ghost use Rattle.peephole_machine.specs.Values.{Context};
 ghost use Rattle.peephole_machine.specs.declared.integer.IntegerType.TheVariants as integer;
 ghost use Rattle.rewrite_rules.specs.Instance.{constant_code};
 ghost use Rattle.body_rewrites.specs.Open.{HasInstruction};
+ghost use Rattle.body_rewrites.specs.Trees.{AreTrees};
 ghost use Rattle.body_rewrites.specs.Own.{HasTable};
-ghost use Rattle.body_rewrites.specs.OwnSites.{IsBoundAt, IsTableOperator};
+ghost use Rattle.body_rewrites.specs.OwnSites.{IsBoundAt, IsSettledBefore, IsTableOperator};
 
+use crate::cutting::tree_at;
 use crate::instructions::{constant, is_bare_at};
 use crate::matching::are_equal;
+use crate::own::leaves::read_before;
 use crate::own::unwrap::operator_at;
-use crate::trees::instr_at;
+use crate::trees::{Tree, instr_at};
 use peephole_machine::IntegerType;
 use wasm_code::{Operator, OperatorAndByteOffset};
 
@@ -44,6 +49,27 @@ pub(crate) fn has_number(operators: &[OperatorAndByteOffset], at: usize, number:
         Some(instr) => are_equal(&instr, &wanted),
         None => false,
     }
+}
+
+// Where the tree of 32 bits begins that ends right before the operator, if it writes nothing and doesn't ask the world: then it has the same value twice.
+pub(crate) fn settled_before(trees: &[Option<Tree>], end: usize) -> Option<usize>
+    ensures some { IfSome result (λ start. (context : Context)
+        (operators : List (OperatorOf × ℕ)) → AreTrees context operators trees.now
+        → IsSettledBefore context operators start end) }
+    ensures none { IfNone result ((context : Context) (operators : List (OperatorOf × ℕ))
+        → AreTrees context operators trees.now → (start : ℕ)
+        → ¬ (IsSettledBefore context operators start end)) }
+{
+    if end == 0 {
+        return None;
+    }
+    let Some(tree) = tree_at(trees, end - 1) else {
+        return None;
+    };
+    if tree.asks {
+        return None;
+    }
+    read_before(trees, end)
 }
 
 // Where the number of labels stands that the select at the operator bounds an index by, and that number; none where it doesn't.

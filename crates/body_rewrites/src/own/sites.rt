@@ -5,10 +5,10 @@ ghost use Rattle.body_rewrites.specs.Trees.{AreTrees};
 ghost use Rattle.body_rewrites.specs.OwnSites.{IsSiteOf};
 
 use crate::own::{
-    Site, access, bound_index, double_condition, drop_condition_test, drop_dead,
-    drop_double_condition, drop_index_bound, drop_nop, fold, forget, if_to_select, put_dead,
-    select_to_if, set_to_tee, tee_to_set, test_condition, through_global, unfold, unwrap, with_nop,
-    wrap,
+    Site, access, bound_index, br_if_to_if, double_condition, drop_condition_test, drop_dead,
+    drop_double_condition, drop_index_bound, drop_nop, fold, forget, if_to_br_if, if_to_select,
+    put_dead, select_to_if, set_to_tee, tee_to_set, test_condition, through_global, unfold, unwrap,
+    with_nop, wrap,
 };
 use crate::places::Body;
 use rewrite_rules::Own;
@@ -41,5 +41,7 @@ pub(crate) fn site_of(body: &Body<'_>, own: Own, at: usize) -> Option<Site>
         Own::DropDead => drop_dead::find(body.operators, body.trees, at),
         Own::BoundIndex => bound_index::find(body.operators, body.trees, at),
         Own::DropIndexBound => drop_index_bound::find(body.operators, body.trees, at),
+        Own::BrIfToIf => br_if_to_if::find(body.operators, at),
+        Own::IfToBrIf => if_to_br_if::find(body.operators, at),
     }
 }

@@ -237,8 +237,8 @@ fn item_piece(item: WrapItem, t: ValType, word: u64) -> Piece
         WrapItem::If => Piece::Structural(Control::If(t)),
         WrapItem::Else => Piece::Structural(Control::Else),
         WrapItem::End => Piece::Structural(Control::End),
-        WrapItem::Branch => Piece::Structural(Control::Branch),
-        WrapItem::BranchIf => Piece::Structural(Control::BranchIf),
+        WrapItem::Branch => Piece::Structural(Control::Branch(0)),
+        WrapItem::BranchIf => Piece::Structural(Control::BranchIf(0)),
         WrapItem::Unreachable => Piece::Structural(Control::Unreachable),
         WrapItem::Zero => Piece::New(constant(IntegerType::I32, 0)),
         WrapItem::NonZero => Piece::New(constant(IntegerType::I32, nonzero(word))),
@@ -340,6 +340,23 @@ fn bounded(start: usize, end: usize, count: u32) -> NewCode
     code(start, &pieces, None)
 }
 
+// A conditional, and in it a branch to the label that had that depth outside it; none where one byte doesn't hold the label there.
+fn in_conditional(start: usize, label: u8) -> Option<NewCode>
+    ensures some { IfSome result
+        (IsCode start (made_pieces start start (made.InConditional label) 0) []) }
+    ensures none { IfNone result (¬ (label + 1 < 2 ^ 8)) }
+{
+    if label == 255 {
+        return None;
+    }
+    let pieces = [
+        Piece::Structural(Control::BareIf),
+        Piece::Structural(Control::Branch(label + 1)),
+        Piece::Structural(Control::End),
+    ];
+    Some(code(start, &pieces, None))
+}
+
 // What is made at the site, by the word; none where it isn't made of instructions of the standard.
 pub(crate) fn written(site: Site, at: usize, word: u64) -> Option<NewCode>
     requires { at < 2 ^ 64 - 1 }
@@ -378,5 +395,10 @@ pub(crate) fn written(site: Site, at: usize, word: u64) -> Option<NewCode>
         Made::DoublyTested => Some(followed(start, kept, eqz(), eqz())),
         Made::Dead => Some(followed(start, kept, constant(IntegerType::I32, word), discard())),
         Made::Bounded(count) => Some(bounded(start, at + 1, count)),
+        Made::InConditional(label) => in_conditional(start, label),
+        Made::BranchIf(label) => {
+            let branch = Piece::Structural(Control::BranchIf(label));
+            Some(code(start, &[branch], None))
+        }
     }
 }

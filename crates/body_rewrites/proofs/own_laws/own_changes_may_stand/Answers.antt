@@ -15,6 +15,8 @@ returns c = record {
         bounds = c.bounds_are_indices.ensures;
         indices = c.indices_may_change.ensures;
         dead = c.dead_code_may_change.ensures;
+        nests = c.branches_may_nest.ensures.nest;
+        unnests = c.branches_may_nest.ensures.unnest;
         dropped = c.dropped_code_pushes_nothing.ensures;
         constants = c.dropped_constants_push_nothing.ensures;
       })

@@ -40,16 +40,16 @@ returns-then-not-has_number c = λ context trees.
     (number_before context c.args.operators.now c.args.at c.in-Some.place c.in-Some.count c.in-Some.ensures.some c.in-Some-read_before.copy
     (c.in-Some-read_before.ensures.some context c.args.operators.now trees) start end h)))
 
-pub returns-in_default-read_before-2 : goal.returns-in_default-read_before-2
-returns-in_default-read_before-2 c = λ context trees.
+pub returns-in_default-settled_before : goal.returns-in_default-settled_before
+returns-in_default-settled_before c = λ context trees.
     no_bounded context c.args.operators.now c.args.at (λ start end h.
-    c.in_default-read_before-2.ensures.none context c.args.operators.now trees start
+    c.in_default-settled_before.ensures.none context c.args.operators.now trees start
     (index_before context c.args.operators.now c.args.at c.in-Some.place c.in-Some.count c.in-Some.ensures.some c.in-Some-read_before.copy
     (c.in-Some-read_before.ensures.some context c.args.operators.now trees) start end h))
 
 pub returns-then-start-end : goal.returns-then-start-end
 returns-then-start-end c = λ context trees.
-    let r = c.in-Some-read_before-2.ensures.some context c.args.operators.now trees in
+    let r = (c.in-Some-settled_before.ensures.some context c.args.operators.now trees).read in
     let last = r.last_is in
     let ordered = r.tree.ordered in
     absurd (omega (arith, last, ordered, c.if-start-end.true))
@@ -58,9 +58,9 @@ pub returns-then-not-are_same : goal.returns-then-not-are_same
 returns-then-not-are_same c = λ context trees.
     no_bounded context c.args.operators.now c.args.at (λ start end h.
     let r = c.in-Some-read_before.ensures.some context c.args.operators.now trees in
-    let begins = one_read context c.args.operators.now start c.in-Some-read_before-2.start (c.in-Some-read_before.copy - 1)
-    (index_before context c.args.operators.now c.args.at c.in-Some.place c.in-Some.count c.in-Some.ensures.some c.in-Some-read_before.copy r start end h)
-    (c.in-Some-read_before-2.ensures.some context c.args.operators.now trees) in
+    let begins = one_read context c.args.operators.now start c.in-Some-settled_before.start (c.in-Some-read_before.copy - 1)
+    (index_before context c.args.operators.now c.args.at c.in-Some.place c.in-Some.count c.in-Some.ensures.some c.in-Some-read_before.copy r start end h).read
+    (c.in-Some-settled_before.ensures.some context c.args.operators.now trees).read in
     false≢true (sym c.if-not-are_same.true ∙ c.are_same.ensures.only
     (subst (λ k. HaveSameCode c.args.operators.now (k, c.in-Some-read_before.copy - 1) (c.in-Some-read_before.copy, c.in-Some.place)) begins
     (same_twice context c.args.operators.now c.args.at c.in-Some.place c.in-Some.count c.in-Some.ensures.some c.in-Some-read_before.copy r start end h))))
@@ -68,8 +68,8 @@ returns-then-not-are_same c = λ context trees.
 pub returns : goal.returns
 returns c = λ context trees. (
   refl,
-  is_bounded context c.args.operators.now c.args.at c.in-Some.place c.in-Some.count c.in-Some.ensures.some c.in-Some-read_before-2.start
+  is_bounded context c.args.operators.now c.args.at c.in-Some.place c.in-Some.count c.in-Some.ensures.some c.in-Some-settled_before.start
       (c.in-Some-read_before.copy - 1) c.in-Some-read_before.copy (omega (arith, c.if-copy-eq0.false)) c.if-copy-place.false
-      (c.has_number.ensures.0 c.if-not-has_number.false) (c.in-Some-read_before-2.ensures.some context c.args.operators.now trees)
+      (c.has_number.ensures.0 c.if-not-has_number.false) (c.in-Some-settled_before.ensures.some context c.args.operators.now trees)
       (c.are_same.ensures.same c.if-not-are_same.false),
 )

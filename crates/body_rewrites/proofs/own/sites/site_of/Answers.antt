@@ -107,3 +107,13 @@ pub returns-in-DropIndexBound : goal.returns-in-DropIndexBound
 returns-in-DropIndexBound c = λ context same trees.
     let found = c.find-in-DropIndexBound.ensures context trees in
     subst (λ own. IsSiteOf context c.args.body.now.operators.now own c.args.at c.find-in-DropIndexBound.result) (sym c.in-DropIndexBound.is) found
+
+pub returns-in-BrIfToIf : goal.returns-in-BrIfToIf
+returns-in-BrIfToIf c = λ context same trees.
+    let found = c.find-in-BrIfToIf.ensures context in
+    subst (λ own. IsSiteOf context c.args.body.now.operators.now own c.args.at c.find-in-BrIfToIf.result) (sym c.in-BrIfToIf.is) found
+
+pub returns-in-IfToBrIf : goal.returns-in-IfToBrIf
+returns-in-IfToBrIf c = λ context same trees.
+    let found = c.find-in-IfToBrIf.ensures context in
+    subst (λ own. IsSiteOf context c.args.body.now.operators.now own c.args.at c.find-in-IfToBrIf.result) (sym c.in-IfToBrIf.is) found
