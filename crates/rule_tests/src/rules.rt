@@ -5,10 +5,10 @@ ghost use Rattle.body_rewrites.specs.Places.{HasItsTrees};
 
 use crate::notation::{body_of, fields_of, locals, module_of};
 use crate::rows::{EXACT_ROWS, ROWS};
-use crate::wraps::FIRST_OF_FLOW;
+use crate::wraps::{BEHIND_FLOW, FIRST_OF_FLOW};
 use body_rewrites::{Body, Rewrite, rewrite_body, trees_of};
 use peephole_machine::IntegerType;
-use rewrite_rules::{rule_names, rules_of_rows};
+use rewrite_rules::{row_count, rule_names, rules_of_rows};
 use std::alloc::Global;
 use std::process::Abort;
 use std::test::Fail;
@@ -374,8 +374,9 @@ fn all_rows_are_told(rt: HostRuntime) -> Result<(), Fail> {
         add_numbers(&rt, alloc, &table, true, rows, &mut numbers)?;
     }
     let mut others = Vec::new(alloc);
-    for number in 0..FIRST_OF_FLOW {
-        if !numbers.iter().any(|told| *told == number) {
+    for number in 0..row_count() {
+        let of_flow = (FIRST_OF_FLOW..BEHIND_FLOW).contains(&number);
+        if !of_flow && !numbers.iter().any(|told| *told == number) {
             others.push(number)?;
         }
     }

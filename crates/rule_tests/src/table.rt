@@ -10,7 +10,7 @@ use std::test::Fail;
 use wasm_code::{Imm, MemArg};
 
 /// Names of rules, and their numbers, as callers in C have them.
-const NAMES: [(&str, usize); 49] = [
+const NAMES: [(&str, usize); 53] = [
     ("commute", 0),
     ("turn_comparison", 1),
     ("associate_left", 2),
@@ -60,6 +60,10 @@ const NAMES: [(&str, usize); 49] = [
     ("select_to_if", 372),
     ("drop_dead", 379),
     ("drop_index_bound", 381),
+    ("br_if_to_if", 382),
+    ("if_to_br_if", 383),
+    ("drop_reinterpretation_of_constant", 384),
+    ("splat_constant_to_bits", 385),
 ];
 
 #[test]
@@ -70,10 +74,10 @@ fn tells_rules_by_their_names(rt: HostRuntime) -> Result<(), Fail> {
         assert!(rt; rule.name() == name);
         assert!(rt; Rule::from_number(number) == Some(rule));
     }
-    assert!(rt; rule_count() == 382);
+    assert!(rt; rule_count() == 386);
     assert!(rt; all_rules(rt.alloc())?.get(256).copied() == Rule::from_number(256));
     assert!(rt; rule_names(rt.alloc())?.get(76).copied() == Some("join_sums"));
-    assert!(rt; Rule::from_number(382).is_none());
+    assert!(rt; Rule::from_number(386).is_none());
     assert!(rt; "no_rule".parse::<Rule>().is_err());
     Ok(())
 }
@@ -81,7 +85,7 @@ fn tells_rules_by_their_names(rt: HostRuntime) -> Result<(), Fail> {
 #[test]
 fn tells_of_which_rule_a_row_is(rt: HostRuntime) -> Result<(), Fail> {
     let rules = rules_of_rows(rt.alloc())?;
-    assert!(rt; row_count() == 1328);
+    assert!(rt; row_count() == 1334);
     assert!(rt; rules.len() == row_count());
     assert!(rt; rules.get(6).copied() == Some(0));
     assert!(rt; rules.get(7).copied() == Some(1));
@@ -208,7 +212,7 @@ const BY_EIGHT: Imm = Imm::Mem(MemArg {
 });
 
 /// Numbers of accesses, an immediate that stands there, and the one that is written, where one is.
-const WRITTEN: [(u8, Imm, Option<Imm>); 12] = [
+const WRITTEN: [(u8, Imm, Option<Imm>); 15] = [
     (0, BY_FOUR, Some(BY_FOUR)),
     (0, Imm::F32(1), None),
     (82, BY_FOUR, Some(BY_BYTE)),
@@ -221,6 +225,9 @@ const WRITTEN: [(u8, Imm, Option<Imm>); 12] = [
     (134, Imm::V128(5), Some(Imm::V128(-6))),
     (135, BY_FOUR, None),
     (137, BY_BYTE, Some(BY_BYTE)),
+    (144, Imm::F32(0xffff_ffff), Some(Imm::I32(-1))),
+    (145, BY_EIGHT, None),
+    (147, Imm::F64(1), Some(Imm::I64(1))),
 ];
 
 #[test]
@@ -229,6 +236,6 @@ fn tells_what_accesses_write(rt: HostRuntime) -> Result<(), Fail> {
         let access = access_at(number).expect(&rt, "it is an access's number");
         assert!(rt; access.written(immediate) == expected, "access {number}");
     }
-    assert!(rt; access_at(144).is_none());
+    assert!(rt; access_at(148).is_none());
     Ok(())
 }

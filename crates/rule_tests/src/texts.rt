@@ -6,7 +6,7 @@ use std::test::Fail;
 use wasm_types::PrimitiveTypeInfo;
 
 /// Numbers of rows, and their texts.
-const TEXTS: [(usize, &str); 60] = [
+const TEXTS: [(usize, &str); 64] = [
     (0, "add x y → add y x"),
     (7, "lt_s x y → gt_s y x"),
     (15, "add x (add y z) → add (add x y) z"),
@@ -97,6 +97,10 @@ const TEXTS: [(usize, &str); 60] = [
         1326,
         "br_table n of x → br_table n of (select x n (lt_u x n))",
     ),
+    (1328, "br_if l → if br (l+1) end"),
+    (1329, "if br (l+1) end → br_if l"),
+    (1330, "f32.const, i32.reinterpret_f32 → i32.const"),
+    (1333, "f64.const, f64x2.splat → i64.const, i64x2.splat"),
 ];
 
 #[test]
@@ -110,7 +114,7 @@ fn prints_rows(rt: HostRuntime) -> Result<(), Fail> {
 }
 
 /// Numbers of rows, and what they do to the number of instructions.
-const GROWTHS: [(usize, Growth); 37] = [
+const GROWTHS: [(usize, Growth); 41] = [
     (0, Growth::Keeps),
     (25, Growth::Grows),
     (32, Growth::Grows),
@@ -148,6 +152,10 @@ const GROWTHS: [(usize, Growth); 37] = [
     (1325, Growth::Shrinks),
     (1326, Growth::Grows),
     (1327, Growth::Shrinks),
+    (1328, Growth::Grows),
+    (1329, Growth::Shrinks),
+    (1330, Growth::Shrinks),
+    (1332, Growth::Keeps),
 ];
 
 #[test]

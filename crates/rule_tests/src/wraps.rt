@@ -1,9 +1,9 @@
 //! What rules on control flow make of bodies written by hand, and that others take it back: values in control flow of their own, selects and
-//! conditionals, conditions that are tested, code that is never reached, and indices of branches by a table.
+//! conditionals, conditions that are tested, code that is never reached, indices of branches by a table, and branches in conditionals.
 
 use body_rewrites::{Body, Rewrite, rewrite_body, trees_of};
 use peephole_machine::IntegerType;
-use rewrite_rules::{Rule, row_count};
+use rewrite_rules::Rule;
 use std::alloc::Global;
 use std::test::Fail;
 use wasm_code::{Function, read_body};
@@ -80,7 +80,7 @@ type Pair = (
     usize,
 );
 
-const PAIRS: [Pair; 14] = [
+const PAIRS: [Pair; 18] = [
     // Constants and variables of each type, and a condition of two operators.
     (
         "select_to_if",
@@ -197,12 +197,45 @@ const PAIRS: [Pair; 14] = [
         b"\x20\0\x45\x41\0\x20\0\x45\x41\0\x49\x1b\x0e\0\0\x0b",
         7,
     ),
+    // Out of a block, back to the start of a loop that gives a value, and out of a conditional; and out of a block through such a loop.
+    (
+        "br_if_to_if",
+        "if_to_br_if",
+        b"\x02\x40\x20\0\x0d\0\x0b\x0b",
+        2,
+        b"\x02\x40\x20\0\x04\x40\x0c\x01\x0b\x0b\x0b",
+        4,
+    ),
+    (
+        "br_if_to_if",
+        "if_to_br_if",
+        b"\x03\x7f\x20\0\x0d\0\x41\x05\x0b\x1a\x0b",
+        2,
+        b"\x03\x7f\x20\0\x04\x40\x0c\x01\x0b\x41\x05\x0b\x1a\x0b",
+        4,
+    ),
+    (
+        "br_if_to_if",
+        "if_to_br_if",
+        b"\x20\0\x04\x40\x20\0\x0d\0\x0b\x0b",
+        3,
+        b"\x20\0\x04\x40\x20\0\x04\x40\x0c\x01\x0b\x0b\x0b",
+        5,
+    ),
+    (
+        "br_if_to_if",
+        "if_to_br_if",
+        b"\x02\x40\x03\x7e\x20\0\x45\x0d\x01\x42\x07\x0b\x1a\x0b\x0b",
+        4,
+        b"\x02\x40\x03\x7e\x20\0\x45\x04\x40\x0c\x02\x0b\x42\x07\x0b\x1a\x0b\x0b",
+        6,
+    ),
 ];
 
 /// A rule, an operator, a body with such locals, and what it makes of it by the word 2, or none.
 type Other = (&'static str, usize, &'static [u8], Option<&'static [u8]>);
 
-const OTHERS: [Other; 43] = [
+const OTHERS: [Other; 58] = [
     // A value of each other type; a tree of several operators; and one in a block that stands there.
     (
         "in_block",
@@ -385,14 +418,86 @@ const OTHERS: [Other; 43] = [
         b"\x20\0\x41\0\x20\0\x41\0\x49\x1b\x1a\x0b",
         None,
     ),
+    // An index by an operator that isn't one on whole numbers.
+    ("bound_index", 1, b"\x20\x02\xbc\x0e\0\0\x0b", None),
+    (
+        "drop_index_bound",
+        7,
+        b"\x20\x02\xbc\x41\0\x20\x02\xbc\x41\0\x49\x1b\x0e\0\0\x0b",
+        None,
+    ),
+    // The branch takes a value, out of one block and of two; a block that has ended, and another part of a conditional, right before it.
+    (
+        "br_if_to_if",
+        3,
+        b"\x02\x7f\x41\x05\x20\0\x0d\0\x0b\x1a\x0b",
+        None,
+    ),
+    (
+        "br_if_to_if",
+        4,
+        b"\x02\x7f\x02\x40\x41\x05\x20\0\x0d\x01\x1a\x0b\x41\x05\x0b\x1a\x0b",
+        None,
+    ),
+    (
+        "br_if_to_if",
+        4,
+        b"\x02\x40\x02\x40\x0b\x20\0\x0d\0\x0b\x0b",
+        None,
+    ),
+    (
+        "br_if_to_if",
+        4,
+        b"\x20\0\x04\x40\x05\x20\0\x0d\0\x0b\x0b",
+        None,
+    ),
+    // To the function's own label, out of no block and of one; a branch without a condition.
+    ("br_if_to_if", 1, b"\x20\0\x0d\0\x0b", None),
+    ("br_if_to_if", 2, b"\x02\x40\x20\0\x0d\x01\x0b\x0b", None),
+    ("br_if_to_if", 1, b"\x02\x40\x0c\0\x0b\x0b", None),
+    // To the function's own label; another part, more in the conditional, and one that gives a value; its own label; a block.
+    (
+        "if_to_br_if",
+        3,
+        b"\x20\0\x04\x40\x0c\x01\x0b\x0b",
+        Some(b"\x20\0\x0d\0\x0b"),
+    ),
+    (
+        "if_to_br_if",
+        5,
+        b"\x02\x40\x20\0\x04\x40\x0c\x01\x05\x0b\x0b\x0b",
+        None,
+    ),
+    (
+        "if_to_br_if",
+        5,
+        b"\x02\x40\x20\0\x04\x40\x01\x0c\x01\x0b\x0b\x0b",
+        None,
+    ),
+    (
+        "if_to_br_if",
+        6,
+        b"\x02\x40\x20\0\x04\x7f\x41\x05\x05\x0c\x01\x0b\x1a\x0b\x0b",
+        None,
+    ),
+    ("if_to_br_if", 3, b"\x20\0\x04\x40\x0c\0\x0b\x0b", None),
+    (
+        "if_to_br_if",
+        3,
+        b"\x02\x40\x02\x40\x0c\x01\x0b\x0b\x0b",
+        None,
+    ),
 ];
 
-/// The number of the first row of control flow. Those from there on are here, since their operators have no names in other rows.
+/// The number of the first row of control flow, and of the first one behind them. Those between are here, since their operators have no
+/// names in other rows.
 pub const FIRST_OF_FLOW: usize = 1298;
+
+pub const BEHIND_FLOW: usize = 1330;
 
 /// The first row of the rule with that name, of those of control flow.
 fn row_of(name: &str) -> Option<usize> {
-    for number in FIRST_OF_FLOW..row_count() {
+    for number in FIRST_OF_FLOW..BEHIND_FLOW {
         if let Some(rule) = Rule::of_row(number) {
             if rule.name() == name {
                 return Some(number);
@@ -460,10 +565,10 @@ fn makes_flow_and_takes_it_back(rt: HostRuntime) -> Result<(), Fail> {
     Ok(())
 }
 
-/// By each row from the first one of control flow on something is made here.
+/// By each row of control flow something is made here.
 #[test]
 fn all_rows_of_control_flow_are_told(rt: HostRuntime) -> Result<(), Fail> {
-    for number in FIRST_OF_FLOW..row_count() {
+    for number in FIRST_OF_FLOW..BEHIND_FLOW {
         let rule = Rule::of_row(number).ok_or("no such row")?;
         let name = rule.name();
         let among_cases = CASES.iter().any(|case| case.0 == name || case.1 == name);

@@ -209,4 +209,21 @@ splat_to_load_zero | local.get 0; v128.load64_splat; i64.const 1; i64x2.replace_
 splat_to_load_zero | local.get 0; v128.load64_splat; i64.const 0; i64x2.replace_lane 0 | 3 | i32 | -
 splat_to_load_zero | local.get 0; v128.load64_splat; nop; i64.const 0; i64x2.replace_lane 1 | 4 | i32 | -
 splat_to_load_zero | local.get 0; v128.load32_splat; i64.const 0; i64x2.replace_lane 1 | 3 | i32 | -
+# drop_reinterpretation_of_constant, splat_constant_to_bits: a constant of a float that is read as bits, whatever it is.
+drop_reinterpretation_of_constant | f32.const 1065353216; i32.reinterpret_f32 | 1 | i32 | i32.const 1065353216
+drop_reinterpretation_of_constant | f32.const 4290772993; i32.reinterpret_f32; drop | 1 | i32 | i32.const -4194303; drop
+drop_reinterpretation_of_constant | f64.const 9221120237041090561; i64.reinterpret_f64 | 1 | i32 | i64.const 9221120237041090561
+drop_reinterpretation_of_constant | F.const 7; T.reinterpret_F | 0 | i32 | -
+drop_reinterpretation_of_constant | F.const 7; nop; T.reinterpret_F | 2 | i32 | -
+drop_reinterpretation_of_constant | T.const 7; F.reinterpret_T | 1 | i32 | -
+drop_reinterpretation_of_constant | local.get X; T.reinterpret_F | 1 | i32 | -
+drop_reinterpretation_of_constant | T.reinterpret_F | 0 | i32 | -
+splat_constant_to_bits | f32.const 4290772993; f32x4.splat | 1 | i32 | i32.const -4194303; i32x4.splat
+splat_constant_to_bits | f64.const 9223372036854775808; f64x2.splat; v128.not | 1 | i32 | i64.const -9223372036854775808; i64x2.splat; v128.not
+splat_constant_to_bits | F.const 7; G.splat | 1 | i32 | T.const 7; H.splat
+splat_constant_to_bits | F.const 7; G.splat | 0 | i32 | -
+splat_constant_to_bits | F.const 7; nop; G.splat | 2 | i32 | -
+splat_constant_to_bits | T.const 7; H.splat | 1 | i32 | -
+splat_constant_to_bits | local.get X; G.splat | 1 | i32 | -
+splat_constant_to_bits | G.splat | 0 | i32 | -
 ";
