@@ -94,9 +94,9 @@ module _ (context : Context) (operators : Operators) (at : ℕ) where
   pub index_read : (start count : ℕ) → IsIndex context operators start at count → IsSettledBefore context operators start (at + 1)
   index_read start count h = record { read = record { last = at; last_is = refl; tree = h.tree; reads = h.reads }; settled = h.settled }
 
-  pub is_index : (start count : ℕ) → HasTable operators (at + 1) count → IsSettledBefore context operators start (at + 1) →
-      IsIndex context operators start at count
-  is_index start count table r =
+  pub is_index : (start count : ℕ) → HasTable operators (at + 1) count → (HasInstruction operators at select_code → ⊥) →
+      IsSettledBefore context operators start (at + 1) → IsIndex context operators start at count
+  is_index start count table free r =
       let ends = r.read.last_is in
       ends_here r.read.last (let same : r.read.last ≡ at = omega (arith, ends) in same) r.read.tree r.read.reads r.settled
     where
@@ -105,7 +105,7 @@ module _ (context : Context) (operators : Operators) (at : ℕ) where
       ends_here last same =
           subst (λ k. (tree : IsTree context operators start k primitive.I32) → writes tree.code ≡ false → asks tree.code ≡ false →
           IsIndex context operators start at count) (sym same)
-          (λ tree reads settled. record { tree = tree; reads = reads; settled = settled; behind = table })
+          (λ tree reads settled. record { tree = tree; reads = reads; settled = settled; unbounded = free; behind = table })
 
   -- ---- bounded ones
 

@@ -196,11 +196,12 @@ pub record HasTable (operators : List (Operator × ℕ)) (at count : ℕ) : Type
   pub fits : count < 2 ^ 32
 
 -- From `start` on, up to the operator at `at`, stands a tree of 32 bits that writes nothing and doesn't ask the world, and behind it a branch by a table of so
--- many labels.
+-- many labels. It doesn't end in a select, as a bounded one does: else each rewrite would double it.
 pub record IsIndex (context : Context) (operators : List (Operator × ℕ)) (start at count : ℕ) : Type 0 where
   pub tree : IsTree context operators start at primitive.I32
   pub reads : writes tree.code ≡ false
   pub settled : asks tree.code ≡ false
+  pub unbounded : HasInstruction operators at select_code → ⊥
   pub behind : HasTable operators (at + 1) count
 
 -- From `start` up to the operator before `end` stands such a tree; then, up to the operator at `at`, the number of labels, the same code, that number, and what

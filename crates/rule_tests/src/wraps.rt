@@ -370,11 +370,12 @@ const OTHERS: [Other; 58] = [
         Some(b"\x20\0\x0e\0\0\x0b"),
     ),
     ("drop_dead", 1, FIVE, None),
-    // No branch by a table behind it; one that isn't by one; another type; an index that writes; one that may trap.
+    // No branch by a table behind it; one that isn't by one; another type; an index that writes; a select; one that may trap.
     ("bound_index", 0, FIVE, None),
     ("bound_index", 0, b"\x20\0\x0d\0\x0b", None),
     ("bound_index", 0, b"\x20\x01\x0e\0\0\x0b", None),
     ("bound_index", 1, b"\x41\x01\x22\0\x0e\0\0\x0b", None),
+    ("bound_index", 3, b"\x20\0\x20\0\x20\0\x1b\x0e\0\0\x0b", None),
     (
         "bound_index",
         2,

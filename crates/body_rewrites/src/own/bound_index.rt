@@ -4,12 +4,14 @@ ghost use Rattle.rewrite_rules.specs.declared.table.Own.TheVariants.{BoundIndex}
 ghost use Rattle.body_rewrites.specs.Trees.{AreTrees};
 ghost use Rattle.body_rewrites.specs.OwnSites.{IsSiteOf};
 
+use crate::instructions::is_bare_at;
 use crate::own::indices::{settled_before, table_at};
 use crate::own::{Made, Site};
 use crate::trees::Tree;
 use wasm_code::OperatorAndByteOffset;
 
-// Where the rule applies at the operator, and what it makes there.
+// Where the rule applies at the operator, and what it makes there. A select is bounded already, it may be: the index is written twice, so
+// that it would double each time.
 pub(crate) fn find(
     operators: &[OperatorAndByteOffset],
     trees: &[Option<Tree>],
@@ -24,6 +26,9 @@ pub(crate) fn find(
     let Some(count) = table_at(operators, at + 1) else {
         return None;
     };
+    if is_bare_at(operators, at, 3) {
+        return None;
+    }
     let Some(start) = settled_before(trees, at + 1) else {
         return None;
     };
