@@ -235,7 +235,7 @@ const PAIRS: [Pair; 18] = [
 /// A rule, an operator, a body with such locals, and what it makes of it by the word 2, or none.
 type Other = (&'static str, usize, &'static [u8], Option<&'static [u8]>);
 
-const OTHERS: [Other; 58] = [
+const OTHERS: [Other; 59] = [
     // A value of each other type; a tree of several operators; and one in a block that stands there.
     (
         "in_block",
@@ -375,7 +375,12 @@ const OTHERS: [Other; 58] = [
     ("bound_index", 0, b"\x20\0\x0d\0\x0b", None),
     ("bound_index", 0, b"\x20\x01\x0e\0\0\x0b", None),
     ("bound_index", 1, b"\x41\x01\x22\0\x0e\0\0\x0b", None),
-    ("bound_index", 3, b"\x20\0\x20\0\x20\0\x1b\x0e\0\0\x0b", None),
+    (
+        "bound_index",
+        3,
+        b"\x20\0\x20\0\x20\0\x1b\x0e\0\0\x0b",
+        None,
+    ),
     (
         "bound_index",
         2,
