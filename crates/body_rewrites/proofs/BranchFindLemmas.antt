@@ -127,9 +127,6 @@ module _ (operators : Operators) where
   -- ---- what stands in parts
 
   module _ (at label : ℕ) (h : IsBareBranch operators at label) where
-    own_operators : List Operator
-    own_operators = map instr_of h.own
-
     at_inside : at < length operators
     at_inside = there_inside operators at (op.BrIf label) h.branch
 

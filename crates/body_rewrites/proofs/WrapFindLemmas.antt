@@ -1,5 +1,5 @@
 -- Where trees are wrapped, and where they are found wrapped.
-use Rattle.std.proofs.Common.{◌≡◌, ℕ, zero, suc, ◌+◌, ◌-◌, ◌^◌, ◌<◌, ◌≤◌, List, [], ◌∷◌, ◌++◌, length, map, take, drop, get_or, append_assoc, IsTrue, Option, Some, None, refl, sym, ap, ap₂, subst, ◌∙◌, arith}
+use Rattle.std.proofs.Common.{◌≡◌, ℕ, zero, suc, ◌+◌, ◌-◌, ◌<◌, ◌≤◌, List, [], ◌∷◌, ◌++◌, length, map, take, drop, get_or, append_assoc, IsTrue, Option, Some, None, refl, sym, ap, ap₂, subst, ◌∙◌, arith}
 use Rattle.std.specs.Prelude.{nat_lt, slice_get}
 use Rattle.std.proofs.lemmas.Bool.{lt-ltb, ltb-true}
 use Rattle.std.proofs.lemmas.List.{map-append, take_more}
@@ -17,11 +17,11 @@ use Rattle.peephole_machine.specs.Values.{Context}
 use Rattle.rewrite_rules.specs.declared.table.Own.TheVariants.{Wrap as Wraps, Unwrap as Unwraps}
 use Rattle.rewrite_rules.specs.declared.wrap.Wrap.{Wrap}
 use Rattle.rewrite_rules.specs.declared.wrap.WrapItem.{WrapItem}
-use Rattle.rewrite_rules.specs.Wrap.{front_of, back_of, value_of, IsItem}
+use Rattle.rewrite_rules.specs.Wrap.{back_of, value_of, IsItem}
 use Rattle.body_rewrites.specs.declared.own.Made.{Made}
 use Rattle.body_rewrites.specs.declared.own.Made.TheVariants as made
 use Rattle.body_rewrites.specs.declared.trees.Tree.{Tree}
-use Rattle.body_rewrites.specs.Trees.{IsTree, HasTree, IsTreeAt}
+use Rattle.body_rewrites.specs.Trees.{IsTree, HasTree}
 use Rattle.body_rewrites.specs.Own.{IsWrapped, HasItem, HaveItems, Rewrites, item_piece, item_pieces}
 use Rattle.body_rewrites.specs.OwnSites.{IsConstantOperator, IsWrapRound}
 use Rattle.body_rewrites.proofs.StandsLemmas.{Operators}

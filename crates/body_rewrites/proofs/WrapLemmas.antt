@@ -1,10 +1,10 @@
 -- Operators of wrapped code: as pieces, and where they stand in a body.
-use Rattle.std.proofs.Common.{◌≡◌, ℕ, zero, suc, ◌+◌, ◌-◌, ◌%◌, ◌^◌, ◌<◌, ◌≤◌, ◌&&◌, not, Bool, true, false, List, [], ◌∷◌, ◌++◌, length, map, take, drop, Some, refl, sym, ap, ap₂, subst, ◌∙◌, arith, append_assoc, append-nil}
+use Rattle.std.proofs.Common.{◌≡◌, ℕ, zero, suc, ◌+◌, ◌-◌, ◌%◌, ◌^◌, ◌<◌, ◌≤◌, ◌&&◌, not, Bool, false, List, [], ◌∷◌, ◌++◌, length, take, drop, Some, refl, sym, ap, ap₂, subst, ◌∙◌, arith, append_assoc, append-nil}
 use Rattle.std.specs.Prelude.{slice_get, slice_range}
 use Rattle.std.specs.List.{All}
 use Rattle.std.proofs.Math.Nat.{mod-lt, mod-mod}
-use Rattle.std.proofs.lemmas.List.{length-append, drop-drop, take-append-drop}
-use Rattle.std.proofs.lemmas.List.Elements.{All-nil, All-cons}
+use Rattle.std.proofs.lemmas.List.{length-append}
+use Rattle.std.proofs.lemmas.List.Elements.{All-cons}
 use Rattle.wasm_code.specs.Instruction.{Instruction}
 use Rattle.wasm_code.specs.declared.immediate.ValType.{ValType}
 use Rattle.wasm_code.specs.declared.operator.Operator.{Operator}
@@ -21,7 +21,6 @@ use Rattle.rewrite_rules.specs.declared.wrap.Wrap.TheVariants.{InBlock, InLoop, 
 use Rattle.rewrite_rules.specs.declared.wrap.WrapItem.{WrapItem}
 use Rattle.rewrite_rules.specs.declared.wrap.WrapItem.TheVariants as item
 use Rattle.rewrite_rules.specs.Instance.{constant_code}
-use Rattle.rewrite_rules.specs.Numbers.{low}
 use Rattle.rewrite_rules.specs.Wrap.{front_of, back_of, IsItem, AreItems}
 use Rattle.body_rewrites.specs.Matching.{operators_in}
 use Rattle.body_rewrites.specs.Own.{HasItem, HaveItems, item_piece, item_pieces}

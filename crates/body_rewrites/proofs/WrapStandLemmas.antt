@@ -1,5 +1,5 @@
 -- A tree in control flow of its own may stand in the place of the tree, and the tree in the place of that.
-use Rattle.std.proofs.Common.{◌≡◌, ℕ, ◌+◌, ◌-◌, ◌<◌, ◌≤◌, ◌&&◌, not, Bool, true, false, List, [], ◌∷◌, ◌++◌, length, map, take, drop, Some, refl, sym, ap, ap₂, subst, ◌∙◌, arith, append_assoc, append-nil}
+use Rattle.std.proofs.Common.{◌≡◌, ℕ, ◌+◌, ◌<◌, ◌≤◌, ◌&&◌, not, Bool, true, false, List, [], ◌∷◌, ◌++◌, length, map, take, drop, Some, refl, sym, ap, ap₂, subst, ◌∙◌, arith, append_assoc, append-nil}
 use Rattle.std.specs.Prelude.{slice_range}
 use Rattle.std.specs.List.{All}
 use mathlib.Core.List.{append_cancel_left}
@@ -9,9 +9,7 @@ use Rattle.wasm_code.specs.Instruction.{Instruction}
 use Rattle.wasm_code.specs.declared.immediate.ValType.{ValType}
 use Rattle.wasm_code.specs.declared.operator.Operator.{Operator}
 use Rattle.wasm_code.specs.declared.operator.Operator.TheVariants.{Instr}
-use Rattle.wasm_types.specs.Module.{Module}
 use Rattle.wasm_types.specs.declared.types.PrimitiveTypeInfo.{PrimitiveTypeInfo}
-use Rattle.body_splices.specs.declared.piece.Piece.{Piece}
 use Rattle.body_splices.specs.declared.piece.Piece.TheVariants.{Kept}
 use Rattle.body_splices.specs.OwnBytes.{none_of, without_offsets}
 use Rattle.body_splices.specs.Splice.{IsPieceIn}
@@ -20,16 +18,15 @@ use Rattle.peephole_machine.specs.Values.{Context}
 use Rattle.peephole_programs.specs.control.Standard.{asks_beyond}
 use Rattle.peephole_programs.specs.control.Wider.{wider}
 use Rattle.peephole_programs.specs.hosts.Embedder.{with_operators}
-use Rattle.peephole_programs.specs.modules.Program.{Body, context_for}
 use Rattle.peephole_programs.specs.validation.StaysValid.{Pushes}
-use Rattle.wrapped_code.specs.Wrapped.{Wrapped, written, WrappedRunsAs, WrappedChecksAs}
+use Rattle.wrapped_code.specs.Wrapped.{written, WrappedRunsAs, WrappedChecksAs}
 use Rattle.wrapped_code.specs.Ways.{WrappedPushes, PushingCodeIsThere}
 use Rattle.wrapped_code.specs.Handlers.{none_handle}
 use Rattle.wrapped_code.specs.Laws.{WrappedCodeDoes, UnwrappedCodeDoes}
 use Rattle.rewrite_rules.specs.declared.wrap.Wrap.{Wrap}
 use Rattle.rewrite_rules.specs.Wrap.{front_of, back_of, value_of, AreItems, MayWrap, WrapsAreRight}
 use Rattle.body_rewrites.specs.declared.own.Made.TheVariants as made
-use Rattle.body_rewrites.specs.Trees.{IsTree, Stands}
+use Rattle.body_rewrites.specs.Trees.{IsTree}
 use Rattle.body_rewrites.specs.Doing.{DoesAsBody}
 use Rattle.body_rewrites.specs.Changes.{Change, changed, MayStand}
 use Rattle.body_rewrites.specs.Own.{IsWrapped, item_pieces, change_of}
@@ -39,7 +36,7 @@ use Rattle.body_rewrites.proofs.AloneLemmas.{range_split}
 use Rattle.body_rewrites.proofs.BehindLemmas.{behind_instruction, last_there}
 use Rattle.body_rewrites.proofs.ChangedLemmas.{three_parts, code_unasked}
 use Rattle.body_rewrites.proofs.SplitLemmas.{count_is}
-use Rattle.body_rewrites.proofs.WrapLemmas.{front_some, back_some, items_are, items_within, items_unasked, items_stand, pieces_append}
+use Rattle.body_rewrites.proofs.WrapLemmas.{back_some, items_are, items_within, items_unasked, items_stand, pieces_append}
 use Rattle.body_rewrites.proofs.WritingLemmas.{range_alone}
 
 abbrev instr_of : Instruction → Operator

@@ -42,9 +42,6 @@ pub(crate) fn find(operators: &[OperatorAndByteOffset], at: usize) -> Option<Sit
         return None;
     };
     let first = first_before(operators, at);
-    if first > at {
-        return None;
-    }
     if !are_open(operators, first, label) {
         return None;
     }

@@ -51,7 +51,8 @@ pub(crate) fn has_number(operators: &[OperatorAndByteOffset], at: usize, number:
     }
 }
 
-// Where the tree of 32 bits begins that ends right before the operator, if it writes nothing and doesn't ask the world: then it has the same value twice.
+// Where the tree of 32 bits begins that ends right before the operator, if it writes nothing and doesn't ask the world: then it has the
+// same value twice.
 pub(crate) fn settled_before(trees: &[Option<Tree>], end: usize) -> Option<usize>
     ensures some { IfSome result (λ start. (context : Context)
         (operators : List (OperatorOf × ℕ)) → AreTrees context operators trees.now

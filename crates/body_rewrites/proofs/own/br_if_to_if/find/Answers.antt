@@ -9,8 +9,9 @@ pub returns-in_default : goal.returns-in_default
 returns-in_default c = λ context.
     no_bare_branch c.args.operators.now context c.args.at (λ label h. c.in_default.ensures.none label (h.fits, h.branch))
 
-pub returns-then-first-at : goal.returns-then-first-at
-returns-then-first-at c = λ context. let ordered = c.first_before-first.ensures.ordered in absurd (omega (arith, ordered, c.if-first-at.true))
+pub are_open-requires : goal.are_open-requires
+are_open-requires c =
+    let ordered = c.first_before-first.ensures.ordered in let inside = c.if-at-operators.false in omega (arith, ordered, inside)
 
 pub returns-then-not-are_open : goal.returns-then-not-are_open
 returns-then-not-are_open c = λ context.
