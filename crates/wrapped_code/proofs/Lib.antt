@@ -33,6 +33,7 @@ mod DeadLemmas
 mod BlockLemmas
 mod NestedVisitLemmas
 mod NestedRunLemmas
+mod OpenedLemmas
 mod NestedFrameLemmas
 mod NestedCheckLemmas
 mod NestedLemmas

@@ -1,10 +1,7 @@
 -- A branch under a condition in a body that is valid, replaced by a conditional with a branch in it, or the other way round: the body stays valid.
-use Rattle.std.proofs.Common.{◌≡◌, ℕ, suc, ◌-◌, ◌+◌, ◌<◌, ◌≤◌, true, List, [], ◌∷◌, ◌++◌, drop, Option, Some, None, refl, sym, ap, ◌∙◌, subst, arith, append-nil, append_assoc}
-use Rattle.std.specs.Prelude.{map, slice_get, option_and_then}
-use Rattle.std.specs.List.{All}
-use Rattle.std.proofs.lemmas.List.Elements.{All-cons, All-head, All-tail}
+use Rattle.std.proofs.Common.{◌≡◌, ℕ, suc, ◌-◌, ◌+◌, ◌<◌, ◌≤◌, List, [], ◌∷◌, ◌++◌, drop, Option, Some, None, refl, sym, ap, ◌∙◌, arith, append-nil}
+use Rattle.std.specs.Prelude.{slice_get, option_and_then}
 use Rattle.std.proofs.lemmas.Option.{same_Some}
-use Rattle.wasm_code.specs.Instruction.{Instruction}
 use Rattle.wasm_code.specs.declared.immediate.BlockType.TheVariants.{Empty}
 use Rattle.wasm_code.specs.declared.operator.Operator.{Operator}
 use Rattle.wasm_code.specs.declared.operator.Operator.TheVariants as op
@@ -19,15 +16,15 @@ use Rattle.peephole_programs.specs.validation.Algorithm.{Frame, check_row, Struc
 use Rattle.peephole_programs.specs.validation.StandardSteps.{body_frame, by_step, standard_steps}
 use Rattle.peephole_programs.specs.validation.Sound.{IsValid}
 use Rattle.peephole_programs.specs.validation.StaysValid.{MoreGlobalsCheckAlike}
-use Rattle.wrapped_code.specs.Nested.{opens_block, OpenBare}
-use Rattle.wrapped_code.proofs.PlaceLemmas.{count, front_structure, front_behind}
-use Rattle.wrapped_code.proofs.MovedLemmas.{moved, moved_before, moved_behind, drop_behind}
+use Rattle.wrapped_code.proofs.PlaceLemmas.{count, front_behind}
+use Rattle.wrapped_code.proofs.MovedLemmas.{moved, moved_before, moved_behind}
 use Rattle.wrapped_code.proofs.StepLemmas.{step_wider}
 use Rattle.wrapped_code.proofs.BetweenLemmas.{steps_between}
 use Rattle.wrapped_code.proofs.CheckLemmas.{one_step, front_checks, back_checks}
 use Rattle.wrapped_code.proofs.UncheckLemmas.{back_down}
+use Rattle.wrapped_code.proofs.OpenedLemmas.{IsBare}
 use Rattle.wrapped_code.proofs.NestedRunLemmas.{plain_part, nested_part, plain, nested, plain_is, nested_is, at_plain}
-use Rattle.wrapped_code.proofs.NestedFrameLemmas.{IsBare, bare_opens, openers_bare, code_bare, Pops, plain_goes, plain_needs, nested_goes, nested_needs}
+use Rattle.wrapped_code.proofs.NestedFrameLemmas.{Pops, plain_goes, plain_needs, nested_goes, nested_needs}
 
 -- ---- one part after another
 
@@ -58,50 +55,6 @@ module _ (context : Context) (steps : Structural) where
   split os rest k j fs left e h =
       let (mid, x, y) = and_then_some (check context steps j rest) (check context steps k os fs) left (sym (check_append os rest k j fs e) ∙ h) in
       record { mid = mid; first = x; then = y }
-
--- ---- behind the openers
-
-openers_structure : (openers rest : List Operator) → All (λ (o : Operator). opens_block o ≡ true) openers →
-    structural (openers ++ rest) ≡ openers ++ structural rest
-openers_structure [] rest all = refl
-openers_structure (o ∷ os) rest all =
-    let P : Operator → Type 0 = λ o. opens_block o ≡ true in
-    first o (os ++ rest) (All-head P o os all) ∙ ap (λ zs. o ∷ zs) (openers_structure os rest (All-tail P o os all))
-  where
-    first : (o : Operator) (zs : List Operator) → opens_block o ≡ true → structural (o ∷ zs) ≡ o ∷ structural zs
-    first (op.Block t) zs e = refl
-    first (op.Loop t) zs e = refl
-    first (op.If t) zs e = refl
-    first o zs e = absurd cc
-
-module _ (context : Context) (results : List PrimitiveTypeInfo) (structure : List Operator) (beyond : Beyond) (front openers : List Operator)
-    (own : List Instruction) (label : ℕ) (w : OpenBare label openers) (rest : List Operator) where
-  abbrev code : List Operator
-  code = map (λ (i : Instruction). op.Instr i) own
-
-  all_open : All (λ (o : Operator). opens_block o ≡ true) openers
-  all_open =
-      let P : Operator → Type 0 = λ o. opens_block o ≡ true in
-      subst (All P) (sym w.are) (All-cons P w.outermost w.inner (bare_opens w.outermost w.bare) w.inner_open)
-
-  -- the label behind them takes nothing
-  pub front_bare : structure ≡ structural (front ++ (openers ++ code)) ++ rest → (fs mid : List Frame) →
-      check context (standard_steps context.info results structure beyond) 0 (front ++ (openers ++ code)) fs ≡ Some mid → IsBare label mid
-  front_bare e fs mid h =
-      let steps = standard_steps context.info results structure beyond in
-      let xs = structural front in
-      let zs = structural code in
-      let n = count front in
-      let j = n + count openers in
-      let a = split context steps front (openers ++ code) 0 n fs mid (omega arith) h in
-      let b = split context steps openers code n j a.mid mid refl a.then in
-      let are : structure ≡ xs ++ ((openers ++ zs) ++ rest) =
-      e ∙ (ap (λ os. os ++ rest) (front_structure front (openers ++ code) ∙ ap (λ os. xs ++ os) (openers_structure openers code all_open)) ∙
-      append_assoc xs (openers ++ zs) rest) in
-      let behind : drop n structure ≡ openers ++ (zs ++ rest) =
-      ap (drop n) are ∙ (drop_behind xs ((openers ++ zs) ++ rest) 0 n (omega arith) ∙ append_assoc openers zs rest) in
-      code_bare context results structure beyond own j label b.mid mid
-      (openers_bare context results structure beyond label openers w (zs ++ rest) n a.mid b.mid behind b.first) b.then
 
 -- ---- a body
 

@@ -1,11 +1,14 @@
--- A loop that is left by a branch under a condition, with a conditional in its place, and the other way round; and why the label takes nothing.
-use Rattle.std.proofs.Common.{◌≡◌, ℕ, refl, true, false, List, [], ◌∷◌, ◌++◌, Some}
-use Rattle.std.proofs.lemmas.List.Elements.{All-nil, All-cons}
+-- A loop that is left by a branch under a condition, with a conditional in its place, and the other way round, also behind whole blocks; and why the label
+-- takes nothing.
+use Rattle.std.proofs.Common.{◌≡◌, ℕ, refl, ap, ◌∙◌, true, false, List, [], ◌∷◌, ◌++◌, Some}
+use Rattle.std.proofs.lemmas.Option.{same_Some}
+use Rattle.wasm_code.specs.declared.immediate.Imm.TheVariants as imm
 use Rattle.wasm_code.specs.declared.immediate.BlockType.TheVariants as type
 use Rattle.wasm_code.specs.declared.operator.Operator.{Operator}
 use Rattle.wasm_code.specs.declared.operator.Operator.TheVariants as op
 use Rattle.wasm_code.specs.Table.{row_at, table}
 use Rattle.wasm_types.specs.Module.{Module}
+use Rattle.wasm_types.specs.declared.types.PrimitiveTypeInfo.{PrimitiveTypeInfo}
 use Rattle.wasm_types.specs.declared.types.PrimitiveTypeInfo.TheVariants as primitive
 use Rattle.peephole_machine.specs.Values.{context_in}
 use Rattle.peephole_machine.specs.IntegerRow.{integer_row}
@@ -14,7 +17,8 @@ use Rattle.peephole_programs.specs.control.Standard.{Beyond}
 use Rattle.peephole_programs.specs.modules.Program.{Body}
 use Rattle.peephole_programs.specs.validation.Algorithm.{check}
 use Rattle.peephole_programs.specs.validation.StandardSteps.{body_frame, standard_steps}
-use Rattle.wrapped_code.specs.Nested.{opens_block, opens_bare, Nests, Unnests}
+use Rattle.wrapped_code.specs.Opened.{opens_bare, open_behind, open_before, TakesNothing}
+use Rattle.wrapped_code.specs.Nested.{Nests, Unnests}
 use Rattle.wrapped_code.proofs.Examples.{get, number, one_i32}
 
 -- ---- out of a loop
@@ -40,20 +44,10 @@ nests m input = record {
   params_are = refl;
   locals_are = refl;
   unhandled = refl;
-  front = [];
+  front = op.Block type.Empty ∷ op.Loop type.Empty ∷ op.Instr get ∷ [];
   back = op.Br 0 ∷ op.End ∷ op.End ∷ op.End ∷ [];
-  openers = op.Block type.Empty ∷ op.Loop type.Empty ∷ [];
-  own = get ∷ [];
   label = 1;
-  openers_are = record {
-    outermost = op.Block type.Empty;
-    inner = op.Loop type.Empty ∷ [];
-    are = refl;
-    bare = refl;
-    inner_open =
-        All-cons (λ (o : Operator). opens_block o ≡ true) (op.Loop type.Empty) [] refl (All-nil (λ (o : Operator). opens_block o ≡ true));
-    label_is = refl;
-  };
+  bare = record { opener = op.Block type.Empty; is_open = refl; bare = refl };
   old_is = refl;
   new_is = refl;
 }
@@ -70,25 +64,74 @@ unnests m input = record {
   new_is = refl;
 }
 
+-- ---- by the definitions alone
+
+abbrev IsAccepted : (results : List PrimitiveTypeInfo) → List Operator → Module → Beyond → Type 0
+IsAccepted results os m beyond =
+    check (context_in m (primitive.I32 ∷ [])) (standard_steps m results (structural os) beyond) 0 os (body_frame results ∷ []) ≡ Some []
+
+-- ---- behind whole blocks
+
+-- block; loop; local.get 0; if; br 2; else; block of a number; i32.const 7; end; drop; end; local.get 0
+abbrev blocks : List Operator
+blocks =
+    op.Block type.Empty ∷ op.Loop type.Empty ∷ op.Instr get ∷ op.If type.Empty ∷ op.Br 2 ∷ op.Else ∷ op.Block one_i32 ∷ op.Instr (number 7) ∷ op.End ∷
+    op.Instr (record { row = 2; imm = imm.Nothing }) ∷ op.End ∷ op.Instr get ∷ []
+
+-- behind them the outer two are open, and before the first end all four
+open_there : open_behind blocks [] ≡ op.Loop type.Empty ∷ op.Block type.Empty ∷ []
+open_there = refl
+
+open_inside : open_before blocks 8 ≡ op.Block one_i32 ∷ op.If type.Empty ∷ op.Loop type.Empty ∷ op.Block type.Empty ∷ []
+open_inside = refl
+
+-- these; the branch; br 0; end; end; end
+abbrev waits_behind : List Operator → Body
+waits_behind branch = record {
+  params = primitive.I32 ∷ [];
+  locals = [];
+  operators = blocks ++ (branch ++ op.Br 0 ∷ op.End ∷ op.End ∷ op.End ∷ []);
+}
+
+nests_behind : (m : Module) (input : List ℕ) → Nests m input (waits_behind leaves) (waits_behind leaves_inside)
+nests_behind m input = record {
+  params_are = refl;
+  locals_are = refl;
+  unhandled = refl;
+  front = blocks;
+  back = op.Br 0 ∷ op.End ∷ op.End ∷ op.End ∷ [];
+  label = 1;
+  bare = record { opener = op.Block type.Empty; is_open = refl; bare = refl };
+  old_is = refl;
+  new_is = refl;
+}
+
+old_accepted : (m : Module) (beyond : Beyond) → IsAccepted [] (waits_behind leaves).operators m beyond
+unfolding integer_row row_at table
+old_accepted m beyond = refl
+
+new_accepted : (m : Module) (beyond : Beyond) → IsAccepted [] (waits_behind leaves_inside).operators m beyond
+unfolding integer_row row_at table
+new_accepted m beyond = refl
+
 -- ---- a label that takes a value
 
--- block of a number; i32.const 7; local.get 0; the branch; end; end
+-- block of a number; i32.const 7; local.get 0
+abbrev given : List Operator
+given = op.Block one_i32 ∷ op.Instr (number 7) ∷ op.Instr get ∷ []
+
+-- these; the branch; end; end
 abbrev gives : List Operator → List Operator
-gives branch = op.Block one_i32 ∷ op.Instr (number 7) ∷ op.Instr get ∷ (branch ++ op.End ∷ op.End ∷ [])
+gives branch = given ++ (branch ++ op.End ∷ op.End ∷ [])
 
 -- the number stands below the condition, where a conditional without parameters doesn't reach
-takes_one : opens_bare (op.Block one_i32) ≡ false
-takes_one = refl
+takes_one : TakesNothing given 0 → ⊥
+takes_one h = let e : false ≡ true = ap opens_bare (same_Some (op.Block one_i32) h.opener h.is_open) ∙ h.bare in absurd cc
 
-abbrev IsAccepted : List Operator → Module → Beyond → Type 0
-IsAccepted os m beyond =
-    check (context_in m (primitive.I32 ∷ [])) (standard_steps m (primitive.I32 ∷ []) (structural os) beyond) 0 os
-    (body_frame (primitive.I32 ∷ []) ∷ []) ≡ Some []
-
-accepted : (m : Module) (beyond : Beyond) → IsAccepted (gives (op.BrIf 0 ∷ [])) m beyond
+accepted : (m : Module) (beyond : Beyond) → IsAccepted (primitive.I32 ∷ []) (gives (op.BrIf 0 ∷ [])) m beyond
 unfolding integer_row row_at table
 accepted m beyond = refl
 
-refused : (m : Module) (beyond : Beyond) → IsAccepted (gives (op.If type.Empty ∷ op.Br 1 ∷ op.End ∷ [])) m beyond → ⊥
+refused : (m : Module) (beyond : Beyond) → IsAccepted (primitive.I32 ∷ []) (gives (op.If type.Empty ∷ op.Br 1 ∷ op.End ∷ [])) m beyond → ⊥
 unfolding integer_row row_at table
 refused m beyond e = absurd cc

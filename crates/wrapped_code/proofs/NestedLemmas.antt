@@ -1,16 +1,11 @@
 -- A function in which a branch under a condition was replaced by a conditional with a branch in it, or the other way round, does as it did.
-use Rattle.std.proofs.Common.{◌≡◌, ℕ, suc, true, List, [], ◌∷◌, ◌++◌, refl, sym, ap, ◌∙◌, subst, append_assoc}
-use Rattle.std.specs.Prelude.{map}
-use Rattle.wasm_code.specs.Instruction.{Instruction}
-use Rattle.wasm_code.specs.declared.immediate.BlockType.TheVariants.{Empty}
+use Rattle.std.proofs.Common.{◌≡◌, ℕ, true, List, [], ◌++◌, refl, sym, ap, ◌∙◌, subst}
 use Rattle.wasm_code.specs.declared.operator.Operator.{Operator}
-use Rattle.wasm_code.specs.declared.operator.Operator.TheVariants as op
 use Rattle.wasm_types.specs.Module.{Module}
 use Rattle.wasm_types.specs.declared.types.PrimitiveTypeInfo.{PrimitiveTypeInfo}
 use Rattle.peephole_programs.specs.control.Function.{structural, At, runs}
 use Rattle.peephole_programs.specs.control.Standard.{Beyond, by_asked}
 use Rattle.peephole_programs.specs.modules.Program.{context_for}
-use Rattle.peephole_programs.specs.validation.StandardSteps.{body_frame}
 use Rattle.peephole_programs.specs.validation.Sound.{HasTargets, HasDeeds, TargetsStay, DeedsStay}
 use Rattle.peephole_programs.specs.validation.StaysValid.{MoreGlobalsCheckAlike}
 use Rattle.wrapped_code.specs.Handlers.{none_handle}
@@ -19,8 +14,9 @@ use Rattle.wrapped_code.proofs.PlaceLemmas.{count}
 use Rattle.wrapped_code.proofs.HandlerLemmas.{NoHandler, no_handler}
 use Rattle.wrapped_code.proofs.BetweenLemmas.{no_handler_without, targets_with, targets_without, deeds_with, deeds_without}
 use Rattle.wrapped_code.proofs.AlikeLemmas.{ends_does}
+use Rattle.wrapped_code.proofs.OpenedLemmas.{front_bare}
 use Rattle.wrapped_code.proofs.NestedRunLemmas.{plain_part, nested_part, plain, nested, plain_is, nested_is, plain_control, nested_control, runs_meet, ends_nested, ends_plain}
-use Rattle.wrapped_code.proofs.NestedCheckLemmas.{front_bare, nested_valid, plain_valid}
+use Rattle.wrapped_code.proofs.NestedCheckLemmas.{nested_valid, plain_valid}
 
 module _ (m : Module) (front back : List Operator) (label : ℕ) where
   abbrev plain_body : List Operator
@@ -77,17 +73,13 @@ module _ (m : Module) (front back : List Operator) (label : ℕ) where
 pub branches_nest : MoreGlobalsCheckAlike → TargetsStay → DeedsStay → BranchesMayNest
 branches_nest more_law targets_stay deeds_stay m input old new w =
     let context = context_for m old in
-    let code = map (λ (i : Instruction). op.Instr i) w.own in
-    let front = w.front ++ (w.openers ++ code) in
+    let front = w.front in
     let label = w.label in
     let one = plain_body m front w.back label in
     let other = nested_body m front w.back label in
-    let in_front : (rest : List Operator) → w.front ++ (w.openers ++ (code ++ rest)) ≡ front ++ rest =
-    λ rest. ap (λ os. w.front ++ os) (sym (append_assoc w.openers code rest)) ∙ sym (append_assoc w.front (w.openers ++ code) rest) in
-    let old_is = w.old_is ∙ in_front (op.BrIf label ∷ w.back) in
-    let new_is = w.new_is ∙ in_front (op.If Empty ∷ op.Br (suc label) ∷ op.End ∷ w.back) in
-    let unhandled = plain_unhandled m front w.back label (ap none_handle (sym old_is) ∙ w.unhandled) in
-    ends_does targets_stay deeds_stay m input old new one other w.params_are w.locals_are old_is new_is (record {
+    let none = ap none_handle (sym w.old_is) ∙ w.unhandled in
+    let unhandled = plain_unhandled m front w.back label none in
+    ends_does targets_stay deeds_stay m input old new one other w.params_are w.locals_are w.old_is w.new_is (record {
       ends = λ results beyond fuel s typed.
           ends_nested front w.back label m results beyond unhandled
           (runs (plain_control front w.back label m results beyond unhandled) one fuel (At 0 [] [] s))
@@ -95,8 +87,8 @@ branches_nest more_law targets_stay deeds_stay m input old new w =
           (runs_meet front w.back label m results beyond unhandled fuel s);
       valid = λ results beyond.
           nested_valid more_law input context results beyond front w.back label
-          (front_bare context results (structural one) (by_asked (structural one) beyond) w.front w.openers w.own label w.openers_are
-          (plain_part label ++ structural w.back) (plain_is front w.back label) (body_frame results ∷ []));
+          (front_bare context results (structural one) (by_asked (structural one) beyond) (no_handler one none) front
+          (plain_part label ++ structural w.back) label (plain_is front w.back label) w.bare);
       targets = nested_targets m front w.back label;
       deeds = λ results beyond. nested_deeds m front w.back label beyond unhandled results;
     })

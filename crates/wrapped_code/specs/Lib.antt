@@ -7,4 +7,5 @@ pub mod Alike
 pub mod Conditions
 pub mod Indices
 pub mod Dead
+pub mod Opened
 pub mod Nested
