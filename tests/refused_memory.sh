@@ -11,7 +11,7 @@
 set -euo pipefail
 cd "$(dirname "$0")/.."
 
-calls="read_body get_dfg get_expr build_expr add expr2wasm build_function pretty_print trees_of rewrites_of_body reached_operators choose rewrite_body read_module with_body rewrite_module run"
+calls="read_body get_dfg get_expr build_expr add expr2wasm build_function pretty_print trees_of blocks_of rewrites_of_body reached_operators choose rewrite_body read_module with_body rewrite_module run"
 never=1000000
 
 work=$(mktemp -d)

@@ -1,9 +1,8 @@
 -- What the rules on branches in conditionals make may stand in the place of what stood there: a conditional with a branch in it for a branch under a condition,
 -- and the other way round.
-use Rattle.std.proofs.Common.{◌≡◌, ℕ, suc, ◌+◌, ◌≤◌, true, List, [], ◌∷◌, ◌++◌, map, take, drop, refl, sym, ap, subst, ◌∙◌, arith, append_assoc}
+use Rattle.std.proofs.Common.{◌≡◌, ℕ, suc, ◌+◌, ◌≤◌, true, List, [], ◌∷◌, ◌++◌, take, drop, refl, sym, ap, subst, ◌∙◌, arith}
 use Rattle.std.specs.Prelude.{slice_range}
 use Rattle.std.proofs.lemmas.List.{take-append-drop}
-use Rattle.wasm_code.specs.Instruction.{Instruction}
 use Rattle.wasm_code.specs.declared.immediate.BlockType.TheVariants.{Empty}
 use Rattle.wasm_code.specs.declared.operator.Operator.{Operator}
 use Rattle.wasm_code.specs.declared.operator.Operator.TheVariants as op
@@ -20,9 +19,6 @@ use Rattle.body_rewrites.proofs.StandsLemmas.{Operators}
 use Rattle.body_rewrites.proofs.ChangedLemmas.{three_parts}
 use Rattle.body_rewrites.proofs.FlowLemmas.{range_one, range_next, drop_one, behind_operator}
 use Rattle.body_rewrites.proofs.FlowStandLemmas.{FlowLaws, all_in}
-
-abbrev instr_of : Instruction → Operator
-instr_of i = op.Instr i
 
 module _ (context : Context) (operators : Operators) (at : ℕ) where
   abbrev os : List Operator
@@ -41,23 +37,14 @@ module _ (context : Context) (operators : Operators) (at : ℕ) where
     abbrev nesting : Change
     nesting = change_of at (record { start = at; made = made.InConditional label })
 
-    -- what stands before the operator, and others behind that
-    before : (others : List Operator) → take at os ++ others ≡ h.front ++ (h.openers ++ (map instr_of h.own ++ others))
-    before others =
-        ap (λ (l : List Operator). l ++ others) h.before
-        ∙ (append_assoc h.front (h.openers ++ map instr_of h.own) others
-        ∙ ap (λ (l : List Operator). h.front ++ l) (append_assoc h.openers (map instr_of h.own) others))
-
-    nests_is : os ≡ h.front ++ (h.openers ++ (map instr_of h.own ++ op.BrIf label ∷ rest))
-    nests_is =
-        sym (take-append-drop at os)
-        ∙ (ap (λ (l : List Operator). take at os ++ l) (drop_one os at (op.BrIf label) h.branch) ∙ before (op.BrIf label ∷ rest))
+    nests_is : os ≡ take at os ++ (op.BrIf label ∷ rest)
+    nests_is = sym (take-append-drop at os) ∙ ap (λ (l : List Operator). take at os ++ l) (drop_one os at (op.BrIf label) h.branch)
 
     outer_is : label + 1 ≡ suc label
     outer_is = omega arith
 
-    nested_is : (word : ℕ) → changed operators at nesting word ≡ h.front ++ (h.openers ++ (map instr_of h.own ++ (nested label ++ rest)))
-    nested_is word = ap (λ n. take at os ++ (op.If Empty ∷ op.Br n ∷ op.End ∷ rest)) outer_is ∙ before (nested label ++ rest)
+    nested_is : (word : ℕ) → changed operators at nesting word ≡ take at os ++ (nested label ++ rest)
+    nested_is word = ap (λ n. take at os ++ (op.If Empty ∷ op.Br n ∷ op.End ∷ rest)) outer_is
 
     nest_does : (word : ℕ) → none_handle os ≡ true → DoesAsBody context [] os (changed operators at nesting word)
     nest_does word none m input b same is =
@@ -65,12 +52,10 @@ module _ (context : Context) (operators : Operators) (at : ℕ) where
           params_are = refl;
           locals_are = refl;
           unhandled = subst (λ (l : List Operator). none_handle l ≡ true) is none;
-          front = h.front;
+          front = take at os;
           back = rest;
-          openers = h.openers;
-          own = h.own;
           label = label;
-          openers_are = h.openers_are;
+          bare = h.bare;
           old_is = sym is ∙ nests_is;
           new_is = nested_is word;
         })

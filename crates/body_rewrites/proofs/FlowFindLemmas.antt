@@ -18,6 +18,7 @@ use Rattle.body_rewrites.specs.declared.own.Made.TheVariants as made
 use Rattle.body_rewrites.specs.declared.trees.Tree.{Tree}
 use Rattle.body_rewrites.specs.Trees.{IsTree, HasTree}
 use Rattle.body_rewrites.specs.Open.{HasInstruction}
+use Rattle.body_rewrites.specs.Blocks.{HasRoom}
 use Rattle.body_rewrites.specs.Own.{AreLeaves, HasCondition, HasPlainLeave, IsAsked, IsChosen, IsDead, IsLeafAt, IsReadBefore, IsSelected, IsTested, Rewrites}
 use Rattle.body_rewrites.specs.OwnSites.{IsAskedBehind}
 use Rattle.body_rewrites.proofs.StandsLemmas.{Operators}
@@ -123,9 +124,10 @@ module _ (context : Context) (operators : Operators) where
   -- ---- what isn't found
 
   module _ (at : ℕ) where
-    pub no_select : ((start : ℕ) (v : ValType) (condition : ℕ) → IsSelected context operators start at v condition → ⊥) → (start : ℕ) (m : Made) →
+    pub no_select : ((start : ℕ) (v : ValType) (condition : ℕ) → HasRoom operators → IsSelected context operators start at v condition → ⊥) →
+        (start : ℕ) (m : Made) →
         Rewrites context operators SelectToIf start at m → ⊥
-    no_select none start (made.Conditional v condition) h = none start v condition h
+    no_select none start (made.Conditional v condition) (room, h) = none start v condition room h
     no_select none start m h = h
 
     pub no_choice : ((start : ℕ) → IsChosen context operators start at → ⊥) → (start : ℕ) (m : Made) → Rewrites context operators IfToSelect start at m → ⊥

@@ -104,9 +104,9 @@ own_inside context operators at TeeToSet start (made.SetAndGet n) (e, h) = has_i
 own_inside context operators at DropNop start made.Nothing (e, h) = has_inside operators at nop_code h
 own_inside context operators at SetToTee start (made.Tee n) (e, h, k) = has_inside operators at (get_local n) k
 own_inside context operators at (Accesses n) start (made.Access a w) f = access_inside context operators n start at a w f
-own_inside context operators at (Wraps w) start (made.Wrapped v t) (e, u, n, tree) = tree.inside
+own_inside context operators at (Wraps w) start (made.Wrapped v t) (e, room, u, n, tree) = tree.inside
 own_inside context operators at (Unwraps w) start (made.Inner from end) h = let l = h.inside in omega arith
-own_inside context operators at SelectToIf start (made.Conditional v condition) h = there_inside operators at _ h.selects
+own_inside context operators at SelectToIf start (made.Conditional v condition) (room, h) = there_inside operators at _ h.selects
 own_inside context operators at IfToSelect start made.Selected h = let l = h.inside in omega (arith, l)
 own_inside context operators at TestCondition start made.Tested h = h.tree.inside
 own_inside context operators at DropConditionTest start (made.Inner from end) (e, h) = there_inside operators at _ h.second
@@ -116,7 +116,7 @@ own_inside context operators at PutDead start made.Dead (e, h) = there_inside op
 own_inside context operators at DropDead start made.Nothing h = there_inside operators at _ h.dropped
 own_inside context operators at BoundIndex start (made.Bounded count) h = h.tree.inside
 own_inside context operators at DropIndexBound start (made.Inner from end) (e, h) = bound_inside context operators start at end h
-own_inside context operators at BrIfToIf start (made.InConditional label) (e, h) = there_inside operators at _ h.branch
+own_inside context operators at BrIfToIf start (made.InConditional label) (e, room, h) = there_inside operators at _ h.branch
 own_inside context operators at IfToBrIf start (made.BranchIf label) h = there_inside operators at _ h.closes
 own_inside context operators at own start m h = absurd h
 

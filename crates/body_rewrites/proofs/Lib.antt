@@ -1,6 +1,7 @@
 pub mod StandsLemmas
 pub mod OpenLemmas
 pub mod PassLemmas
+pub mod BlockLemmas
 pub mod AloneLemmas
 pub mod CutLemmas
 pub mod MatchingLemmas

@@ -78,9 +78,9 @@ own_inside context operators TeeToSet start at (made.SetAndGet n) (e, h) = instr
 own_inside context operators DropNop start at made.Nothing (e, h) = instruction_inside operators at _ h
 own_inside context operators SetToTee start at (made.Tee n) (e, h, g) = instruction_inside operators at _ g
 own_inside context operators (Accesses n) start at (made.Access a w) f = access_inside context operators n start at a w f
-own_inside context operators (Wraps w) start at (made.Wrapped v t) (e, u, n, tree) = tree.inside
+own_inside context operators (Wraps w) start at (made.Wrapped v t) (e, room, u, n, tree) = tree.inside
 own_inside context operators (Unwraps w) start at (made.Inner from end) h = let l = h.inside in omega arith
-own_inside context operators SelectToIf start at (made.Conditional v condition) h = there_inside operators at _ h.selects
+own_inside context operators SelectToIf start at (made.Conditional v condition) (room, h) = there_inside operators at _ h.selects
 own_inside context operators IfToSelect start at made.Selected h = let l = h.inside in omega (arith, l)
 own_inside context operators TestCondition start at made.Tested h = h.tree.inside
 own_inside context operators DropConditionTest start at (made.Inner from end) (e, h) = there_inside operators at _ h.second
@@ -90,7 +90,7 @@ own_inside context operators PutDead start at made.Dead (e, h) = there_inside op
 own_inside context operators DropDead start at made.Nothing h = there_inside operators at _ h.dropped
 own_inside context operators BoundIndex start at (made.Bounded count) h = h.tree.inside
 own_inside context operators DropIndexBound start at (made.Inner from end) (e, h) = bound_inside context operators start at end h
-own_inside context operators BrIfToIf start at (made.InConditional label) (e, h) = there_inside operators at _ h.branch
+own_inside context operators BrIfToIf start at (made.InConditional label) (e, room, h) = there_inside operators at _ h.branch
 own_inside context operators IfToBrIf start at (made.BranchIf label) h = there_inside operators at _ h.closes
 own_inside context operators own start at m r = absurd r
 

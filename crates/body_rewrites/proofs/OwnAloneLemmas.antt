@@ -260,7 +260,7 @@ module _ (context : Context) (operators : Operators) where
       let (e, x, y) = one_access context operators n s k at a b w v f g in
       (e, ap₂ (λ a w. made.Access a w) x y)
   one_site (Accesses n) s k at (made.Access a w) l r q = absurd q
-  one_site (Wraps w) s k at (made.Wrapped v t) (made.Wrapped x y) (e, u, n, a) (f, z, p, b) = (
+  one_site (Wraps w) s k at (made.Wrapped v t) (made.Wrapped x y) (e, room, u, n, a) (f, place, z, p, b) = (
     one_start context operators s k at u z a b,
     ap₂ (λ v t. made.Wrapped v t) (e ∙ sym f) (same_Some t y (sym n ∙ (ap wrapped_type (one_type s k at u z a b) ∙ p))),
   )
@@ -274,7 +274,7 @@ module _ (context : Context) (operators : Operators) where
       one_start context operators from other a.last a.type b.type a.tree (subst (λ n. IsTree context operators other n b.type) last b.tree) in
       (let x = a.begins in let y = b.begins in omega (arith, x, y, from_is), ap₂ (λ f e. made.Inner f e) from_is same)
   one_site (Unwraps w) s k at (made.Inner from end) l r q = absurd q
-  one_site SelectToIf s k at (made.Conditional v c) (made.Conditional w d) a b =
+  one_site SelectToIf s k at (made.Conditional v c) (made.Conditional w d) (room, a) (place, b) =
       let same = one_read c d at a.read b.read in
       let x = a.condition_is in
       let y = b.condition_is in
@@ -316,7 +316,7 @@ module _ (context : Context) (operators : Operators) where
   one_site BoundIndex s k at (made.Bounded n) l r q = absurd q
   one_site DropIndexBound s k at (made.Inner from end) (made.Inner other behind) (e, a) (f, b) = one_bound s k at from other end behind e f a b
   one_site DropIndexBound s k at (made.Inner from end) l r q = absurd q
-  one_site BrIfToIf s k at (made.InConditional n) (made.InConditional m) (e, a) (f, b) =
+  one_site BrIfToIf s k at (made.InConditional n) (made.InConditional m) (e, room, a) (f, place, b) =
       (e ∙ sym f, ap (λ n. made.InConditional n) (one_branch operators at n m a.branch b.branch))
   one_site BrIfToIf s k at (made.InConditional n) l r q = absurd q
   one_site IfToBrIf s k at (made.BranchIf n) (made.BranchIf m) a b =

@@ -48,9 +48,9 @@ module _ (context : Context) (operators : Operators) (at : ℕ) where
   within DropNop start made.Nothing (e, h) = inside operators at nop_code h
   within SetToTee start (made.Tee n) (e, h, g) = inside operators at (get_local n) g
   within (Accesses n) start (made.Access a w) f = access_inside context operators n start at a w f
-  within (Wraps w) start (made.Wrapped v t) (e, u, n, tree) = tree.inside
+  within (Wraps w) start (made.Wrapped v t) (e, room, u, n, tree) = tree.inside
   within (Unwraps w) start (made.Inner from end) h = let l = h.inside in omega arith
-  within SelectToIf start (made.Conditional v condition) h = there_inside operators at _ h.selects
+  within SelectToIf start (made.Conditional v condition) (room, h) = there_inside operators at _ h.selects
   within IfToSelect start made.Selected h = let l = h.inside in omega (arith, l)
   within TestCondition start made.Tested h = h.tree.inside
   within DropConditionTest start (made.Inner from end) (e, h) = there_inside operators at _ h.second
@@ -60,7 +60,7 @@ module _ (context : Context) (operators : Operators) (at : ℕ) where
   within DropDead start made.Nothing h = there_inside operators at _ h.dropped
   within BoundIndex start (made.Bounded count) h = h.tree.inside
   within DropIndexBound start (made.Inner from end) (e, h) = bound_inside context operators start at end h
-  within BrIfToIf start (made.InConditional label) (e, h) = there_inside operators at _ h.branch
+  within BrIfToIf start (made.InConditional label) (e, room, h) = there_inside operators at _ h.branch
   within IfToBrIf start (made.BranchIf label) h = there_inside operators at _ h.closes
   within own start m r = absurd r
 
@@ -96,7 +96,7 @@ side_fits Store row (With t n o) m h g = (constant_fits t n, (g, (h, tt)))
 
 module _ (formed : AccessesAreFormed) (context : Context) (operators : Operators) (at : ℕ) where
   label_fits : (own : Own) (start label : ℕ) → Rewrites context operators own start at (made.InConditional label) → label + 1 < 2 ^ 8
-  label_fits BrIfToIf start label (e, h) = h.fits
+  label_fits BrIfToIf start label (e, room, h) = h.fits
   label_fits own start label r = absurd r
 
   pub is_writable : (own : Own) (start : ℕ) (m : Made) → Rewrites context operators own start at m → IsWritable m

@@ -114,7 +114,7 @@ module _ (context : Context) (operators : Operators) (at : ℕ) where
       let count = new_count (right_code a w) in
       let size = side_size a.kind a.right.row a.right.conversion w in
       grows_so (conversion_size a.left.conversion) (conversion_size a.right.conversion) _ (at + 1 - start) (count ∙ size) (omega (arith, begins))
-  growth_at (Wraps w) start (made.Wrapped v t) (e, u, n, tree) word =
+  growth_at (Wraps w) start (made.Wrapped v t) (e, room, u, n, tree) word =
       let count = wrapped_count operators start at v t word (length_in operators start (at + 1) (omega (arith, tree.inside))) in
       let some = front_some v in
       omega (arith, count, some)
@@ -127,7 +127,7 @@ module _ (context : Context) (operators : Operators) (at : ℕ) where
       let inside = h.inside in
       let count = inner_count operators from end (omega (arith, last, ordered)) (omega (arith, ends, inside)) in
       (let l : length (pieces_operators (without_offsets operators) (Kept from end ∷ [])) < at + 1 - start = omega (arith, count, some, begins, ends, last, ordered) in l)
-  growth_at SelectToIf start (made.Conditional v condition) h word =
+  growth_at SelectToIf start (made.Conditional v condition) (room, h) word =
       let read = h.read.tree.ordered in
       let last = h.read.last_is in
       let begins = h.condition_is in
@@ -179,7 +179,7 @@ module _ (context : Context) (operators : Operators) (at : ℕ) where
       let inside = bound_inside context operators start at end h in
       let count = inner_count operators from end (omega (arith, last, ordered, e)) (omega (arith, place, inside)) in
       (let l : length (pieces_operators os (Kept from end ∷ [])) < at + 1 - start = omega (arith, count, place, last, ordered, e) in l)
-  growth_at BrIfToIf start (made.InConditional label) (e, h) word = (let l : at + 1 - start < 3 = omega (arith, e) in l)
+  growth_at BrIfToIf start (made.InConditional label) (e, room, h) word = (let l : at + 1 - start < 3 = omega (arith, e) in l)
   growth_at IfToBrIf start (made.BranchIf label) h word = let ends = h.ends in (let l : 1 < at + 1 - start = omega (arith, ends) in l)
   growth_at own start m r word = absurd r
 

@@ -246,7 +246,7 @@ module _ (laws : BesidesKeepCode) (wraps : WrapsAreRight) (wrapped : WrappedCode
       (stand_at laws context operators at own start m keeps r)
 
   may_stand : (own : Own) (start : ℕ) (m : Made) → Rewrites context operators own start at m → MadeStands start m
-  may_stand (Wraps w) start (made.Wrapped v t) (e, u, value, tree) = wrap_stands wraps context operators at wrapped v t u value start tree
+  may_stand (Wraps w) start (made.Wrapped v t) (e, room, u, value, tree) = wrap_stands wraps context operators at wrapped v t u value start tree
   may_stand (Unwraps w) start (made.Inner from end) h = unwrap_stands wraps context operators at unwrapped pushing w start from end h
   may_stand Unfold start m r = kept Unfold start m tt r
   may_stand ThroughGlobal start m r = kept ThroughGlobal start m tt r
@@ -257,7 +257,7 @@ module _ (laws : BesidesKeepCode) (wraps : WrapsAreRight) (wrapped : WrappedCode
   may_stand DropNop start m r = kept DropNop start m tt r
   may_stand SetToTee start m r = kept SetToTee start m tt r
   may_stand (Accesses n) start m r = kept (Accesses n) start m tt r
-  may_stand SelectToIf start (made.Conditional v condition) h = select_stands context operators at flow wrapped start condition v h
+  may_stand SelectToIf start (made.Conditional v condition) (room, h) = select_stands context operators at flow wrapped start condition v h
   may_stand IfToSelect start made.Selected h = choice_stands context operators at flow unwrapped pushing start h
   may_stand TestCondition start made.Tested h = test_stands context operators at flow start h
   may_stand DropConditionTest start (made.Inner from end) (e, h) = untest_stands context operators at flow start from end e h
@@ -267,7 +267,7 @@ module _ (laws : BesidesKeepCode) (wraps : WrapsAreRight) (wrapped : WrappedCode
   may_stand DropDead start made.Nothing h = gone_stands context operators at flow start h
   may_stand BoundIndex start (made.Bounded count) h = bound_stands context operators at flow start count h
   may_stand DropIndexBound start (made.Inner from end) (e, h) = unbound_stands context operators at flow start from end e h
-  may_stand BrIfToIf start (made.InConditional label) (e, h) = nest_stands context operators at flow label h start e
+  may_stand BrIfToIf start (made.InConditional label) (e, room, h) = nest_stands context operators at flow label h start e
   may_stand IfToBrIf start (made.BranchIf label) h = unnest_stands context operators at flow start label h
   may_stand own start m r = absurd r
 

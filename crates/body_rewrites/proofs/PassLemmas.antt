@@ -1,5 +1,5 @@
 -- The trees of the operators so far, operator by operator.
-use Rattle.std.proofs.Common.{◌≡◌, ℕ, zero, suc, ◌+◌, ◌⊎◌, inl, inr, List, [], ◌∷◌, ◌++◌, length, Option, Some, refl, sym, ap, ◌∙◌, subst, length-append}
+use Rattle.std.proofs.Common.{◌≡◌, ℕ, zero, suc, ◌+◌, List, [], ◌∷◌, ◌++◌, length, Option, Some, refl, sym, ap, ◌∙◌, subst, length-append}
 use Rattle.std.specs.Prelude.{slice_get}
 use Rattle.peephole_machine.specs.Values.{Context}
 use Rattle.body_rewrites.specs.declared.trees.Tree.{Tree}
@@ -14,25 +14,19 @@ none_before context operators = record { count = refl; each = λ k o e. absurd (
     no_item zero o e = cc
     no_item (suc k) o e = cc
 
-before_or_last : (list : List (Option Tree)) (o : Option Tree) (k : ℕ) (p : Option Tree) → slice_get (list ++ o ∷ []) k ≡ Some p →
-    (slice_get list k ≡ Some p) ⊎ ((k ≡ length list) × (o ≡ p))
-before_or_last [] o zero p e = inr (refl, cc)
-before_or_last [] o (suc k) p e = absurd cc
-before_or_last (q ∷ list) o zero p e = inl e
-before_or_last (q ∷ list) o (suc k) p e =
-    elim (before_or_last list o k p e) [
-      | inl a ↦ inl a
-      | inr a ↦ inr (ap suc a.0, a.1)
-    ]
+-- what holds of each item so far, and of one more behind them
+pub each_pushed : {X : Type 0} (holds : ℕ → X → Type 0) (list : List X) (x : X) → ((k : ℕ) (y : X) → slice_get list k ≡ Some y → holds k y) →
+    holds (length list) x → (k : ℕ) (y : X) → slice_get (list ++ x ∷ []) k ≡ Some y → holds k y
+each_pushed holds [] x each last zero y e = let same : x ≡ y = cc in subst (holds 0) same last
+each_pushed holds [] x each last (suc k) y e = absurd cc
+each_pushed holds (z ∷ list) x each last zero y e = each 0 y e
+each_pushed holds (z ∷ list) x each last (suc k) y e = each_pushed (λ k. holds (suc k)) list x (λ k. each (suc k)) last k y e
 
 pub one_more : (context : Context) (operators : Operators) (at : ℕ) (list : List (Option Tree)) (o : Option Tree) → AreTreesBefore context operators at list →
     IsTreeAt context operators at o → AreTreesBefore context operators (at + 1) (list ++ o ∷ [])
 one_more context operators at list o h t = record {
   count = length-append list (o ∷ []) ∙ ap (λ n. n + 1) h.count;
-  each = λ k p e. elim (before_or_last list o k p e) [
-    | inl a ↦ h.each k p a
-    | inr a ↦ subst (IsTreeAt context operators k) a.1 (subst (λ n. IsTreeAt context operators n o) (sym (a.0 ∙ h.count)) t)
-  ];
+  each = each_pushed (IsTreeAt context operators) list o h.each (subst (λ n. IsTreeAt context operators n o) (sym h.count) t);
 }
 
 pub all_trees : (context : Context) (operators : Operators) (at : ℕ) (list : List (Option Tree)) → AreTreesBefore context operators at list →

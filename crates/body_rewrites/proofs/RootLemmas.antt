@@ -153,11 +153,11 @@ module _ (context : Context) (operators : Operators) (at : ℕ) where
       subst (λ o. HasRoot context operators at (access_root o)) (sym f.listed)
       (side_ends a.kind a.left.row a.left.conversion start f.immediate (access_start context operators n start at a w f)
       (they_stand_from operators (left_code a f.immediate) start (at + 1) f.ends f.stands))
-  own_at (Wraps w) start (made.Wrapped v t) (e, u, n, tree) = (start, u, tree)
+  own_at (Wraps w) start (made.Wrapped v t) (e, room, u, n, tree) = (start, u, tree)
   own_at (Unwraps w) start (made.Inner from end) h =
       let none : class_told operators at ≡ 446 = ap class_in (ends_with_end operators w h.value end at h.ends h.behind) in
       (omega (arith, none), omega (arith, none))
-  own_at SelectToIf start (made.Conditional v condition) h = has_class (Classes 3 3) select_code h.selects (omega arith, omega arith)
+  own_at SelectToIf start (made.Conditional v condition) (room, h) = has_class (Classes 3 3) select_code h.selects (omega arith, omega arith)
   own_at IfToSelect start made.Selected h =
       let none : class_told operators at ≡ 446 =
       ap class_in (ap (slice_get (without_offsets operators)) (sym h.ends) ∙ (h.choice.closes.has ∙ ap (λ (o : Operator). Some o) h.choice.closes.is)) in
@@ -173,7 +173,7 @@ module _ (context : Context) (operators : Operators) (at : ℕ) where
   own_at BoundIndex start (made.Bounded count) h = (start, primitive.I32, h.tree)
   own_at DropIndexBound start (made.Inner from end) (e, h) =
       has_class (Classes 3 3) select_code (bound_selects context operators start at end h) (omega arith, omega arith)
-  own_at BrIfToIf start (made.InConditional label) (e, h) = let none = ap class_in h.branch in (omega (arith, none), omega (arith, none))
+  own_at BrIfToIf start (made.InConditional label) (e, room, h) = let none = ap class_in h.branch in (omega (arith, none), omega (arith, none))
   own_at IfToBrIf start (made.BranchIf label) h = let none = ap class_in h.closes in (omega (arith, none), omega (arith, none))
   own_at own start m h = absurd h
 

@@ -22,6 +22,7 @@ use Rattle.body_rewrites.specs.declared.own.Made.{Made}
 use Rattle.body_rewrites.specs.declared.own.Made.TheVariants as made
 use Rattle.body_rewrites.specs.declared.trees.Tree.{Tree}
 use Rattle.body_rewrites.specs.Trees.{IsTree, HasTree}
+use Rattle.body_rewrites.specs.Blocks.{HasRoom}
 use Rattle.body_rewrites.specs.Own.{IsWrapped, HasItem, HaveItems, Rewrites, item_piece, item_pieces}
 use Rattle.body_rewrites.specs.OwnSites.{IsConstantOperator, IsWrapRound}
 use Rattle.body_rewrites.proofs.StandsLemmas.{Operators}
@@ -41,13 +42,17 @@ not_none v e = absurd cc
 -- ---- what is put round
 
 module _ (context : Context) (operators : Operators) (w : Wrap) where
+  pub no_room : (at : ℕ) → (HasRoom operators → ⊥) → (start : ℕ) (m : Made) → Rewrites context operators (Wraps w) start at m → ⊥
+  no_room at none start (made.Wrapped v t) (e, room, u, n, tree) = none room
+  no_room at none start m r = r
+
   pub no_tree : (at : ℕ) → NoTree context operators at → (start : ℕ) (m : Made) → Rewrites context operators (Wraps w) start at m → ⊥
-  no_tree at none start (made.Wrapped v t) (e, u, n, tree) = none start u tree
+  no_tree at none start (made.Wrapped v t) (e, room, u, n, tree) = none start u tree
   no_tree at none start m r = r
 
   pub no_value : (at : ℕ) (tree : Tree) → HasTree context operators at tree → no_type ≡ value_of tree.gives → (start : ℕ) (m : Made) →
       Rewrites context operators (Wraps w) start at m → ⊥
-  no_value at tree has none start (made.Wrapped v t) (e, u, n, is) =
+  no_value at tree has none start (made.Wrapped v t) (e, room, u, n, is) =
       let same = one_type context operators tree.start start at tree.gives u has.is is in
       not_none t (none ∙ (ap value_of same ∙ n))
   no_value at tree has none start m r = r

@@ -1,4 +1,5 @@
 pub mod Trees
+pub mod Blocks
 pub mod Open
 pub mod Cutting
 pub mod Matching

@@ -6,7 +6,7 @@ use Rattle.wasm_code.specs.declared.immediate.Imm.{Imm}
 use Rattle.wasm_code.specs.declared.immediate.ValType.{ValType}
 use Rattle.wasm_code.specs.declared.operator.Operator.{Operator}
 use Rattle.wasm_code.specs.declared.immediate.BlockType.TheVariants.{Empty}
-use Rattle.wasm_code.specs.declared.operator.Operator.TheVariants.{Instr, If, End, Br, BrIf, BrTable}
+use Rattle.wasm_code.specs.declared.operator.Operator.TheVariants.{If, End, Br, BrIf, BrTable}
 use Rattle.wasm_types.specs.declared.types.PrimitiveTypeInfo.{PrimitiveTypeInfo}
 use Rattle.wasm_types.specs.declared.types.PrimitiveTypeInfo.TheVariants as primitive
 use Rattle.body_splices.specs.declared.piece.Piece.{Piece}
@@ -16,7 +16,7 @@ use Rattle.body_splices.specs.OwnBytes.{without_offsets}
 use Rattle.peephole_programs.specs.control.Standard.{asks_beyond}
 use Rattle.wrapped_code.specs.Conditions.{is_condition}
 use Rattle.wrapped_code.specs.Dead.{never_goes_on}
-use Rattle.wrapped_code.specs.Nested.{OpenBare}
+use Rattle.wrapped_code.specs.Opened.{TakesNothing}
 use Rattle.peephole_machine.specs.declared.integer.IntegerType.{IntegerType}
 use Rattle.peephole_machine.specs.declared.integer.IntegerType.TheVariants as integer
 use Rattle.peephole_machine.specs.declared.operation.Operation.{Operation}
@@ -44,6 +44,7 @@ use Rattle.body_rewrites.specs.declared.own.Made.TheVariants as made
 use Rattle.body_rewrites.specs.declared.own.Site.{Site}
 use Rattle.body_rewrites.specs.Trees.{Stands, IsTree}
 use Rattle.body_rewrites.specs.Open.{HasInstruction}
+use Rattle.body_rewrites.specs.Blocks.{HasRoom}
 use Rattle.body_rewrites.specs.Changes.{Change, MayStand}
 
 -- ---- what stands there
@@ -219,16 +220,11 @@ pub record IsBounded (context : Context) (operators : List (Operator × ℕ)) (s
 
 -- ---- branches in conditionals
 
--- A `br_if` to that label stands at `at`; before it, behind the openers of blocks, the outermost of which is that label's, instructions. A branch to that label
--- takes nothing, and it has one byte also where it is one further out.
+-- A `br_if` to that label stands at `at`. A branch there takes nothing to it, and it has one byte also where it is one further out.
 pub record IsBareBranch (operators : List (Operator × ℕ)) (at label : ℕ) : Type 0 where
   pub branch : slice_get (without_offsets operators) at ≡ Some (BrIf label)
   pub fits : label + 1 < 2 ^ 8
-  pub front : List Operator
-  pub openers : List Operator
-  pub own : List Instruction
-  pub before : take at (without_offsets operators) ≡ front ++ (openers ++ map (λ (i : Instruction). Instr i) own)
-  pub openers_are : OpenBare label openers
+  pub bare : TakesNothing (take at (without_offsets operators)) label
 
 -- From `start` on stand an `if` without results, a branch to the label around the one with that depth, and the end of the `if`, at `at`. Something stands
 -- behind it.
@@ -266,7 +262,8 @@ pub record IsDead (context : Context) (operators : List (Operator × ℕ)) (star
 
 -- ---- what is rewritten
 
--- From `start` on, up to the operator at `at`, stands what the rule rewrites; and that is what is made of it. A further global is the first one behind the
+-- From `start` on, up to the operator at `at`, stands what the rule rewrites; and that is what is made of it. What opens a block more is made where there is
+-- room for one. A further global is the first one behind the
 -- module's; where it has as many as indices count, there is none.
 abbrev pub Rewrites : Context → List (Operator × ℕ) → Own → (start at : ℕ) → Made → Type 0
 Rewrites context operators Unfold start at (made.Sum t n) = (start ≡ at) × HasConstant operators at t n
@@ -281,9 +278,9 @@ Rewrites context operators SetToTee start at (made.Tee n) =
     (start + 1 ≡ at) × HasInstruction operators start (set_local n) × HasInstruction operators at (get_local n)
 Rewrites context operators (own_rule.Access n) start at (made.Access a m) = IsAccessed context operators n start at a m
 Rewrites context operators (own_rule.Wrap w) start at (made.Wrapped v t) =
-    (v ≡ w) × (u : PrimitiveTypeInfo) × (value_of u ≡ Some t) × IsTree context operators start at u
+    (v ≡ w) × HasRoom operators × (u : PrimitiveTypeInfo) × (value_of u ≡ Some t) × IsTree context operators start at u
 Rewrites context operators (own_rule.Unwrap w) start at (made.Inner from end) = IsWrapped context operators w start at from end
-Rewrites context operators SelectToIf start at (made.Conditional v condition) = IsSelected context operators start at v condition
+Rewrites context operators SelectToIf start at (made.Conditional v condition) = HasRoom operators × IsSelected context operators start at v condition
 Rewrites context operators IfToSelect start at made.Selected = IsChosen context operators start at
 Rewrites context operators TestCondition start at made.Tested = IsAsked context operators start at
 Rewrites context operators DropConditionTest start at (made.Inner from end) = (from ≡ start) × IsTested context operators zero_code ne_code start at end
@@ -293,7 +290,7 @@ Rewrites context operators PutDead start at made.Dead = (start ≡ at) × HasPla
 Rewrites context operators DropDead start at made.Nothing = IsDead context operators start at
 Rewrites context operators BoundIndex start at (made.Bounded count) = IsIndex context operators start at count
 Rewrites context operators DropIndexBound start at (made.Inner from end) = (from ≡ start) × IsBounded context operators start at end
-Rewrites context operators BrIfToIf start at (made.InConditional label) = (start ≡ at) × IsBareBranch operators at label
+Rewrites context operators BrIfToIf start at (made.InConditional label) = (start ≡ at) × HasRoom operators × IsBareBranch operators at label
 Rewrites context operators IfToBrIf start at (made.BranchIf label) = IsNestedBranch operators start at label
 Rewrites context operators own start at m = ⊥
 

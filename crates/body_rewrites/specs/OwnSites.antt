@@ -1,5 +1,5 @@
 -- How rules beside the table are found and written in a body: for private functions (this project).
-use Rattle.std.specs.Prelude.{◌≡◌, ℕ, suc, ◌+◌, ◌^◌, ◌<◌, ◌≤◌, false, List, [], ◌∷◌, ◌++◌, length, map, ⊤, Option, Some, None, Bool, true, option_to_list, slice_get}
+use Rattle.std.specs.Prelude.{◌≡◌, ℕ, suc, ◌+◌, ◌^◌, ◌<◌, ◌≤◌, false, List, [], ◌∷◌, ◌++◌, length, map, ⊤, Option, Some, None, true, option_to_list, slice_get}
 use Rattle.wasm_code.specs.Instruction.{Instruction, IsInstruction}
 use Rattle.wasm_code.specs.declared.immediate.Imm.{Imm}
 use Rattle.wasm_code.specs.declared.immediate.Imm.TheVariants as imm
@@ -9,7 +9,7 @@ use Rattle.wasm_types.specs.declared.types.PrimitiveTypeInfo.{PrimitiveTypeInfo}
 use Rattle.wasm_types.specs.declared.types.PrimitiveTypeInfo.TheVariants as primitive
 use Rattle.body_splices.specs.declared.piece.Piece.{Piece}
 use Rattle.body_splices.specs.OwnBytes.{without_offsets}
-use Rattle.wrapped_code.specs.Nested.{opens_bare, opens_block}
+use Rattle.wrapped_code.specs.Opened.{opens_bare}
 use Rattle.peephole_machine.specs.declared.integer.IntegerType.{IntegerType}
 use Rattle.peephole_machine.specs.declared.integer.IntegerType.TheVariants as integer
 use Rattle.peephole_machine.specs.declared.operation.Operation.{Operation}
@@ -42,7 +42,7 @@ use Rattle.rewrite_rules.specs.declared.wrap.WrapItem.TheVariants.{Zero, NonZero
 use Rattle.rewrite_rules.specs.Wrap.{front_of, back_of, value_of}
 use Rattle.wasm_code.specs.declared.immediate.ValType.{ValType}
 use Rattle.body_rewrites.specs.declared.trees.Tree.{Tree}
-use Rattle.body_rewrites.specs.Trees.{Stands, IsTree}
+use Rattle.body_rewrites.specs.Trees.{IsTree}
 use Rattle.body_rewrites.specs.Own.{HasCondition, HasTable, HaveItems, IsFolded, IsReadBefore, Rewrites}
 
 -- ---- instructions
@@ -155,25 +155,11 @@ IsOuterBranch o label = (label < 2 ^ 8) × (o ≡ Br (suc label))
 abbrev pub HasOuterBranch : List (Operator × ℕ) → (at label : ℕ) → Type 0
 HasOuterBranch operators at label = (label < 2 ^ 8) × (slice_get (without_offsets operators) at ≡ Some (Br (suc label)))
 
--- From `first` on, up to the operator before that at `at`, stand instructions, and right before them stands none.
-pub record AreBehind (operators : List (Operator × ℕ)) (first at : ℕ) : Type 0 where
-  pub ordered : first ≤ at
-  pub own : List Instruction
-  pub stand : Stands operators first at own
-  pub no_more : (place : ℕ) (i : Instruction) → place + 1 ≡ first → ¬ (HasInstruction operators place i)
-
--- an operator that opens a block of that kind stands there
-pub record HasOpener (opens : Operator → Bool) (operators : List (Operator × ℕ)) (at : ℕ) : Type 0 where
+-- an operator stands there that opens a block to whose label a branch takes nothing
+pub record HasBareOpener (operators : List (Operator × ℕ)) (at : ℕ) : Type 0 where
   pub operator : Operator
   pub has : slice_get (without_offsets operators) at ≡ Some operator
-  pub is : opens operator ≡ true
-
--- Right before the operator stand openers of blocks, one in another, down from that of the label, to which a branch takes nothing.
-pub record OpenBefore (operators : List (Operator × ℕ)) (first label : ℕ) : Type 0 where
-  pub outermost : ℕ
-  pub ends : outermost + 1 + label ≡ first
-  pub bare : HasOpener opens_bare operators outermost
-  pub inner : (k : ℕ) → k < label → HasOpener opens_block operators (outermost + 1 + k)
+  pub is : opens_bare operator ≡ true
 
 -- ---- what is written
 

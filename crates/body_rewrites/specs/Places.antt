@@ -19,6 +19,7 @@ use Rattle.body_rewrites.specs.declared.places.Body.{Body}
 use Rattle.body_rewrites.specs.declared.places.Line.{Line}
 use Rattle.body_rewrites.specs.declared.places.Place.{Place}
 use Rattle.body_rewrites.specs.declared.trees.Tree.{Tree}
+use Rattle.body_rewrites.specs.Blocks.{AreBlocks}
 use Rattle.body_rewrites.specs.Trees.{tree_after, Stands, AreTrees}
 use Rattle.body_rewrites.specs.Cutting.{AreCut}
 use Rattle.body_rewrites.specs.Matching.{instructions, operators_in, operand_at, operand_code, slots_told, begin_of}
@@ -30,9 +31,14 @@ use Rattle.body_rewrites.specs.Operands.{has_hole}
 abbrev pub context_of : Body → Context
 context_of body = context_in body.info.now body.locals.now
 
--- the list of trees is that of its operators
-abbrev pub HasItsTrees : Body → Type 0
-HasItsTrees body = AreTrees (context_of body) body.operators.now body.trees.now
+-- the lists of trees and of blocks are those of its operators
+pub record AreListsOf (context : Context) (body : Body) : Type 0 where
+  pub trees : AreTrees context body.operators.now body.trees.now
+  pub blocks : AreBlocks body.operators.now body.blocks.now
+
+-- and under its own context
+abbrev pub HasItsLists : Body → Type 0
+HasItsLists body = AreListsOf (context_of body) body
 
 -- ---- lines
 

@@ -2,7 +2,7 @@
 ghost use Rattle.std.specs.Prelude.{◌≡◌, ◌↔◌, ◌<◌, ◌*◌, ◌%◌, [], length, slice_get, Some, IfOk, OnErr, IfNone, IfSome, IsTrue};
 ghost use Rattle.rand_core.specs.Stream.{next_u64};
 ghost use Rattle.rewrite_rules.specs.Names.{names};
-ghost use Rattle.body_rewrites.specs.Places.{context_of, HasItsTrees};
+ghost use Rattle.body_rewrites.specs.Places.{context_of, HasItsLists};
 ghost use Rattle.body_rewrites.specs.Rewrites.{asked_below};
 ghost use Rattle.body_rewrites.specs.Listing.{AreThose, IsWantedBy};
 ghost use Rattle.body_rewrites.specs.Choice.{after_word, Chooses, after_choice, IsBegun};
@@ -115,7 +115,7 @@ pub fn choose<R: Rng>(
     rules: &[Rule],
     wanted: &[Growth],
 ) -> Result<Option<Rewrite>, AllocError>
-    requires trees { HasItsTrees body.now }
+    requires lists { HasItsLists body.now }
     ensures chosen { IfOk result (λ o. IfSome o (λ r. Chooses (context_of body.now)
         (R.stream generator.old) rules.now wanted.now body.now.operators.now r)) }
     ensures after { IfOk result (λ o. IfSome o (λ r.

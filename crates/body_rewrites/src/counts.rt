@@ -5,7 +5,7 @@ ghost use Rattle.rewrite_rules.specs.Names.{names, rule_of};
 ghost use Rattle.rewrite_rules.specs.Rule.{rule_number};
 ghost use Rattle.rewrite_rules.specs.Table.{ROWS};
 ghost use Rattle.body_rewrites.specs.declared.rewrite.Rewrite.{Rewrite};
-ghost use Rattle.body_rewrites.specs.Places.{context_of, HasItsTrees};
+ghost use Rattle.body_rewrites.specs.Places.{context_of, HasItsLists};
 ghost use Rattle.body_rewrites.specs.Rewrites.{asked_below, by_rows};
 ghost use Rattle.body_rewrites.specs.Asking.{all_asked, rewrite_of, rewrites_of, AreAsked, IsAskedSo, IsHere};
 ghost use Rattle.body_rewrites.specs.Listing.{AreThose, AreRules, HasGrowth};
@@ -74,7 +74,7 @@ fn count_one(rows: &[u16], found: Found, counts: &mut [u128])
 
 // Counts what the line makes at the operator.
 fn count_line(body: &Body<'_>, rows: &[u16], asked: &Asked, here: Here, counts: &mut [u128])
-    requires trees { HasItsTrees body.now }
+    requires lists { HasItsLists body.now }
     requires rules { AreRules rows.now }
     requires asked { IsAskedSo asked.now }
     requires here { IsHere (context_of body.now) body.now.operators.now here }
@@ -90,7 +90,7 @@ fn count_line(body: &Body<'_>, rows: &[u16], asked: &Asked, here: Here, counts: 
 
 // Counts what the lines make at the operator.
 fn count_lines(body: &Body<'_>, rows: &[u16], lines: &[Asked], here: Here, counts: &mut [u128])
-    requires trees { HasItsTrees body.now }
+    requires lists { HasItsLists body.now }
     requires rules { AreRules rows.now }
     requires lines { AreAsked lines.now }
     requires here { IsHere (context_of body.now) body.now.operators.now here }
@@ -137,7 +137,7 @@ fn count_alone(body: &Body<'_>, counter: &Counter, at: usize, counts: &mut [u128
 
 // Counts all rewrites of the operator.
 fn count_at(body: &Body<'_>, counter: &Counter, at: usize, counts: &mut [u128])
-    requires trees { HasItsTrees body.now }
+    requires lists { HasItsLists body.now }
     requires laid { AreFor (context_of body.now) body.now.operators.now counter.now }
     requires inside { at < length body.now.operators.now }
     requires room { HaveRoom 131072 counts.old }
@@ -160,7 +160,7 @@ fn count_at(body: &Body<'_>, counter: &Counter, at: usize, counts: &mut [u128])
 
 // Counts all rewrites of the body.
 fn count_body(body: &Body<'_>, counter: &Counter, counts: &mut [u128])
-    requires trees { HasItsTrees body.now }
+    requires lists { HasItsLists body.now }
     requires laid { AreFor (context_of body.now) body.now.operators.now counter.now }
     requires counts { AreCounts (context_of body.now) body.now.operators.now 0 counts.old }
     ensures { AreCounts (context_of body.now) body.now.operators.now
@@ -208,7 +208,7 @@ pub(crate) fn counts_of_body(
     body: &Body<'_>,
     counter: &Counter,
 ) -> Result<Vec<u128>, AllocError>
-    requires trees { HasItsTrees body.now }
+    requires lists { HasItsLists body.now }
     requires laid { AreFor (context_of body.now) body.now.operators.now counter.now }
     ensures { IfOk result (λ counts. AreCounts (context_of body.now) body.now.operators.now
         (length body.now.operators.now) counts.items) }
@@ -263,7 +263,7 @@ fn lines_of(alloc: Global, counter: &Counter, rule: Rule) -> Result<Vec<Asked>, 
 
 // Whether the line makes something at the operator that does that to the number of operators.
 fn makes(body: &Body<'_>, asked: &Asked, here: Here, growth: Growth) -> bool
-    requires trees { HasItsTrees body.now }
+    requires lists { HasItsLists body.now }
     requires asked { IsAskedSo asked.now }
     requires here { IsHere (context_of body.now) body.now.operators.now here }
     ensures same { IsTrue result → HasGrowth (context_of body.now) body.now.operators.now
@@ -286,7 +286,7 @@ fn rewrites_here(
     here: Here,
     growth: Growth,
 ) -> Result<Vec<Rewrite>, AllocError>
-    requires trees { HasItsTrees body.now }
+    requires lists { HasItsLists body.now }
     requires lines { AreAsked lines.now }
     requires here { IsHere (context_of body.now) body.now.operators.now here }
     ensures { IfOk result (λ list. AreThose
@@ -322,7 +322,7 @@ fn find_rewrite(
     growth: Growth,
     number: u128,
 ) -> Result<Option<Rewrite>, AllocError>
-    requires trees { HasItsTrees body.now }
+    requires lists { HasItsLists body.now }
     requires lines { AreAsked lines.now }
     ensures some { IfOk result (λ o. IfSome o (λ r. (those : List Rewrite)
         → AreThose (HasGrowth (context_of body.now) body.now.operators.now growth)
@@ -353,7 +353,7 @@ pub(crate) fn rewrite_with_number(
     rule: Rule,
     number: u128,
 ) -> Result<Option<Rewrite>, AllocError>
-    requires trees { HasItsTrees body.now }
+    requires lists { HasItsLists body.now }
     ensures some { IfOk result (λ o. IfSome o (λ r. (those : List Rewrite)
         → AreThose (IsOf (context_of body.now) body.now.operators.now growth rule)
         (asked_below (length body.now.operators.now)) those

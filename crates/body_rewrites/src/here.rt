@@ -1,6 +1,6 @@
 //! An operator of a body, as lines are asked for it.
 ghost use Rattle.std.specs.Prelude.{◌<◌, ◌≤◌, ◌≡◌, length};
-ghost use Rattle.body_rewrites.specs.Places.{context_of, HasItsTrees};
+ghost use Rattle.body_rewrites.specs.Places.{context_of, HasItsLists};
 ghost use Rattle.body_rewrites.specs.Asking.{IsHere};
 
 use crate::cutting::has_tree;
@@ -17,7 +17,7 @@ pub(crate) struct Here {
 
 /// The operator with the index.
 pub(crate) fn here_at(body: &Body<'_>, at: usize) -> Here
-    requires trees { HasItsTrees body.now }
+    requires lists { HasItsLists body.now }
     requires inside { at < length body.now.operators.now }
     ensures is { IsHere (context_of body.now) body.now.operators.now result }
     ensures at { result.at ≡ at }

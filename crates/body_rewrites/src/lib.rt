@@ -3,6 +3,7 @@
 
 mod alone;
 mod asked;
+mod blocks;
 mod changes;
 mod choice;
 mod counter;
@@ -33,6 +34,7 @@ mod roots;
 mod trees;
 mod writing;
 
+pub use blocks::{Blocks, blocks_of};
 pub use changes::NewCode;
 pub use choice::choose;
 pub use growth::Growth;

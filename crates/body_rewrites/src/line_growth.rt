@@ -2,7 +2,7 @@
 ghost use Rattle.std.specs.Prelude.{◌≡◌, ◌<◌, length, slice_range, IfSome, IfNone};
 ghost use Rattle.body_rewrites.specs.Asking.{IsAskedSo, IsHere};
 ghost use Rattle.body_rewrites.specs.Listing.{LineGrows};
-ghost use Rattle.body_rewrites.specs.Places.{context_of, HasItsTrees, IsLine};
+ghost use Rattle.body_rewrites.specs.Places.{context_of, HasItsLists, IsLine};
 ghost use Rattle.body_splices.specs.OwnBytes.{without_offsets};
 ghost use Rattle.rewrite_rules.specs.Table.{parts_for};
 ghost use Rattle.body_rewrites.specs.Rewrites.{MakesNothing, growth_by};
@@ -84,7 +84,7 @@ fn side_growth(
 
 // What a line that is none of the others does.
 fn other_growth(body: &Body<'_>, line: &Line, at: usize) -> Option<Growth>
-    requires trees { HasItsTrees body.now }
+    requires lists { HasItsLists body.now }
     requires line { IsLine line.now }
     requires inside { at < length body.now.operators.now }
     ensures some { IfSome result (λ growth.
@@ -109,7 +109,7 @@ fn other_growth(body: &Body<'_>, line: &Line, at: usize) -> Option<Growth>
 
 // What the line does to the number of operators at the operator; none where it makes nothing there.
 fn line_growth(body: &Body<'_>, asked: &Asked, at: usize) -> Option<Growth>
-    requires trees { HasItsTrees body.now }
+    requires lists { HasItsLists body.now }
     requires asked { IsAskedSo asked.now }
     requires inside { at < length body.now.operators.now }
     ensures some { IfSome result (λ growth.
@@ -132,7 +132,7 @@ fn line_growth(body: &Body<'_>, asked: &Asked, at: usize) -> Option<Growth>
 
 /// What the line does to the number of operators at the operator; none where it makes nothing there.
 pub(crate) fn growth_here(body: &Body<'_>, asked: &Asked, here: Here) -> Option<Growth>
-    requires trees { HasItsTrees body.now }
+    requires lists { HasItsLists body.now }
     requires asked { IsAskedSo asked.now }
     requires here { IsHere (context_of body.now) body.now.operators.now here }
     ensures some { IfSome result (λ growth. LineGrows

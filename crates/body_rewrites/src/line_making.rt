@@ -1,6 +1,6 @@
 //! What a line of the table makes of an operator.
 ghost use Rattle.std.specs.Prelude.{◌↔◌, ◌<◌, length, IfSome, IfNone, IsTrue};
-ghost use Rattle.body_rewrites.specs.Places.{context_of, HasItsTrees, IsLine, IsPlaceOf};
+ghost use Rattle.body_rewrites.specs.Places.{context_of, HasItsLists, IsLine, IsPlaceOf};
 ghost use Rattle.body_rewrites.specs.Rewrites.{Differ};
 ghost use Rattle.body_rewrites.specs.Writing.{by_line};
 ghost use Rattle.body_rewrites.specs.LineMaking.{IsLineCodeOf, LineMakesNothing};
@@ -12,7 +12,7 @@ use crate::writing::line_code;
 
 /// Whether the line writes other operators in its place, which ends before `end`, than stand there.
 pub(crate) fn changes(body: &Body<'_>, line: &Line, end: usize, place: &Place) -> bool
-    requires trees { HasItsTrees body.now }
+    requires lists { HasItsLists body.now }
     requires line { IsLine line.now }
     requires place { IsPlaceOf
         (context_of body.now) body.now.operators.now line.now end place.now }
@@ -25,7 +25,7 @@ pub(crate) fn changes(body: &Body<'_>, line: &Line, end: usize, place: &Place) -
 
 // What the line makes at the operator, by the word; none where it makes nothing.
 pub(crate) fn line_made(body: &Body<'_>, line: &Line, at: usize, word: u64) -> Option<NewCode>
-    requires trees { HasItsTrees body.now }
+    requires lists { HasItsLists body.now }
     requires line { IsLine line.now }
     requires inside { at < length body.now.operators.now }
     ensures some { IfSome result (λ code. IsLineCodeOf body.now line.now at word code) }

@@ -1,7 +1,7 @@
 //! Every rewrite that there is of a body.
 ghost use Rattle.std.specs.Prelude.{◌≡◌, ◌<◌, ◌++◌, [], ◌∷◌, length, IfOk, OnOk};
 ghost use Rattle.rewrite_rules.specs.Table.{ROWS};
-ghost use Rattle.body_rewrites.specs.Places.{context_of, HasItsTrees};
+ghost use Rattle.body_rewrites.specs.Places.{context_of, HasItsLists};
 ghost use Rattle.body_rewrites.specs.Rewrites.{by_rows, asked_below};
 ghost use Rattle.body_rewrites.specs.Asking.{ready_lines, rewrite_of, IsAskedSo, IsHere};
 ghost use Rattle.body_rewrites.specs.Listing.{AreThose, IsWantedBy, AreFound, AddsFound, passing, has_number, is_by, is_wanted};
@@ -21,7 +21,7 @@ use std::alloc::{AllocError, Global};
 
 // Adds what the line makes at the operator. Most lines fit none, and that is seen at once.
 fn ask(body: &Body<'_>, asked: &Asked, here: Here, list: &mut Vec<Found>) -> Result<(), AllocError>
-    requires trees { HasItsTrees body.now }
+    requires lists { HasItsLists body.now }
     requires asked { IsAskedSo asked.now }
     requires here { IsHere (context_of body.now) body.now.operators.now here }
     ensures { OnOk result (AddsFound (context_of body.now) body.now.operators.now
@@ -50,7 +50,7 @@ pub(crate) fn rewrites_at(
     lines: &[Asked],
     at: usize,
 ) -> Result<Vec<Found>, AllocError>
-    requires trees { HasItsTrees body.now }
+    requires lists { HasItsLists body.now }
     requires lines { lines.now ≡ ready_lines (context_of body.now).info.exact }
     requires inside { at < length body.now.operators.now }
     ensures { IfOk result (λ list. AreFound (context_of body.now) body.now.operators.now
@@ -130,7 +130,7 @@ pub fn rewrites_of_body(
     rules: &[Rule],
     wanted: &[Growth],
 ) -> Result<Vec<Rewrite>, AllocError>
-    requires trees { HasItsTrees body.now }
+    requires lists { HasItsLists body.now }
     ensures { IfOk result (λ list. AreThose
         (IsWantedBy (context_of body.now) body.now.operators.now rules.now wanted.now)
         (asked_below (length body.now.operators.now)) list.items) }

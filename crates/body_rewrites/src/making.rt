@@ -1,6 +1,6 @@
 //! What a row of the table makes of an operator.
 ghost use Rattle.std.specs.Prelude.{◌<◌, length, IfSome, IfNone};
-ghost use Rattle.body_rewrites.specs.Places.{HasItsTrees};
+ghost use Rattle.body_rewrites.specs.Places.{HasItsLists};
 ghost use Rattle.body_rewrites.specs.Rewrites.{HasLine, IsCodeOf, MakesNothing};
 
 use crate::changes::NewCode;
@@ -11,7 +11,7 @@ use rewrite_rules::Widths;
 
 /// What the line makes at the operator, by the word; none where it makes nothing.
 pub fn made(body: &Body<'_>, line: &Line, at: usize, word: u64) -> Option<NewCode>
-    requires trees { HasItsTrees body.now }
+    requires lists { HasItsLists body.now }
     requires line { HasLine line.now }
     requires inside { at < length body.now.operators.now }
     ensures some { IfSome result (λ code. IsCodeOf body.now line.now at word code) }

@@ -6,8 +6,9 @@ ghost use Rattle.rewrite_rules.specs.declared.pattern.Part.{Part};
 ghost use Rattle.body_rewrites.specs.Trees.{AreTrees};
 ghost use Rattle.body_rewrites.specs.Cutting.{AreCut};
 ghost use Rattle.body_rewrites.specs.Matching.{begin_of};
-ghost use Rattle.body_rewrites.specs.Places.{context_of, HasItsTrees, IsLine, IsPlaceOf, HasSomePlace, meant, operands_told, type_told, effects_told, AreKnown};
+ghost use Rattle.body_rewrites.specs.Places.{context_of, HasItsLists, IsLine, IsPlaceOf, HasSomePlace, meant, operands_told, type_told, effects_told, AreKnown};
 
+use crate::blocks::Blocks;
 use crate::laws::lefts_are_instances;
 use crate::matching::{find, operand, operand_at};
 use crate::parts::Parts;
@@ -36,13 +37,15 @@ pub struct Place {
     pub numbers: [u64; 2],
 }
 
-/// A body: the module, the types of the function's parameters and locals, the operators, and their trees (see `trees_of`).
+/// A body: the module, the types of the function's parameters and locals, the operators, their trees (see `trees_of`), and the
+/// blocks (see `blocks_of`).
 #[derive(Clone, Copy)]
 pub struct Body<'a> {
     pub info: &'a ModuleInfo<'a>,
     pub locals: &'a [PrimitiveTypeInfo],
     pub operators: &'a [OperatorAndByteOffset],
     pub trees: &'a [Option<Tree>],
+    pub blocks: &'a Blocks,
 }
 
 // What is known of the operands in the holes.
@@ -132,7 +135,7 @@ pub(crate) fn is_exact(body: &Body<'_>) -> bool
 ///
 /// It takes time linear in what stands in a hole that stands twice, and else none that depends on the body.
 pub fn place_of(body: &Body<'_>, line: &Line, end: usize) -> Option<Place>
-    requires trees { HasItsTrees body.now }
+    requires lists { HasItsLists body.now }
     requires line { IsLine line.now }
     requires inside { end ≤ length body.now.operators.now }
     ensures some { IfSome result (λ place.

@@ -1,7 +1,7 @@
 //! A body with a rewrite that words of a generator choose.
 ghost use Rattle.std.specs.Prelude.{◌≡◌, IfOk, IfNone, IfSome, OnErr};
 ghost use Rattle.body_splices.specs.OwnBytes.{IsBodyIn};
-ghost use Rattle.body_rewrites.specs.Places.{context_of, HasItsTrees};
+ghost use Rattle.body_rewrites.specs.Places.{context_of, HasItsLists};
 ghost use Rattle.body_rewrites.specs.Random.{AppendsByWords, HasNoRewrite};
 
 use crate::choice::choose;
@@ -36,7 +36,7 @@ pub fn rewrite_at_random<R: Rng>(
     wanted: &[Growth],
     newfunc: &mut Function,
 ) -> Result<Option<Rewritten>, SinkError>
-    requires trees { HasItsTrees body.now }
+    requires lists { HasItsLists body.now }
     requires body { IsBodyIn input_wasm.now body.now.operators.now }
     ensures rewritten { IfOk result (λ o. IfSome o (λ made. AppendsByWords
         (context_of body.now) (R.stream generator.old) rules.now wanted.now input_wasm.now

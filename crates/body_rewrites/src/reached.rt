@@ -1,6 +1,6 @@
 //! Which operators of a body rules reach.
 ghost use Rattle.std.specs.Prelude.{◌≡◌, IfOk};
-ghost use Rattle.body_rewrites.specs.Places.{context_of, HasItsTrees};
+ghost use Rattle.body_rewrites.specs.Places.{context_of, HasItsLists};
 ghost use Rattle.body_rewrites.specs.Reached.{AreReached, has_wanted};
 
 use crate::asked::ready_lines;
@@ -34,7 +34,7 @@ pub fn reached_operators(
     rules: &[Rule],
     wanted: &[Growth],
 ) -> Result<Vec<bool>, AllocError>
-    requires trees { HasItsTrees body.now }
+    requires lists { HasItsLists body.now }
     ensures { IfOk result (λ marks.
         AreReached (context_of body.now) body.now.operators.now rules.now wanted.now marks.items) }
 {

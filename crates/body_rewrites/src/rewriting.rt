@@ -4,7 +4,7 @@ ghost use Rattle.body_splices.specs.OwnBytes.{IsBodyIn};
 ghost use Rattle.body_rewrites.specs.Changed.{AppendsChanged};
 ghost use Rattle.body_rewrites.specs.Changes.{Change, IsWritten, MayStand};
 ghost use Rattle.body_rewrites.specs.MadeLaws.{HasChange};
-ghost use Rattle.body_rewrites.specs.Places.{context_of, HasItsTrees};
+ghost use Rattle.body_rewrites.specs.Places.{context_of, HasItsLists};
 ghost use Rattle.body_rewrites.specs.Rewrites.{AppendsRewritten, asked_widths, HasWidth, IsLineOf, IsMade};
 
 use crate::changes::NewCode;
@@ -100,7 +100,7 @@ pub fn rewrite_body(
     word: u64,
     newfunc: &mut Function,
 ) -> Result<Option<Vec<PrimitiveTypeInfo>>, SinkError>
-    requires trees { HasItsTrees body.now }
+    requires lists { HasItsLists body.now }
     requires body { IsBodyIn input_wasm.now body.now.operators.now }
     ensures rewritten { IfOk result (λ o. IfSome o (λ asks.
         AppendsRewritten (context_of body.now) input_wasm.now body.now.operators.now rewrite word

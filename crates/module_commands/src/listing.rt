@@ -17,7 +17,7 @@ use crate::functions::module_of;
 use crate::names::RowNames;
 use crate::objects::write_value;
 use crate::options::Options;
-use body_rewrites::{Body, Rewrite, rewrites_of_body, trees_of};
+use body_rewrites::{Body, Rewrite, blocks_of, rewrites_of_body, trees_of};
 use module_rewrites::{FunctionBody, Scope, chosen_entries, index_of, read_function};
 use serde_json::{Value, json};
 use std::alloc::{AllocError, Global};
@@ -114,11 +114,13 @@ fn rewrites_of(
     let locals = function.locals.as_slice();
     let operators = function.operators.as_slice();
     let trees = trees_of(alloc, locals, info, operators)?;
+    let blocks = blocks_of(alloc, operators)?;
     let body = Body {
         info,
         locals,
         operators,
         trees: &trees,
+        blocks: &blocks,
     };
     rewrites_of_body(alloc, &body, scope.rules(), scope.wanted())
 }

@@ -11,7 +11,7 @@ ghost use Rattle.wasm_module.specs.Module.{IsModule};
 use crate::blocks::{block_ending, delimits};
 use crate::failure::Failure;
 use crate::families::{Family, family_of, same_family};
-use body_rewrites::{Body, reached_operators, trees_of};
+use body_rewrites::{Body, blocks_of, reached_operators, trees_of};
 use module_rewrites::{Scope, read_function};
 use std::alloc::Global;
 use wasm_code::OperatorAndByteOffset;
@@ -207,11 +207,13 @@ fn reach_of_body(
     ensures fails { IfErr result (λ e. e ≡ Memory) }
 {
     let trees = trees_of(alloc, locals, info, operators)?;
+    let blocks = blocks_of(alloc, operators)?;
     let body = Body {
         info,
         locals,
         operators,
         trees: &trees,
+        blocks: &blocks,
     };
     let marks = reached_operators(alloc, &body, scope.rules(), scope.wanted())?;
     Ok(reach_of_marked(operators, &marks))

@@ -15,7 +15,7 @@ use crate::drawing::draw_entry;
 use crate::function::{FunctionBody, entry_at, function_index, read_function};
 use crate::scope::Scope;
 use crate::size::refusal;
-use body_rewrites::{Body, Rewrite, Rewritten, rewrite_at_random, trees_of};
+use body_rewrites::{Body, Rewrite, Rewritten, blocks_of, rewrite_at_random, trees_of};
 use body_splices::laws::own_bytes_stay;
 use rand_core::Rng;
 use std::alloc::{AllocError, Global};
@@ -169,11 +169,13 @@ fn rewrite_function<R: Rng>(
     let locals = function.locals.as_slice();
     let operators = function.operators.as_slice();
     let trees = trees_of(alloc, locals, info, operators)?;
+    let blocks = blocks_of(alloc, operators)?;
     let body = Body {
         info,
         locals,
         operators,
         trees: &trees,
+        blocks: &blocks,
     };
     let (rules, wanted) = (scope.rules(), scope.wanted());
     match rewrite_at_random(alloc, generator, &body, bytes, rules, wanted, sink) {

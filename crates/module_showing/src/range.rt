@@ -1,8 +1,17 @@
 //! Which operators of two bodies are shown.
 
 use crate::drawing::beginning;
-use body_rewrites::Body;
+use body_rewrites::Tree;
 use wasm_code::OperatorAndByteOffset;
+use wasm_types::ModuleInfo;
+
+/// The operators of a body of the module, and their trees.
+#[derive(Clone, Copy)]
+pub(crate) struct Drawn<'a> {
+    pub info: &'a ModuleInfo<'a>,
+    pub operators: &'a [OperatorAndByteOffset],
+    pub trees: &'a [Option<Tree>],
+}
 
 /// The operators of two bodies from `start` on, but for the last ones, `behind` of each, which are those behind the operator.
 #[derive(Clone, Copy, Debug, PartialEq, Eq)]
@@ -22,7 +31,7 @@ impl Range {
     }
 
     // From the first operator of it that differs in the bodies, or else from the one with that index.
-    fn from_difference(self, old: &Body<'_>, new: &Body<'_>, at: usize) -> Option<Range> {
+    fn from_difference(self, old: &Drawn<'_>, new: &Drawn<'_>, at: usize) -> Option<Range> {
         let left = self.of(old.operators)?;
         let right = self.of(new.operators)?;
         let count = left.len().min(right.len()).min(at);
@@ -41,7 +50,7 @@ impl Range {
     }
 
     // The same with the operands of each of its operators in the body.
-    fn with_operands(self, body: &Body<'_>) -> Range {
+    fn with_operands(self, body: &Drawn<'_>) -> Range {
         let mut start = self.start;
         let end = body.operators.len().saturating_sub(self.behind);
         for at in self.start..end {
@@ -56,7 +65,7 @@ impl Range {
 
 /// The operators up to the one with that index in the old body from the first one on that differs, with the operands of each; none
 /// where there is no such operator.
-pub(crate) fn range_of(old: &Body<'_>, new: &Body<'_>, at: usize) -> Option<Range> {
+pub(crate) fn range_of(old: &Drawn<'_>, new: &Drawn<'_>, at: usize) -> Option<Range> {
     let behind = old.operators.len().checked_sub(at)?.checked_sub(1)?;
     let whole = Range { start: 0, behind };
     let changed = whole.from_difference(old, new, at)?;

@@ -7,9 +7,9 @@ ghost use Rattle.wasm_sections.specs.Section.{SpellsModule};
 
 use crate::drawing::add_drawn;
 use crate::error::ShowError;
-use crate::range::range_of;
+use crate::range::{Drawn, range_of};
 use crate::reading::{function_of, module_of};
-use body_rewrites::{Body, trees_of};
+use body_rewrites::trees_of;
 use module_rewrites::{FunctionBody, MadeRewrite};
 use rewrite_rules::Rule;
 use std::alloc::Global;
@@ -107,15 +107,13 @@ fn add_sides(
         new.info,
         &new.function.operators,
     )?;
-    let old_body = Body {
+    let old_body = Drawn {
         info: old.info,
-        locals: &old.function.locals,
         operators: &old.function.operators,
         trees: &old_trees,
     };
-    let new_body = Body {
+    let new_body = Drawn {
         info: new.info,
-        locals: &new.function.locals,
         operators: &new.function.operators,
         trees: &new_trees,
     };
@@ -124,11 +122,11 @@ fn add_sides(
     };
     text.push_str("  before\n")?;
     if let Some(operators) = range.of(old_body.operators) {
-        add_drawn(alloc, text, old.info, old_body.locals, operators)?;
+        add_drawn(alloc, text, old.info, &old.function.locals, operators)?;
     }
     text.push_str("  after\n")?;
     if let Some(operators) = range.of(new_body.operators) {
-        add_drawn(alloc, text, new.info, new_body.locals, operators)?;
+        add_drawn(alloc, text, new.info, &new.function.locals, operators)?;
     }
     Ok(())
 }

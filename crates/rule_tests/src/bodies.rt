@@ -1,6 +1,6 @@
 //! The trees of a small body, and what rewrites by rows of the table make of small bodies.
 
-use body_rewrites::{Body, Rewrite, Tree, rewrite_body, trees_of};
+use body_rewrites::{Body, Rewrite, Tree, blocks_of, rewrite_body, trees_of};
 use peephole_machine::IntegerType;
 use std::test::Fail;
 use wasm_code::{Function, read_body};
@@ -83,11 +83,13 @@ fn writes_what_rows_make(rt: HostRuntime) -> Result<(), Fail> {
     for (bytes, operator, row, wanted) in CASES {
         let operators = read_body(alloc, bytes, 0, bytes.len())?;
         let trees = trees_of(alloc, &locals, &info, &operators)?;
+        let blocks = blocks_of(alloc, &operators)?;
         let body = Body {
             info: &info,
             locals: &locals,
             operators: &operators,
             trees: &trees,
+            blocks: &blocks,
         };
         let rewrite = Rewrite {
             operator,

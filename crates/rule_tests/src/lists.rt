@@ -1,7 +1,9 @@
 //! Every rewrite that there is of a body by rules, which operators they reach, and which rewrite words choose.
 
 use crate::notation::{body_of, fields_of, locals, module_of};
-use body_rewrites::{Body, Growth, Rewrite, choose, reached_operators, rewrites_of_body, trees_of};
+use body_rewrites::{
+    Body, Growth, Rewrite, blocks_of, choose, reached_operators, rewrites_of_body, trees_of,
+};
 use given_words::Words;
 use rewrite_rules::Rule;
 use std::alloc::Global;
@@ -93,11 +95,13 @@ fn is_list(
     let operators = read_body(alloc, bytes.bytes(), 0, bytes.len())?;
     let locals = locals();
     let trees = trees_of(alloc, locals, &info, &operators)?;
+    let blocks = blocks_of(alloc, &operators)?;
     let body = Body {
         info: &info,
         locals,
         operators: &operators,
         trees: &trees,
+        blocks: &blocks,
     };
     let list = rewrites_of_body(alloc, &body, &rules, growths)?;
     let marks = reached_operators(alloc, &body, &rules, growths)?;
@@ -202,11 +206,13 @@ fn is_choice(
     let operators = read_body(alloc, bytes.bytes(), 0, bytes.len())?;
     let locals = locals();
     let trees = trees_of(alloc, locals, &info, &operators)?;
+    let blocks = blocks_of(alloc, &operators)?;
     let body = Body {
         info: &info,
         locals,
         operators: &operators,
         trees: &trees,
+        blocks: &blocks,
     };
     let rules = rules_of(alloc, rules)?;
     let mut found = String::new(alloc);

@@ -7,6 +7,7 @@ use crate::refused_bodies::refused;
 fn calls_on_bodies(rt: HostRuntime) {
     for call in [
         "trees_of",
+        "blocks_of",
         "rewrites_of_body",
         "reached_operators",
         "choose",

@@ -1,6 +1,6 @@
 //! What rules beside the table make of small bodies.
 
-use body_rewrites::{Body, Growth, own_code, own_growth, trees_of};
+use body_rewrites::{Body, Growth, blocks_of, own_code, own_growth, trees_of};
 use body_splices::Piece;
 use rewrite_rules::Own;
 use std::alloc::Global;
@@ -88,11 +88,13 @@ fn makes_what_it_says(rt: HostRuntime) -> Result<(), Fail> {
     let operators = read_body(alloc, BODY, 0, BODY.len())?;
     let info = ModuleInfo::new(alloc, &[]);
     let trees = trees_of(alloc, &[PrimitiveTypeInfo::I32], &info, &operators)?;
+    let blocks = blocks_of(alloc, &operators)?;
     let body = Body {
         info: &info,
         locals: &[PrimitiveTypeInfo::I32],
         operators: &operators,
         trees: &trees,
+        blocks: &blocks,
     };
     for (own, at, start, wanted, asks) in MADE {
         let code = own_code(&body, own, at, 2).expect(&rt, "it applies");
@@ -125,11 +127,13 @@ fn tells_how_bodies_grow(rt: HostRuntime) -> Result<(), Fail> {
     let operators = read_body(alloc, BODY, 0, BODY.len())?;
     let info = ModuleInfo::new(alloc, &[]);
     let trees = trees_of(alloc, &[PrimitiveTypeInfo::I32], &info, &operators)?;
+    let blocks = blocks_of(alloc, &operators)?;
     let body = Body {
         info: &info,
         locals: &[PrimitiveTypeInfo::I32],
         operators: &operators,
         trees: &trees,
+        blocks: &blocks,
     };
     for (own, at, wanted) in GROWTHS {
         assert!(rt; own_growth(&body, own, at) == wanted);
@@ -143,11 +147,13 @@ fn leaves_what_traps(rt: HostRuntime) -> Result<(), Fail> {
     let operators = read_body(alloc, TRAPS, 0, TRAPS.len())?;
     let info = ModuleInfo::new(alloc, &[]);
     let trees = trees_of(alloc, &[PrimitiveTypeInfo::I32], &info, &operators)?;
+    let blocks = blocks_of(alloc, &operators)?;
     let body = Body {
         info: &info,
         locals: &[PrimitiveTypeInfo::I32],
         operators: &operators,
         trees: &trees,
+        blocks: &blocks,
     };
     for (own, at) in [
         (Own::Fold, 2),
@@ -179,11 +185,13 @@ fn writes_accesses(rt: HostRuntime) -> Result<(), Fail> {
     let mut info = ModuleInfo::new(alloc, &[]);
     info.exact = true;
     let trees = trees_of(alloc, &[PrimitiveTypeInfo::I32], &info, &operators)?;
+    let blocks = blocks_of(alloc, &operators)?;
     let body = Body {
         info: &info,
         locals: &[PrimitiveTypeInfo::I32],
         operators: &operators,
         trees: &trees,
+        blocks: &blocks,
     };
     for (number, at, start, wanted, growth) in ACCESSED {
         let code = own_code(&body, Own::Access(number), at, 2).expect(&rt, "it applies");
@@ -204,11 +212,13 @@ fn leaves_accesses_elsewhere(rt: HostRuntime) -> Result<(), Fail> {
     let operators = read_body(alloc, ACCESSES, 0, ACCESSES.len())?;
     let info = ModuleInfo::new(alloc, &[]);
     let trees = trees_of(alloc, &[PrimitiveTypeInfo::I32], &info, &operators)?;
+    let blocks = blocks_of(alloc, &operators)?;
     let body = Body {
         info: &info,
         locals: &[PrimitiveTypeInfo::I32],
         operators: &operators,
         trees: &trees,
+        blocks: &blocks,
     };
     for (number, at, _, _, _) in ACCESSED {
         assert!(rt; own_growth(&body, Own::Access(number), at).is_none());

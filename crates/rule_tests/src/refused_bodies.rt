@@ -2,10 +2,11 @@
 //! to it is as it was. `tests/refused_memory.sh` refuses each request in turn.
 
 ghost use Rattle.body_splices.specs.OwnBytes.{IsBodyIn};
-ghost use Rattle.body_rewrites.specs.Places.{HasItsTrees};
+ghost use Rattle.body_rewrites.specs.Places.{HasItsLists};
 
 use body_rewrites::{
-    Body, Growth, Rewrite, choose, reached_operators, rewrite_body, rewrites_of_body, trees_of,
+    Body, Growth, Rewrite, blocks_of, choose, reached_operators, rewrite_body, rewrites_of_body,
+    trees_of,
 };
 use given_words::LentWords;
 use peephole_machine::IntegerType;
@@ -36,7 +37,7 @@ const SWAP: Rewrite = Rewrite {
 
 /// Whether memory was refused to `rewrite_body`; none where it was refused before.
 fn refused_body(rt: &impl Abort, alloc: Global, body: &Body<'_>) -> Option<bool>
-    requires trees { HasItsTrees body.now }
+    requires lists { HasItsLists body.now }
     requires body { IsBodyIn BYTES body.now.operators.now }
 {
     let mut sink = Function::new(alloc);
@@ -58,12 +59,12 @@ fn refused_body(rt: &impl Abort, alloc: Global, body: &Body<'_>) -> Option<bool>
 
 /// The same of the call of this name, on a body.
 fn refused_on(rt: &impl Abort, alloc: Global, body: &Body<'_>, call: &str) -> Option<bool>
-    requires trees { HasItsTrees body.now }
+    requires lists { HasItsLists body.now }
     requires body { IsBodyIn BYTES body.now.operators.now }
 {
     let rules = [Rule::from_name("commute").expect(rt, "it is a rule's name")];
     match call {
-        "trees_of" => Some(false),
+        "trees_of" | "blocks_of" => Some(false),
         "rewrites_of_body" => {
             let list = rewrites_of_body(alloc, body, &rules, &ALL);
             assert!(rt;
@@ -104,18 +105,20 @@ fn refused_in(
     requires { IsBodyIn BYTES operators.now }
 {
     let info = ModuleInfo::new(alloc, &[]);
-    match trees_of(alloc, &LOCALS, &info, operators) {
-        Ok(trees) => {
-            let body = Body {
-                info: &info,
-                locals: &LOCALS,
-                operators,
-                trees: &trees,
-            };
-            refused_on(rt, alloc, &body, call)
-        }
-        Err(_) => (call == "trees_of").then_some(true),
-    }
+    let Ok(trees) = trees_of(alloc, &LOCALS, &info, operators) else {
+        return (call == "trees_of").then_some(true);
+    };
+    let Ok(blocks) = blocks_of(alloc, operators) else {
+        return (call == "blocks_of").then_some(true);
+    };
+    let body = Body {
+        info: &info,
+        locals: &LOCALS,
+        operators,
+        trees: &trees,
+        blocks: &blocks,
+    };
+    refused_on(rt, alloc, &body, call)
 }
 
 /// Whether memory was refused to the call of this name; none where it was refused before.

@@ -1,12 +1,12 @@
 //! Whether each rule makes of bodies what its rows say, and nothing else.
 
 ghost use Rattle.body_splices.specs.OwnBytes.{IsBodyIn};
-ghost use Rattle.body_rewrites.specs.Places.{HasItsTrees};
+ghost use Rattle.body_rewrites.specs.Places.{HasItsLists};
 
 use crate::notation::{body_of, fields_of, locals, module_of};
 use crate::rows::{EXACT_ROWS, ROWS};
 use crate::wraps::{BEHIND_FLOW, FIRST_OF_FLOW};
-use body_rewrites::{Body, Rewrite, rewrite_body, trees_of};
+use body_rewrites::{Body, Rewrite, blocks_of, rewrite_body, trees_of};
 use peephole_machine::IntegerType;
 use rewrite_rules::{row_count, rule_names, rules_of_rows};
 use std::alloc::Global;
@@ -87,7 +87,7 @@ fn made_of(
     bytes: &[u8],
     operator: usize,
 ) -> Result<Vec<Made>, Fail>
-    requires trees { HasItsTrees body.now }
+    requires lists { HasItsLists body.now }
     requires body { IsBodyIn bytes.now body.now.operators.now }
 {
     let mut list = Vec::new(alloc);
@@ -129,11 +129,13 @@ fn made_in(
     let operators = read_body(alloc, bytes, 0, bytes.len())?;
     let locals = locals();
     let trees = trees_of(alloc, locals, &info, &operators)?;
+    let blocks = blocks_of(alloc, &operators)?;
     let body = Body {
         info: &info,
         locals,
         operators: &operators,
         trees: &trees,
+        blocks: &blocks,
     };
     made_of(alloc, rules, rule, &body, bytes, operator)
 }

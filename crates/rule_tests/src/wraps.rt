@@ -1,7 +1,7 @@
 //! What rules on control flow make of bodies written by hand, and that others take it back: values in control flow of their own, selects and
 //! conditionals, conditions that are tested, code that is never reached, indices of branches by a table, and branches in conditionals.
 
-use body_rewrites::{Body, Rewrite, rewrite_body, trees_of};
+use body_rewrites::{Body, Rewrite, blocks_of, rewrite_body, trees_of};
 use peephole_machine::IntegerType;
 use rewrite_rules::Rule;
 use std::alloc::Global;
@@ -80,7 +80,7 @@ type Pair = (
     usize,
 );
 
-const PAIRS: [Pair; 18] = [
+const PAIRS: [Pair; 21] = [
     // Constants and variables of each type, and a condition of two operators.
     (
         "select_to_if",
@@ -230,12 +230,37 @@ const PAIRS: [Pair; 18] = [
         b"\x02\x40\x03\x7e\x20\0\x45\x04\x40\x0c\x02\x0b\x42\x07\x0b\x1a\x0b\x0b",
         6,
     ),
+    // Behind a block that has ended, in another part of a conditional, and around one that stands between.
+    (
+        "br_if_to_if",
+        "if_to_br_if",
+        b"\x02\x40\x02\x40\x0b\x20\0\x0d\0\x0b\x0b",
+        4,
+        b"\x02\x40\x02\x40\x0b\x20\0\x04\x40\x0c\x01\x0b\x0b\x0b",
+        6,
+    ),
+    (
+        "br_if_to_if",
+        "if_to_br_if",
+        b"\x20\0\x04\x40\x05\x20\0\x0d\0\x0b\x0b",
+        4,
+        b"\x20\0\x04\x40\x05\x20\0\x04\x40\x0c\x01\x0b\x0b\x0b",
+        6,
+    ),
+    (
+        "br_if_to_if",
+        "if_to_br_if",
+        b"\x02\x40\x02\x40\x02\x7f\x41\x05\x0b\x1a\x20\0\x0d\x01\x0b\x0b\x0b",
+        7,
+        b"\x02\x40\x02\x40\x02\x7f\x41\x05\x0b\x1a\x20\0\x04\x40\x0c\x02\x0b\x0b\x0b\x0b",
+        9,
+    ),
 ];
 
 /// A rule, an operator, a body with such locals, and what it makes of it by the word 2, or none.
 type Other = (&'static str, usize, &'static [u8], Option<&'static [u8]>);
 
-const OTHERS: [Other; 59] = [
+const OTHERS: [Other; 58] = [
     // A value of each other type; a tree of several operators; and one in a block that stands there.
     (
         "in_block",
@@ -432,7 +457,7 @@ const OTHERS: [Other; 59] = [
         b"\x20\x02\xbc\x41\0\x20\x02\xbc\x41\0\x49\x1b\x0e\0\0\x0b",
         None,
     ),
-    // The branch takes a value, out of one block and of two; a block that has ended, and another part of a conditional, right before it.
+    // The branch takes a value: out of one block, of two, and of one around one that has ended.
     (
         "br_if_to_if",
         3,
@@ -447,14 +472,8 @@ const OTHERS: [Other; 59] = [
     ),
     (
         "br_if_to_if",
-        4,
-        b"\x02\x40\x02\x40\x0b\x20\0\x0d\0\x0b\x0b",
-        None,
-    ),
-    (
-        "br_if_to_if",
-        4,
-        b"\x20\0\x04\x40\x05\x20\0\x0d\0\x0b\x0b",
+        5,
+        b"\x02\x7f\x02\x40\x0b\x41\x05\x20\0\x0d\0\x0b\x1a\x0b",
         None,
     ),
     // To the function's own label, out of no block and of one; a branch without a condition.
@@ -531,11 +550,13 @@ fn rewritten(
     ];
     let operators = read_body(alloc, bytes, 0, bytes.len())?;
     let trees = trees_of(alloc, &locals, &info, &operators)?;
+    let blocks = blocks_of(alloc, &operators)?;
     let body = Body {
         info: &info,
         locals: &locals,
         operators: &operators,
         trees: &trees,
+        blocks: &blocks,
     };
     let rewrite = Rewrite {
         operator,
@@ -567,6 +588,42 @@ fn makes_flow_and_takes_it_back(rt: HostRuntime) -> Result<(), Fail> {
         assert!(rt; made.bytes() == wanted, "{name} {operator}");
         let again = rewritten(alloc, back, end, wanted)?.ok_or("it isn't taken back")?;
         assert!(rt; again.bytes() == bytes, "{back} {end}");
+    }
+    Ok(())
+}
+
+/// A rule that puts a block in, code, and which of its operators the rule rewrites.
+type Deep = (&'static str, &'static [u8], usize);
+
+const DEEP: [Deep; 3] = [
+    ("in_block", b"\x41\x05\x1a", 0),
+    ("select_to_if", b"\x41\x05\x41\x06\x20\0\x1b\x1a", 3),
+    ("br_if_to_if", b"\x20\0\x0d\0", 1),
+];
+
+/// A body with the code in so many blocks.
+fn in_blocks(alloc: Global, count: usize, code: &[u8]) -> Result<Function, Fail> {
+    let mut body = Function::new(alloc);
+    for _ in 0..count {
+        body.raw(b"\x02\x40")?;
+    }
+    body.raw(code)?;
+    for _ in 0..count + 1 {
+        body.raw(b"\x0b")?;
+    }
+    Ok(body)
+}
+
+/// Two hundred blocks may be open, and no more.
+#[test]
+fn leaves_what_nests_deep(rt: HostRuntime) -> Result<(), Fail> {
+    let alloc = rt.alloc();
+    for (name, code, operator) in DEEP {
+        for (count, nests) in [(199usize, true), (200, false)] {
+            let body = in_blocks(alloc, count, code)?;
+            let made = rewritten(alloc, name, count + operator, body.bytes())?;
+            assert!(rt; made.is_some() == nests, "{name} {count}");
+        }
     }
     Ok(())
 }

@@ -2,9 +2,11 @@
 ghost use Rattle.std.specs.Prelude.{ℕ, IfSome, IfNone};
 ghost use Rattle.peephole_machine.specs.Values.{Context};
 ghost use Rattle.rewrite_rules.specs.declared.table.Own.TheVariants.{BrIfToIf};
+ghost use Rattle.body_rewrites.specs.Blocks.{AreBlocks};
 ghost use Rattle.body_rewrites.specs.OwnSites.{HasBranchIf, IsBranchIf, IsSiteOf};
 
-use crate::own::branches::{are_open, first_before};
+use crate::blocks::Blocks;
+use crate::own::branches::takes_nothing;
 use crate::own::unwrap::operator_at;
 use crate::own::{Made, Site};
 use wasm_code::{Operator, OperatorAndByteOffset};
@@ -32,17 +34,20 @@ fn label_at(operators: &[OperatorAndByteOffset], at: usize) -> Option<u8>
 }
 
 // Where the rule applies at the operator, and what it makes there.
-pub(crate) fn find(operators: &[OperatorAndByteOffset], at: usize) -> Option<Site>
-    ensures { (context : Context) → IsSiteOf context operators.now BrIfToIf at result }
+pub(crate) fn find(operators: &[OperatorAndByteOffset], blocks: &Blocks, at: usize) -> Option<Site>
+    ensures { (context : Context) → AreBlocks operators.now blocks.now
+        → IsSiteOf context operators.now BrIfToIf at result }
 {
     if at >= operators.len() {
+        return None;
+    }
+    if !blocks.has_room() {
         return None;
     }
     let Some(label) = label_at(operators, at) else {
         return None;
     };
-    let first = first_before(operators, at);
-    if !are_open(operators, first, label) {
+    if !takes_nothing(operators, blocks, at, label) {
         return None;
     }
     Some(Site {

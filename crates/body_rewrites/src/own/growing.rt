@@ -1,7 +1,7 @@
 //! What rules beside the table do to the number of operators.
 ghost use Rattle.std.specs.Prelude.{◌≡◌, IfSome, IfNone};
 ghost use Rattle.peephole_machine.specs.Values.{Context};
-ghost use Rattle.body_rewrites.specs.Trees.{AreTrees};
+ghost use Rattle.body_rewrites.specs.Places.{AreListsOf};
 ghost use Rattle.body_rewrites.specs.Changes.{Change};
 ghost use Rattle.body_rewrites.specs.Growth.{HasGrowth};
 ghost use Rattle.body_rewrites.specs.Own.{IsOwnChange};
@@ -53,11 +53,11 @@ fn growth_of(made: Made) -> Growth
 /// Whether the rule makes something at the operator, and what that does to the number of operators.
 pub fn own_growth(body: &Body<'_>, own: Own, at: usize) -> Option<Growth>
     ensures some { IfSome result (λ growth. (context : Context) → context.info ≡ body.now.info.now
-        → AreTrees context body.now.operators.now body.now.trees.now
+        → AreListsOf context body.now
         → (change : Change) × IsOwnChange context body.now.operators.now own at change
         × HasGrowth body.now.operators.now at change growth) }
     ensures none { IfNone result ((context : Context) → context.info ≡ body.now.info.now
-        → AreTrees context body.now.operators.now body.now.trees.now
+        → AreListsOf context body.now
         → (change : Change) → ¬ (IsOwnChange context body.now.operators.now own at change)) }
 {
     let Some(site) = site_of(body, own, at) else {

@@ -1,7 +1,7 @@
 //! What rules beside the table write in the place of code.
 ghost use Rattle.std.specs.Prelude.{◌≡◌, IfSome, IfNone};
 ghost use Rattle.peephole_machine.specs.Values.{Context};
-ghost use Rattle.body_rewrites.specs.Trees.{AreTrees};
+ghost use Rattle.body_rewrites.specs.Places.{AreListsOf};
 ghost use Rattle.body_rewrites.specs.Changes.{Change, IsWritten};
 ghost use Rattle.body_rewrites.specs.Own.{IsOwnChange};
 
@@ -18,12 +18,12 @@ use rewrite_rules::laws::accesses_are_formed;
 pub fn own_code(body: &Body<'_>, own: Own, at: usize, word: u64) -> Option<NewCode>
     ensures some { IfSome result (λ code. (context : Context)
         → context.info ≡ body.now.info.now
-        → AreTrees context body.now.operators.now body.now.trees.now
+        → AreListsOf context body.now
         → (change : Change) × IsOwnChange context body.now.operators.now own at change
         × IsWritten change word code) }
     ensures none { IfNone result ((context : Context)
         → context.info ≡ body.now.info.now
-        → AreTrees context body.now.operators.now body.now.trees.now
+        → AreListsOf context body.now
         → (change : Change) → ¬ (IsOwnChange context body.now.operators.now own at change)) }
 {
     if at >= body.operators.len() {

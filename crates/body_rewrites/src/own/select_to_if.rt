@@ -2,8 +2,10 @@
 ghost use Rattle.peephole_machine.specs.Values.{Context};
 ghost use Rattle.rewrite_rules.specs.declared.table.Own.TheVariants.{SelectToIf};
 ghost use Rattle.body_rewrites.specs.Trees.{AreTrees};
+ghost use Rattle.body_rewrites.specs.Blocks.{AreBlocks};
 ghost use Rattle.body_rewrites.specs.OwnSites.{IsSiteOf};
 
+use crate::blocks::Blocks;
 use crate::instructions::is_bare_at;
 use crate::own::leaves::{leaves_at, read_before};
 use crate::own::{Made, Site};
@@ -14,11 +16,15 @@ use wasm_code::OperatorAndByteOffset;
 pub(crate) fn find(
     operators: &[OperatorAndByteOffset],
     trees: &[Option<Tree>],
+    blocks: &Blocks,
     at: usize,
 ) -> Option<Site>
     ensures { (context : Context) → AreTrees context operators.now trees.now
-        → IsSiteOf context operators.now SelectToIf at result }
+        → AreBlocks operators.now blocks.now → IsSiteOf context operators.now SelectToIf at result }
 {
+    if !blocks.has_room() {
+        return None;
+    }
     if !is_bare_at(operators, at, 3) {
         return None;
     }

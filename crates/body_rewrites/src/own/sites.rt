@@ -1,7 +1,7 @@
 //! Where a rule beside the table applies.
 ghost use Rattle.std.specs.Prelude.{◌≡◌};
 ghost use Rattle.peephole_machine.specs.Values.{Context};
-ghost use Rattle.body_rewrites.specs.Trees.{AreTrees};
+ghost use Rattle.body_rewrites.specs.Places.{AreListsOf};
 ghost use Rattle.body_rewrites.specs.OwnSites.{IsSiteOf};
 
 use crate::own::{
@@ -16,7 +16,7 @@ use rewrite_rules::Own;
 // Where the rule applies at the operator, and what it makes there.
 pub(crate) fn site_of(body: &Body<'_>, own: Own, at: usize) -> Option<Site>
     ensures { (context : Context) → context.info ≡ body.now.info.now
-        → AreTrees context body.now.operators.now body.now.trees.now
+        → AreListsOf context body.now
         → IsSiteOf context body.now.operators.now own at result }
 {
     match own {
@@ -29,9 +29,9 @@ pub(crate) fn site_of(body: &Body<'_>, own: Own, at: usize) -> Option<Site>
         Own::DropNop => drop_nop::find(body.operators, at),
         Own::SetToTee => set_to_tee::find(body.operators, at),
         Own::Access(number) => access::find(body.info, body.operators, at, number),
-        Own::Wrap(wrap) => wrap::find(body.trees, at, wrap),
+        Own::Wrap(wrap) => wrap::find(body.trees, body.blocks, at, wrap),
         Own::Unwrap(wrap) => unwrap::find(body.operators, body.trees, at, wrap),
-        Own::SelectToIf => select_to_if::find(body.operators, body.trees, at),
+        Own::SelectToIf => select_to_if::find(body.operators, body.trees, body.blocks, at),
         Own::IfToSelect => if_to_select::find(body.operators, body.trees, at),
         Own::TestCondition => test_condition::find(body.operators, body.trees, at),
         Own::DropConditionTest => drop_condition_test::find(body.operators, body.trees, at),
@@ -41,7 +41,7 @@ pub(crate) fn site_of(body: &Body<'_>, own: Own, at: usize) -> Option<Site>
         Own::DropDead => drop_dead::find(body.operators, body.trees, at),
         Own::BoundIndex => bound_index::find(body.operators, body.trees, at),
         Own::DropIndexBound => drop_index_bound::find(body.operators, body.trees, at),
-        Own::BrIfToIf => br_if_to_if::find(body.operators, at),
+        Own::BrIfToIf => br_if_to_if::find(body.operators, body.blocks, at),
         Own::IfToBrIf => if_to_br_if::find(body.operators, at),
     }
 }

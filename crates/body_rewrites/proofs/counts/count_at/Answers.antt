@@ -45,7 +45,7 @@ returns c =
     c.lefts_are_instances.ensures c.trees_leave.ensures c.exact_rows_are_told.ensures context operators at c.args.counter.now.exact
     c.requires.laid.exact c.here_at-here.result.class
     (subst (λ n. IsClassAt operators n c.here_at-here.result.class) c.here_at-here.ensures.at c.here_at-here.ensures.is.class_is) tree
-    (tree_told c.args.body.now.trees.now at tree refl context operators c.requires.trees) lines c.candidates-lines.ensures c.args.counts.now
+    (tree_told c.args.body.now.trees.now at tree refl context operators c.requires.lists.trees) lines c.candidates-lines.ensures c.args.counts.now
     c.count_lines.new.counts c.count_alone.new.counts
     (subst (λ n. CountsFound context operators (rewrites_of n lines) c.args.counts.now c.count_lines.new.counts)
     c.here_at-here.ensures.at c.count_lines.ensures) c.count_alone.ensures

@@ -6,5 +6,5 @@ pub returns-clause-is : goal.returns-clause-is
 returns-clause-is c = record {
   inside = c.requires.inside;
   class_is = c.class_at.ensures.is;
-  tree_is = c.has_tree.ensures (context_of c.args.body.now) c.args.body.now.operators.now c.requires.trees;
+  tree_is = c.has_tree.ensures (context_of c.args.body.now) c.args.body.now.operators.now c.requires.lists.trees;
 }

@@ -18,7 +18,7 @@ returns-in-Own-clause-some c =
     let own = form_own line.row line.row.widths c.in-Own.own (sym c.in-Own.is ∙ c.requires.asked.form_is) in
     if_found c.own_growth.result _ _
     (λ kind is.
-    let (change, makes, has) = is context refl c.requires.trees in
+    let (change, makes, has) = is context refl c.requires.lists in
     record {
       change = change;
       makes = subst (λ (w : Widths). MakesBy context operators line c.args.at change w) (sym own) makes;
@@ -35,7 +35,7 @@ returns-in-Alone-clause-some c =
     (λ kind e. alone_some c.types_are_told.ensures c.holes_are_told.ensures c.table_is_right.ensures line
     (is_line c.args.asked.now.number line c.requires.asked.line not_own) alone context operators c.args.at c.trees_leave.ensures
     c.lefts_are_instances.ensures c.tree_at.result
-    (tree_told c.args.body.now.trees.now c.args.at c.tree_at.result c.tree_at.ensures context operators c.requires.trees) kind
+    (tree_told c.args.body.now.trees.now c.args.at c.tree_at.result c.tree_at.ensures context operators c.requires.lists.trees) kind
     (ap (λ d. alone_growth line.width d c.tree_at.result) (sym twice) ∙ (sym c.alone_growth.ensures ∙ e)))
 
 pub returns-in-Alone-clause-none : goal.returns-in-Alone-clause-none
@@ -48,5 +48,5 @@ returns-in-Alone-clause-none c =
     (λ e. alone_none c.types_are_told.ensures c.holes_are_told.ensures c.table_is_right.ensures line
     (is_line c.args.asked.now.number line c.requires.asked.line not_own) alone context operators c.args.at c.trees_leave.ensures
     c.sides_are_parts.ensures c.parts_are_the_code.ensures c.tree_at.result
-    (tree_told c.args.body.now.trees.now c.args.at c.tree_at.result c.tree_at.ensures context operators c.requires.trees)
+    (tree_told c.args.body.now.trees.now c.args.at c.tree_at.result c.tree_at.ensures context operators c.requires.lists.trees)
     (ap (λ d. alone_growth line.width d c.tree_at.result) (sym twice) ∙ (sym c.alone_growth.ensures ∙ e)))

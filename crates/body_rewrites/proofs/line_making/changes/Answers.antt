@@ -17,4 +17,4 @@ pub differ-requires-clause-pieces : goal.differ-requires-clause-pieces
 differ-requires-clause-pieces c =
     let body = c.args.body.now in
     subst (All (IsKept body.operators.now body.trees.now)) (sym (c.deref.ensures.0 ∙ c.line_code-code.ensures.pieces_are))
-    (line_pieces_kept (context_of body) body.operators.now body.trees.now c.args.line.now c.args.end c.args.place.now 0 c.requires.trees c.requires.place)
+    (line_pieces_kept (context_of body) body.operators.now body.trees.now c.args.line.now c.args.end c.args.place.now 0 c.requires.lists.trees c.requires.place)

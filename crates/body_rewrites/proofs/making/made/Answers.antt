@@ -10,7 +10,7 @@ pub returns-in-Own-clause-some : goal.returns-in-Own-clause-some
 returns-in-Own-clause-some c =
     if_found c.own_code.result _ _
     (λ code is.
-    let (change, own, written) = is (context_of c.args.body.now) refl c.requires.trees in
+    let (change, own, written) = is (context_of c.args.body.now) refl c.requires.lists in
     record {
       change = change;
       makes = subst (λ (w : Widths). MakesBy (context_of c.args.body.now) c.args.body.now.operators.now c.args.line.now c.args.at change w) (sym c.in-Own.is ∙ c.widths.ensures) own;

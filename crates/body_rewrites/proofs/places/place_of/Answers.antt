@@ -14,7 +14,7 @@ use Rattle.body_rewrites.proofs.places.place_of.Goals as goal
 pub returns-in_default-clause-none : goal.returns-in_default-clause-none
 returns-in_default-clause-none c = λ (start, x, numbers, is).
     let context = context_of c.args.body.now in
-    let trees = c.requires.trees in
+    let trees = c.requires.lists.trees in
     let line = c.requires.line in
     let parts = c.new-parts.result in
     let parts_are = ap reverse c.new-parts.ensures ∙ reverse-reverse (parts_for c.args.line.now.width c.left.result.now)
@@ -31,7 +31,7 @@ applies-requires c = place.formed c.table_is_right.ensures c.args.line.now c.req
 pub returns-then-not-applies-clause-none : goal.returns-then-not-applies-clause-none
 returns-then-not-applies-clause-none c = λ (start, x, numbers, is).
     let context = context_of c.args.body.now in
-    let trees = c.requires.trees in
+    let trees = c.requires.lists.trees in
     let line = c.requires.line in
     let operators = c.args.body.now.operators.now in
     let parts = c.new-parts.result in
@@ -51,14 +51,14 @@ pub operands_of-operands-requires : goal.operands_of-operands-requires
 operands_of-operands-requires c =
     let some = rw c.in-Some.is at c.find.ensures.some in
     let context = context_of c.args.body.now in
-    let trees = c.requires.trees in
+    let trees = c.requires.lists.trees in
     ap length c.as_slice-starts.ensures.value
     ∙ cut_length context c.args.body.now.operators.now c.new-parts.result c.in-Some.found.starts.items c.args.end (some context trees).0.cut
 
 pub returns-clause-some : goal.returns-clause-some
 returns-clause-some c =
     let context = context_of c.args.body.now in
-    let trees = c.requires.trees in
+    let trees = c.requires.lists.trees in
     let line = c.requires.line in
     let operators = c.args.body.now.operators.now in
     let parts = c.new-parts.result in
