@@ -126,14 +126,15 @@ fn made_in(
 ) -> Result<Vec<Made>, Fail> {
     let mut info = module_of(alloc)?;
     info.exact = exact;
-    let operators = read_body(alloc, bytes, 0, bytes.len())?;
+    let read = read_body(alloc, bytes, 0, bytes.len())?;
+    let operators = read.as_slice();
     let locals = locals();
-    let trees = trees_of(alloc, locals, &info, &operators)?;
-    let blocks = blocks_of(alloc, &operators)?;
+    let trees = trees_of(alloc, locals, &info, operators)?;
+    let blocks = blocks_of(alloc, operators)?;
     let body = Body {
         info: &info,
         locals,
-        operators: &operators,
+        operators,
         trees: &trees,
         blocks: &blocks,
     };

@@ -608,9 +608,10 @@ fn in_blocks(alloc: Global, count: usize, code: &[u8]) -> Result<Function, Fail>
         body.raw(b"\x02\x40")?;
     }
     body.raw(code)?;
-    for _ in 0..count + 1 {
+    for _ in 0..count {
         body.raw(b"\x0b")?;
     }
+    body.raw(b"\x0b")?;
     Ok(body)
 }
 
