@@ -1,0 +1,13 @@
+pub mod TypedLemmas
+pub mod OwnLemmas
+pub mod ReplacingLemmas
+pub mod ConstantLemmas
+pub mod VariableLemmas
+pub mod LeafLemmas
+pub mod DrawingLemmas
+pub mod JoinLemmas
+pub mod OthersLemmas
+pub mod StandLemmas
+pub mod KeptLemmas
+pub mod UnitLemmas
+pub mod PassLemmas

@@ -1,0 +1,6 @@
+-- The types so far are the same.
+use Rattle.std.proofs.Common.{◌≡◌, take}
+use Rattle.body_changes.proofs.typed.are_same.Given as goal
+
+abbrev pub invariant-loop-i : goal.invariant-loop-i
+invariant-loop-i l = take l.i l.some ≡ take l.i l.others

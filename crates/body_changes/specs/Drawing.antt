@@ -1,0 +1,67 @@
+-- Code that words draw: of which types, and which words draw which single instruction (this project; constants and variables: WebAssembly Core Specification
+-- 3.0, Structure, Instructions).
+use Rattle.std.specs.Prelude.{◌≡◌, ℕ, ◌+◌, ◌*◌, ◌/◌, ◌%◌, ◌^◌, ◌<◌, ◌==◌, ◌||◌, not, Bool, true, false, if◌then◌else◌, List, [], ◌∷◌, take, count_by, Some}
+use Rattle.std.specs.Prelude.{IsTrue}
+use Rattle.std.specs.List.{All}
+use Rattle.std.specs.Int.{w32, w64, w128, cast_unsigned}
+use Rattle.wasm_code.specs.Instruction.{Instruction, IsInstruction}
+use Rattle.wasm_code.specs.declared.immediate.Imm.{Imm}
+use Rattle.wasm_code.specs.declared.immediate.Imm.TheVariants as imm
+use Rattle.wasm_types.specs.Module.{Module}
+use Rattle.wasm_types.specs.declared.types.PrimitiveTypeInfo.{PrimitiveTypeInfo}
+use Rattle.wasm_types.specs.declared.types.PrimitiveTypeInfo.TheVariants.{FuncRef, ExternRef, Empty}
+use Rattle.peephole_machine.specs.Row.{instruction_types}
+use Rattle.peephole_machine.specs.Values.{Context, same_type}
+
+-- ---- types
+
+-- numbers and vectors; funcref and externref where the module tells references apart
+abbrev pub is_drawable : Module → PrimitiveTypeInfo → Bool
+is_drawable m Empty = false
+is_drawable m FuncRef = not m.one_reference
+is_drawable m ExternRef = not m.one_reference
+is_drawable m t = true
+
+-- a value of each of them can be drawn
+abbrev pub AreDrawable : Module → List PrimitiveTypeInfo → Type 0
+AreDrawable m ts = All (λ (t : PrimitiveTypeInfo). IsTrue (is_drawable m t)) ts
+
+-- ---- single instructions
+
+-- local.get, global.get, i32.const to f64.const, ref.null, v128.const
+abbrev pub is_leaf_row : ℕ → Bool
+is_leaf_row n = n == 4 || (n == 7 || (n == 36 || (n == 37 || (n == 38 || (n == 39 || (n == 168 || n == 201))))))
+
+-- The instruction is one of these, and gives a value of the type: it is a constant of the type, or reads a local or a global of it.
+pub record IsLeaf (context : Context) (t : PrimitiveTypeInfo) (i : Instruction) : Type 0 where
+  pub instruction : IsInstruction i
+  pub row : IsTrue (is_leaf_row i.row)
+  pub types : instruction_types context i [] ≡ Some (Some t)
+
+-- the bits of a constant's number; 0 of what has none
+abbrev pub bits_of : Imm → ℕ
+bits_of (imm.I32 z) = cast_unsigned w32 z
+bits_of (imm.I64 z) = cast_unsigned w64 z
+bits_of (imm.F32 bits) = bits
+bits_of (imm.F64 bits) = bits
+bits_of (imm.V128 z) = cast_unsigned w128 z
+bits_of _ = 0
+
+-- how many variables of the type have a smaller index
+abbrev pub rank : List PrimitiveTypeInfo → PrimitiveTypeInfo → ℕ → ℕ
+rank types t n = count_by (same_type t) (take n types)
+
+-- the word that chooses the instruction of the row with the immediate: the variable with its number among those of the type, or a constant by its own bits
+abbrev pub choice_of : Context → PrimitiveTypeInfo → (row : ℕ) → Imm → ℕ
+choice_of context t row (imm.Index n) = if row == 4 then 8 * rank context.locals t n + 1 else 8 * rank context.info.globals t n + 2
+choice_of context t row _ = 32
+
+-- the words that draw it: the one that chooses it, and the two halves of its bits
+abbrev pub words_of : Context → PrimitiveTypeInfo → Instruction → List ℕ
+words_of context t i = choice_of context t i.row i.imm ∷ bits_of i.imm % 2 ^ 64 ∷ bits_of i.imm / 2 ^ 64 ∷ []
+
+-- ---- laws
+
+-- Each of them is a word of 64 bits.
+abbrev pub LeavesHaveWords : Type 0
+LeavesHaveWords = (context : Context) (t : PrimitiveTypeInfo) (i : Instruction) → IsLeaf context t i → All (λ w. w < 2 ^ 64) (words_of context t i)

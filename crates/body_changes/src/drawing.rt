@@ -1,0 +1,211 @@
+//! Code that words draw.
+ghost use Rattle.std.specs.Prelude.{◌≡◌, ◌*◌, ◌<◌, ◌≤◌, [], ◌∷◌, length, get_or, reverse, IfOk, OnOk, IsTrue};
+ghost use Rattle.wasm_code.specs.Instruction.{Instruction};
+ghost use Rattle.body_changes.specs.Drawing.{is_drawable, words_of, AreDrawable, IsLeaf};
+ghost use Rattle.body_changes.specs.Goals.{context_for, types_in, first_words, AddsValue, HasDrawn, HasPushed, IsOpen, LeavesFew};
+ghost use Rattle.body_changes.specs.Typed.{Leaves};
+
+use crate::choosing::choose;
+use crate::goal::{Chosen, Goal, Operands, Words};
+use crate::source::Scope;
+use std::alloc::{AllocError, Global};
+use wasm_code::Instr;
+use wasm_types::PrimitiveTypeInfo;
+
+// A number below the count.
+fn part(word: u64, count: usize) -> usize
+    requires { 0 < count }
+    ensures { result < count }
+{
+    (word % count as u64) as usize
+}
+
+// Puts goals for the operands behind the others; the room is cut among them by the word.
+fn push_operands(
+    scope: &Scope<'_>,
+    goals: &mut Vec<Goal>,
+    operands: Operands,
+    room: usize,
+    word: u64,
+) -> Result<(), AllocError>
+    requires room { length (types_in operands) ≤ room }
+    requires drawable { AreDrawable scope.now.info.now (types_in operands) }
+    ensures { OnOk result (HasPushed (context_for scope.now) (types_in operands) room
+        goals.old.items goals.new.items) }
+{
+    match operands {
+        Operands::Zero => Ok(()),
+        Operands::One(a) => {
+            goals.push(Goal {
+                wanted: a,
+                size: room,
+            })?;
+            Ok(())
+        }
+        Operands::Two(a, b) => {
+            let first = 1 + part(word, room - 1);
+            goals.push(Goal {
+                wanted: a,
+                size: first,
+            })?;
+            goals.push(Goal {
+                wanted: b,
+                size: room - first,
+            })?;
+            Ok(())
+        }
+        Operands::Three(a, b, c) => {
+            let first = 1 + part(word, room - 2);
+            let second = 1 + part(word >> 32, room - first - 1);
+            goals.push(Goal {
+                wanted: a,
+                size: first,
+            })?;
+            goals.push(Goal {
+                wanted: b,
+                size: second,
+            })?;
+            goals.push(Goal {
+                wanted: c,
+                size: room - first - second,
+            })?;
+            Ok(())
+        }
+    }
+}
+
+// Draws an instruction for the goal, and puts goals for its operands in its place.
+fn draw_next(
+    scope: &Scope<'_>,
+    goal: Goal,
+    words: Words,
+    goals: &mut Vec<Goal>,
+    code: &mut Vec<Instr>,
+) -> Result<(), AllocError>
+    requires { IsOpen (context_for scope.now) goal }
+    ensures { OnOk result (HasDrawn (context_for scope.now) goal words goals.old.items
+        code.old.items goals.new.items code.new.items) }
+{
+    let Chosen { instr, operands } = choose(scope, goal, words);
+    push_operands(scope, goals, operands, goal.size - 1, words.low)?;
+    code.push(instr)?;
+    Ok(())
+}
+
+// The word with that number, or 0.
+fn word_at(words: &[u64], number: usize) -> u64
+    ensures { result ≡ get_or words.now number 0 }
+{
+    words.get(number).copied().unwrap_or(0)
+}
+
+// The first three words.
+fn first_words(words: &[u64]) -> Words
+    ensures { result ≡ first_words words.now }
+{
+    Words {
+        choice: word_at(words, 0),
+        low: word_at(words, 1),
+        high: word_at(words, 2),
+    }
+}
+
+// The words from that number on.
+fn words_from(words: &[u64], number: usize) -> &[u64] {
+    if number <= words.len() {
+        &words[number..]
+    } else {
+        &[]
+    }
+}
+
+// The other way round.
+fn turn(code: &mut Vec<Instr>)
+    ensures { code.new.items ≡ reverse code.old.items }
+{
+    code.reverse();
+}
+
+/// Code that leaves one value of the type, of at most `size` instructions, as the words choose it: three words for each instruction,
+/// the last one first, of which the first one chooses the instruction, and the others its constant, or how the room that is left is
+/// cut among its operands. Words that aren't there are 0. The instructions are constants, the function's locals, the module's globals
+/// and operators without an immediate; those of vectors only where a vector is wanted.
+///
+/// Each constant of the type, and each local and global of it, is drawn by some words (`leaves_have_words`).
+///
+/// It takes time by the size, times the number of locals and globals. The only error: an allocation was refused.
+pub fn code_of_words(
+    alloc: Global,
+    scope: &Scope<'_>,
+    wanted: PrimitiveTypeInfo,
+    size: usize,
+    words: &[u64],
+) -> Result<Vec<Instr>, AllocError>
+    requires some { 0 < size }
+    requires drawable { IsTrue (is_drawable scope.now.info.now wanted) }
+    ensures code { IfOk result (λ code.
+        Leaves (context_for scope.now) code.items (wanted ∷ [])) }
+    ensures few { IfOk result (λ code. length code.items ≤ size) }
+    // Each single instruction is what its words draw.
+    ensures drawn { IfOk result (λ code. (i : Instruction)
+        → IsLeaf (context_for scope.now) wanted i
+        → words.now ≡ words_of (context_for scope.now) wanted i → code.items ≡ i ∷ []) }
+{
+    let mut goals = Vec::new(alloc);
+    goals.push(Goal { wanted, size })?;
+    let mut code = Vec::new(alloc);
+    let mut rest = words;
+    for step in 0..size {
+        if let Some(goal) = goals.pop() {
+            draw_next(scope, goal, first_words(rest), &mut goals, &mut code)?;
+        }
+        rest = words_from(rest, 3);
+    }
+    turn(&mut code);
+    Ok(code)
+}
+
+// Puts code for one value more behind the others, by the words behind theirs.
+fn add_code(
+    alloc: Global,
+    scope: &Scope<'_>,
+    goal: Goal,
+    words: &[u64],
+    code: &mut Vec<Instr>,
+) -> Result<(), AllocError>
+    requires { IsOpen (context_for scope.now) goal }
+    ensures { OnOk result (AddsValue (context_for scope.now) goal.wanted goal.size
+        code.old.items code.new.items) }
+{
+    let own = words_from(words, code.len().saturating_mul(3));
+    let more = code_of_words(alloc, scope, goal.wanted, goal.size, own)?;
+    for i in 0..more.len() {
+        code.push(more[i])?;
+    }
+    Ok(())
+}
+
+/// Code that leaves values of these types, each drawn as `code_of_words` draws it, with the words behind those of the one before;
+/// no code where there are no types.
+pub fn codes_of_words(
+    alloc: Global,
+    scope: &Scope<'_>,
+    types: &[PrimitiveTypeInfo],
+    size: usize,
+    words: &[u64],
+) -> Result<Vec<Instr>, AllocError>
+    requires some { 0 < size }
+    requires drawable { AreDrawable scope.now.info.now types.now }
+    ensures code { IfOk result (λ code. Leaves (context_for scope.now) code.items types.now) }
+    ensures few { IfOk result (λ code. length code.items ≤ length types.now * size) }
+{
+    let mut code = Vec::new(alloc);
+    for i in 0..types.len() {
+        let goal = Goal {
+            wanted: types[i],
+            size,
+        };
+        add_code(alloc, scope, goal, words, &mut code)?;
+    }
+    Ok(code)
+}

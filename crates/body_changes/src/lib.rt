@@ -1,0 +1,28 @@
+//! Instructions of a body replaced by others that leave the same types: the body stays valid, and computes something else.
+#![tactic(auto)]
+
+mod choosing;
+mod constants;
+mod drawing;
+mod goal;
+pub mod laws;
+mod leaf;
+mod operands;
+mod others;
+mod replacing;
+mod source;
+#[cfg(test)]
+mod tests;
+mod typed;
+#[cfg(test)]
+mod unit_tests;
+mod units;
+mod variables;
+
+pub use constants::{are_drawable, is_drawable};
+pub use drawing::{code_of_words, codes_of_words};
+pub use others::other_operator;
+pub use replacing::{replace_code, types_in_place};
+pub use source::{Scope, Source};
+pub use typed::types_of_code;
+pub use units::{Takes, Unit, units_of};

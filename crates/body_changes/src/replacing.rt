@@ -1,0 +1,139 @@
+//! Instructions of a body replaced by others that leave the same types.
+ghost use Rattle.std.specs.Prelude.{◌≡◌, ◌<◌, ◌≤◌, ℕ, false, List, length, IfOk, IfNone, IfSome, OnErr, IsTrue};
+ghost use Rattle.std.specs.List.{All};
+ghost use Rattle.wasm_code.specs.Instruction.{Instruction};
+ghost use Rattle.wasm_types.specs.declared.types.PrimitiveTypeInfo.{PrimitiveTypeInfo};
+ghost use Rattle.body_splices.specs.OwnBytes.{IsBodyIn};
+ghost use Rattle.body_splices.specs.Splice.{IsPieceIn};
+ghost use Rattle.body_changes.specs.Replacing.{context_of, new_pieces, AppendsReplaced, AreTheseInstructions, CanReplace, HasInstruction, IsClosed};
+
+use crate::source::Source;
+use crate::typed::{are_same, types_of_code};
+use body_splices::laws::spliced_operators_are;
+use body_splices::{Piece, splice};
+use peephole_programs::validity::{replaced_code_stays_valid, typed_rows_check};
+use std::alloc::{AllocError, Global};
+use std::ops::Range;
+use wasm_code::{Function, Instr, Operator, OperatorAndByteOffset, SinkError};
+use wasm_types::PrimitiveTypeInfo;
+
+// The instruction at the index, where one stands there.
+fn instr_at(operators: &[OperatorAndByteOffset], at: usize) -> Option<Instr>
+    requires { at < length operators.now }
+    ensures some { IfSome result (HasInstruction operators.now at) }
+    ensures none { IfNone result ((i : Instruction) → ¬ (HasInstruction operators.now at i)) }
+{
+    match operators[at].0 {
+        Operator::Instr(instr) => Some(instr),
+        _ => None,
+    }
+}
+
+// The instructions that the operators are; none where one of them is no instruction.
+fn instrs_of(
+    alloc: Global,
+    operators: &[OperatorAndByteOffset],
+) -> Result<Option<Vec<Instr>>, AllocError>
+    ensures some { IfOk result (λ o. IfSome o (λ code.
+        AreTheseInstructions operators.now code.items)) }
+    ensures none { IfOk result (λ o. IfNone o ((code : List Instruction)
+        → ¬ (AreTheseInstructions operators.now code))) }
+{
+    let mut code = Vec::new(alloc);
+    for i in 0..operators.len() {
+        match instr_at(operators, i) {
+            Some(instr) => code.push(instr)?,
+            None => return Ok(None),
+        }
+    }
+    Ok(Some(code))
+}
+
+/// The types of the values that the operators in `range` leave, the last one on top; none where there are none of them, one is no
+/// instruction, they need something from what stands before them, or aren't typed (see `types_of_code`).
+///
+/// It takes time linear in the range. The only error: an allocation was refused.
+pub fn types_in_place(
+    alloc: Global,
+    source: &Source<'_>,
+    range: Range<usize>,
+) -> Result<Option<Vec<PrimitiveTypeInfo>>, AllocError>
+    requires { range.end ≤ length source.now.operators.now }
+    ensures some { IfOk result (λ o. IfSome o (λ types.
+        IsClosed (context_of source.now) source.now.operators.now range.start range.end
+        types.items)) }
+    ensures none { IfOk result (λ o. IfNone o ((types : List PrimitiveTypeInfo)
+        → ¬ (IsClosed (context_of source.now) source.now.operators.now range.start range.end
+        types))) }
+{
+    if range.start >= range.end {
+        return Ok(None);
+    }
+    let Some(own) = instrs_of(alloc, &source.operators[range.start..range.end])? else {
+        return Ok(None);
+    };
+    types_of_code(alloc, source.locals, source.info, &own)
+}
+
+// Each instruction as a piece of a body.
+fn pieces_of(
+    alloc: Global,
+    operators: &[OperatorAndByteOffset],
+    code: &[Instr],
+) -> Result<Vec<Piece>, AllocError>
+    ensures are { IfOk result (λ pieces. pieces.items ≡ new_pieces code.now) }
+    ensures stand { IfOk result (λ pieces. All (IsPieceIn operators.now) pieces.items) }
+{
+    let mut pieces = Vec::new(alloc);
+    for i in 0..code.len() {
+        pieces.push(Piece::New(code[i]))?;
+    }
+    Ok(pieces)
+}
+
+/// Writes a body behind what the sink holds in which the code stands in the place of the operators in `range`, and every byte
+/// outside these stands as it stood. Answers whether it did; the sink is as it was where something isn't met: these operators, at
+/// least one, are instructions that need nothing from what stands before them, and the code needs nothing either and leaves values
+/// of the same types (see `types_of_code`).
+///
+/// Nothing is said of what the body then computes. It is valid wherever it was, by types, and is read again as the operators
+/// before, the code and the operators behind. The operators with their offsets are those of a body in the bytes, and the range ends
+/// before the last one.
+///
+/// It takes time linear in the body and the code. Refused with `Memory` alone: the sink then holds its old bytes.
+pub fn replace_code(
+    alloc: Global,
+    source: &Source<'_>,
+    range: Range<usize>,
+    code: &[Instr],
+    newfunc: &mut Function,
+) -> Result<bool, SinkError>
+    requires body { IsBodyIn source.now.input.now source.now.operators.now }
+    requires inside { range.end < length source.now.operators.now }
+    // The body with the code, which is valid where it was.
+    ensures replaced { IfOk result (λ b. IsTrue b
+        → AppendsReplaced (context_of source.now) source.now.input.now source.now.operators.now
+        range.start range.end code.now newfunc.old newfunc.new) }
+    // Not only where the code can't stand there; then nothing is written.
+    ensures never { IfOk result (λ b. b ≡ false
+        → ¬ (CanReplace (context_of source.now) source.now.operators.now range.start range.end
+        code.now)) }
+    ensures kept { IfOk result (λ b. b ≡ false → newfunc.new ≡ newfunc.old) }
+    ensures restored { OnErr result (newfunc.new ≡ newfunc.old) }
+{
+    typed_rows_check();
+    replaced_code_stays_valid();
+    spliced_operators_are();
+    let Some(old) = types_in_place(alloc, source, range.start..range.end)? else {
+        return Ok(false);
+    };
+    let Some(new) = types_of_code(alloc, source.locals, source.info, code)? else {
+        return Ok(false);
+    };
+    if !are_same(&old, &new) {
+        return Ok(false);
+    }
+    let pieces = pieces_of(alloc, source.operators, code)?;
+    splice(source.operators, source.input, range, &pieces, newfunc)?;
+    Ok(true)
+}
