@@ -235,15 +235,6 @@ is_chosen context t words chosen told local global none i h named = elim (leaf_c
       inr (none choice, ap (λ (n : ℕ). n / 8) choice, ap₂ (constant_by t) named.low named.high ∙ sym c.is)
 ]
 
--- a word that draws a single instruction chooses no operator
-pub chooses_no_operator : (context : Context) (t : PrimitiveTypeInfo) (row : ℕ) (m : Imm) → choice_of context t row m % 8 < 4
-chooses_no_operator context t row (imm.Index n) = either (row == 4)
-  where
-    either : (b : Bool) → (if b then 8 * rank context.locals t n + 1 else 8 * rank context.info.globals t n + 2) % 8 < 4
-    either true = let k = rank context.locals t n in omega arith
-    either false = let k = rank context.info.globals t n in omega arith
-chooses_no_operator context t row m = omega arith
-
 -- ---- they are words
 
 choice_small : (context : Context) (t : PrimitiveTypeInfo) (row : ℕ) (m : Imm) → InRange m → choice_of context t row m < 2 ^ 64

@@ -69,10 +69,11 @@ other_there asked i other own gives h =
     let result : h.gives ≡ asked.gives = one_result h.gives asked.gives (sym h.own ∙ gives) in
     let same : told_types (context_for asked.scope) (bare other.row) asked.operands.now ≡ Some asked.gives =
     ap (λ (j : Instruction). told_types (context_for asked.scope) j asked.operands.now) (sym h.is_bare)
-    ∙ (h.same ∙ ap (λ (o : Option PrimitiveTypeInfo). Some o) result) in
-    (row_bound other.row row there,
-    and_from (not (other.row == asked.own)) _ (ap not differs) (and_from (fits_row (row_at other.row) Nothing) _ fits
-    (ap (λ o. same_results o asked.gives) same ∙ same_self asked.gives)))
+    ∙ (h.same ∙ ap (λ (o : Option PrimitiveTypeInfo). Some o) result) in (
+      row_bound other.row row there,
+      and_from (not (other.row == asked.own)) _ (ap not differs) (and_from (fits_row (row_at other.row) Nothing) _ fits
+          (ap (λ o. same_results o asked.gives) same ∙ same_self asked.gives)),
+    )
   where
     one_result : (a b : Option PrimitiveTypeInfo) → Some a ≡ Some b → a ≡ b
     one_result a b e = cc

@@ -35,10 +35,7 @@ fn are_told_apart(types: &[PrimitiveTypeInfo]) -> bool
 }
 
 // Whether the types are there, and are the same.
-fn same_results(
-    gives: Option<Option<PrimitiveTypeInfo>>,
-    wanted: Option<PrimitiveTypeInfo>,
-) -> bool
+fn same_results(gives: Option<Option<PrimitiveTypeInfo>>, wanted: Option<PrimitiveTypeInfo>) -> bool
     ensures { result ≡ same_results gives wanted }
 {
     match (gives, wanted) {

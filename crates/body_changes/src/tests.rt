@@ -2,14 +2,15 @@
 ghost use Rattle.std.specs.Prelude.{IfOk};
 ghost use Rattle.body_splices.specs.OwnBytes.{IsBodyIn};
 
-use crate::{Scope, Source, are_drawable, code_of_words, codes_of_words, is_drawable};
-use crate::{other_operator, replace_code, types_in_place, types_of_code};
+use crate::{
+    Scope, Source, are_drawable, code_of_words, codes_of_words, is_drawable, other_operator,
+    replace_code, types_in_place, types_of_code,
+};
+use PrimitiveTypeInfo::{Empty, I32, I64};
 use std::alloc::{AllocError, Global};
 use std::test::Fail;
 use wasm_code::{Function, Imm, Instr, OperatorAndByteOffset, read_code};
 use wasm_types::{ModuleInfo, PrimitiveTypeInfo};
-
-use PrimitiveTypeInfo::{Empty, I32, I64};
 
 /// Instructions: their rows and immediates.
 type Code = &'static [(u16, Imm)];

@@ -29,11 +29,7 @@ fn count_of(types: &[PrimitiveTypeInfo], wanted: PrimitiveTypeInfo) -> usize
 }
 
 // The index of the one with that number among the variables of the type.
-fn place_of(
-    types: &[PrimitiveTypeInfo],
-    wanted: PrimitiveTypeInfo,
-    number: usize,
-) -> Option<usize>
+fn place_of(types: &[PrimitiveTypeInfo], wanted: PrimitiveTypeInfo, number: usize) -> Option<usize>
     ensures some { IfSome result (HasVariable types.now wanted) }
     ensures only { (n : ℕ) → HasVariable types.now wanted n → rank types.now wanted n ≡ number
         → result ≡ Some n }
@@ -63,11 +59,7 @@ fn index_of(place: usize) -> Option<u32>
 }
 
 // The index of a variable of the type, which the number names.
-fn variable_of(
-    types: &[PrimitiveTypeInfo],
-    wanted: PrimitiveTypeInfo,
-    number: u64,
-) -> Option<u32>
+fn variable_of(types: &[PrimitiveTypeInfo], wanted: PrimitiveTypeInfo, number: u64) -> Option<u32>
     ensures some { IfSome result (HasVariable types.now wanted) }
     ensures only { (n : ℕ) → n < 2 ^ 32 → HasVariable types.now wanted n
         → rank types.now wanted n ≡ number → result ≡ Some n }
