@@ -5,7 +5,6 @@ pub mod ConstantLemmas
 pub mod VariableLemmas
 pub mod LeafLemmas
 pub mod DrawingLemmas
-pub mod JoinLemmas
 pub mod OthersLemmas
 pub mod StandLemmas
 pub mod KeptLemmas

@@ -176,17 +176,3 @@ abbrev pub DrawsOnly : Context → Goal → (step : ℕ) → (words rest : List 
 DrawsOnly context goal step words rest goals code =
     (i : Instruction) → IsLeaf context goal.wanted i → words ≡ words_of context goal.wanted i →
     IsFirst goal step words rest goals code ⊎ IsOnly i goals code
-
--- ---- several values
-
--- The code has grown by code for one value more, of at most so many instructions.
-pub record AddsValue (context : Context) (t : PrimitiveTypeInfo) (size : ℕ) (code grown : List Instruction) : Type 0 where
-  pub more : List Instruction
-  pub grown_is : grown ≡ code ++ more
-  pub leaves : types_after context more [] ≡ Some (t ∷ [])
-  pub few : length more ≤ size
-
--- The code leaves these types, in at most so many instructions for each.
-pub record LeavesFew (context : Context) (size : ℕ) (types : List PrimitiveTypeInfo) (code : List Instruction) : Type 0 where
-  pub leaves : types_after context code [] ≡ Some types
-  pub few : length code ≤ length types * size

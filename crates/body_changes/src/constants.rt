@@ -1,8 +1,8 @@
 //! Constants that words name.
-ghost use Rattle.std.specs.Prelude.{◌≡◌, ◌↔◌, ◌+◌, ◌*◌, ◌%◌, ◌^◌, IsTrue};
+ghost use Rattle.std.specs.Prelude.{◌≡◌, ◌+◌, ◌*◌, ◌%◌, ◌^◌, IsTrue};
 ghost use Rattle.wasm_code.specs.Instruction.{fits_row, IsInstruction};
 ghost use Rattle.wasm_code.specs.Table.{row_at};
-ghost use Rattle.body_changes.specs.Drawing.{is_drawable, AreDrawable};
+ghost use Rattle.body_changes.specs.Drawing.{is_drawable};
 ghost use Rattle.body_changes.specs.Goals.{constant_by, constant_imm, constant_row, is_constant_imm, IsConstantOf};
 ghost use Rattle.body_changes.specs.Typed.{is_told_apart};
 
@@ -19,18 +19,6 @@ pub fn is_drawable(info: &ModuleInfo<'_>, t: PrimitiveTypeInfo) -> bool
         PrimitiveTypeInfo::ExternRef => !info.one_reference,
         _ => true,
     }
-}
-
-/// Whether values of each of the types can be drawn.
-pub fn are_drawable(info: &ModuleInfo<'_>, types: &[PrimitiveTypeInfo]) -> bool
-    ensures { IsTrue result ↔ AreDrawable info.now types.now }
-{
-    for i in 0..types.len() {
-        if !is_drawable(info, types[i]) {
-            return false;
-        }
-    }
-    true
 }
 
 // The bits of floats at the edges: zeros, ones, the smallest and the largest ones, infinities and NaNs.

@@ -1,8 +1,8 @@
 //! Code that words draw.
-ghost use Rattle.std.specs.Prelude.{◌≡◌, ◌*◌, ◌<◌, ◌≤◌, [], ◌∷◌, length, get_or, reverse, IfOk, OnOk, IsTrue};
+ghost use Rattle.std.specs.Prelude.{◌≡◌, ◌<◌, ◌≤◌, [], ◌∷◌, length, get_or, reverse, IfOk, OnOk, IsTrue};
 ghost use Rattle.wasm_code.specs.Instruction.{Instruction};
 ghost use Rattle.body_changes.specs.Drawing.{is_drawable, words_of, AreDrawable, IsLeaf};
-ghost use Rattle.body_changes.specs.Goals.{context_for, types_in, first_words, AddsValue, HasDrawn, HasPushed, IsOpen, LeavesFew};
+ghost use Rattle.body_changes.specs.Goals.{context_for, types_in, first_words, HasDrawn, HasPushed, IsOpen};
 ghost use Rattle.body_changes.specs.Typed.{Leaves};
 
 use crate::choosing::choose;
@@ -162,50 +162,5 @@ pub fn code_of_words(
         rest = words_from(rest, 3);
     }
     turn(&mut code);
-    Ok(code)
-}
-
-// Puts code for one value more behind the others, by the words behind theirs.
-fn add_code(
-    alloc: Global,
-    scope: &Scope<'_>,
-    goal: Goal,
-    words: &[u64],
-    code: &mut Vec<Instr>,
-) -> Result<(), AllocError>
-    requires { IsOpen (context_for scope.now) goal }
-    ensures { OnOk result (AddsValue (context_for scope.now) goal.wanted goal.size
-        code.old.items code.new.items) }
-{
-    let own = words_from(words, code.len().saturating_mul(3));
-    let more = code_of_words(alloc, scope, goal.wanted, goal.size, own)?;
-    for i in 0..more.len() {
-        code.push(more[i])?;
-    }
-    Ok(())
-}
-
-/// Code that leaves values of these types, each drawn as `code_of_words` draws it, with the words behind those of the one before;
-/// no code where there are no types.
-pub fn codes_of_words(
-    alloc: Global,
-    scope: &Scope<'_>,
-    types: &[PrimitiveTypeInfo],
-    size: usize,
-    words: &[u64],
-) -> Result<Vec<Instr>, AllocError>
-    requires some { 0 < size }
-    requires drawable { AreDrawable scope.now.info.now types.now }
-    ensures code { IfOk result (λ code. Leaves (context_for scope.now) code.items types.now) }
-    ensures few { IfOk result (λ code. length code.items ≤ length types.now * size) }
-{
-    let mut code = Vec::new(alloc);
-    for i in 0..types.len() {
-        let goal = Goal {
-            wanted: types[i],
-            size,
-        };
-        add_code(alloc, scope, goal, words, &mut code)?;
-    }
     Ok(code)
 }

@@ -19,8 +19,8 @@ mod unit_tests;
 mod units;
 mod variables;
 
-pub use constants::{are_drawable, is_drawable};
-pub use drawing::{code_of_words, codes_of_words};
+pub use constants::is_drawable;
+pub use drawing::code_of_words;
 pub use others::other_operator;
 pub use replacing::{replace_code, types_in_place};
 pub use source::{Scope, Source};

@@ -3,8 +3,8 @@ ghost use Rattle.std.specs.Prelude.{IfOk};
 ghost use Rattle.body_splices.specs.OwnBytes.{IsBodyIn};
 
 use crate::{
-    Scope, Source, are_drawable, code_of_words, codes_of_words, is_drawable, other_operator,
-    replace_code, types_in_place, types_of_code,
+    Scope, Source, code_of_words, is_drawable, other_operator, replace_code, types_in_place,
+    types_of_code,
 };
 use PrimitiveTypeInfo::{Empty, I32, I64};
 use std::alloc::{AllocError, Global};
@@ -52,15 +52,13 @@ enum Case {
     Replaced(usize, usize, Code, &'static [u8]),
     /// The code that words draw for a type, of so many instructions at most.
     Drawn(PrimitiveTypeInfo, usize, &'static [u64], Code),
-    /// The code that words draw for several types, of one instruction each.
-    AllDrawn(&'static [PrimitiveTypeInfo], &'static [u64], Code),
     /// The row of another operator on operands of these types, by a word.
     Other((u16, Imm), &'static [PrimitiveTypeInfo], u64, Option<u16>),
 }
 
-use Case::{AllDrawn, Drawn, InPlace, Other, Replaced, Types};
+use Case::{Drawn, InPlace, Other, Replaced, Types};
 
-const CASES: [Case; 24] = [
+const CASES: [Case; 22] = [
     Types(&[], Some(&[])),
     Types(&[FIRST, ONE, ADD, SECOND], Some(&[I32, I64])),
     // It needs an operand from before it.
@@ -87,8 +85,6 @@ const CASES: [Case; 24] = [
     // An operator and its operand.
     Drawn(I64, 2, &[4, 0, 0, 1, 0, 0], &[SECOND, COUNT_ZEROS]),
     Drawn(I64, 2, &[28, 0, 0, 1, 0, 0], &[FIRST, EXTEND]),
-    AllDrawn(&[I32, I64], &[2, 0, 0, 1, 0, 0], &[GLOBAL, SECOND]),
-    AllDrawn(&[], &[1, 0, 0], &[]),
     // `i32.eq`, then `i32.sub` behind the comparisons.
     Other(ADD, &[I32, I32], 24, Some(41)),
     Other(ADD, &[I32, I32], 10, Some(78)),
@@ -206,13 +202,6 @@ fn holds(alloc: Global, case: Case) -> Result<bool, Fail> {
         }
         Drawn(t, size, words, wanted) => {
             Ok(drawn(alloc, t, size, words)? == instrs(alloc, wanted)?)
-        }
-        AllDrawn(types, words, wanted) => {
-            if !are_drawable(&info, types) {
-                return Ok(false);
-            }
-            let found = codes_of_words(alloc, &scope, types, 1, words)?;
-            Ok(found == instrs(alloc, wanted)?)
         }
         Other((row, imm), operands, word, wanted) => {
             let instr = Instr::new(row, imm).ok_or("no such instruction")?;
