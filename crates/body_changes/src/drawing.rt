@@ -133,7 +133,8 @@ fn turn(code: &mut Vec<Instr>)
 ///
 /// Each constant of the type, and each local and global of it, is drawn by some words (`leaves_have_words`).
 ///
-/// It takes time by the size, times the number of locals and globals. The only error: an allocation was refused.
+/// It takes time by the size, times the instruction table and the number of locals and globals. The only error: an allocation was
+/// refused.
 pub fn code_of_words(
     alloc: Global,
     scope: &Scope<'_>,
