@@ -1,15 +1,12 @@
 -- A module with a rewritten function does what it did, and so does one that was rewritten several times.
-use Rattle.std.proofs.Common.{◌≡◌, ℕ, ◌+◌, inl, inr, Bool, if◌then◌else◌, List, [], ◌∷◌, ◌++◌, length, Option, Some, None, refl, sym, ap, ap₂}
-use Rattle.std.proofs.Common.{subst, ◌∙◌, arith, append_assoc, append-nil}
-use Rattle.std.specs.Prelude.{◌≢◌, option_map, slice_get, slice_range}
-use Rattle.std.proofs.lemmas.Bool.Decides.{eqb_tells}
+use Rattle.std.proofs.Common.{◌≡◌, ℕ, ◌+◌, Bool, List, [], ◌∷◌, ◌++◌, length, Option, Some, None, refl, sym, ap, ap₂}
+use Rattle.std.proofs.Common.{subst, ◌∙◌, arith, append_assoc}
+use Rattle.std.specs.Prelude.{slice_get, slice_range}
 use Rattle.std.proofs.lemmas.List.{length-append}
 use Rattle.std.proofs.lemmas.Option.{same_Some}
-use Rattle.wasm_code.specs.Body.{SpellsAll}
 use Rattle.wasm_code.specs.declared.operator.Operator.{Operator}
 use Rattle.wasm_types.specs.Module.{Module}
 use Rattle.wasm_types.specs.declared.types.PrimitiveTypeInfo.{PrimitiveTypeInfo}
-use Rattle.wasm_declarations.specs.Locals.{SpellsLocals}
 use Rattle.wasm_declarations.specs.declared.entries.Entry.{Entry}
 use Rattle.wasm_sections.specs.Section.{SpellsModule}
 use Rattle.wasm_sections.specs.declared.section.Section.{Section}
@@ -20,19 +17,17 @@ use Rattle.wasm_module.specs.Rewritten.{global_code, globals_code, IsRewritten}
 use Rattle.peephole_machine.specs.Values.{context_in, IsSound}
 use Rattle.peephole_programs.specs.hosts.Embedder.{Embedder, IsSoundEmbedder, Functions, Beyonds, running, AreValid, with_operators, with_function, DoesAs, BothDo, DoAsFunctions}
 use Rattle.peephole_programs.specs.hosts.EmbedderLaws.{EmbeddersAreSound, HarnessesDoMore, PiecesDo, OneFunctionRewritten, FunctionsDoThemselves, ValidModulesStayValid, ValidModulesDoMore, ValidSessionsDoMore, ValidHarnessesDoMore, ValidModulesAreSound}
-use Rattle.peephole_programs.specs.control.Function.{structural, RunsPieceByPiece}
+use Rattle.peephole_programs.specs.control.Function.{structural}
 use Rattle.peephole_programs.specs.modules.Running.{DoesMore, world_of, RewritesFollowOneAnother, SessionsDoMore}
-use Rattle.peephole_programs.specs.modules.Program.{Body, context_for}
+use Rattle.peephole_programs.specs.modules.Program.{Body}
 use Rattle.peephole_programs.specs.validation.Sound.{IsValid}
 use Rattle.peephole_programs.specs.control.Standard.{by_asked}
-use Rattle.peephole_programs.specs.validation.StaysValid.{StaysValid}
-use Rattle.peephole_programs.specs.control.Wider.{wider_module, wider}
+use Rattle.peephole_programs.specs.control.Wider.{wider_module}
 use Rattle.body_rewrites.specs.Doing.{DoesAsBody}
 use Rattle.body_rewrites.specs.declared.rewrite.Rewrite.{Rewrite}
-use Rattle.body_splices.specs.OwnBytes.{own_bytes, without_offsets}
-use Rattle.module_rewrites.specs.Structure.{asking_operators, HasAsking, HasLabels, AreLabelled, texts_of}
-use Rattle.module_rewrites.specs.Function.{IsFunction, parameters_of}
-use Rattle.module_rewrites.specs.ReadAgain.{HasFunction}
+use Rattle.body_splices.specs.OwnBytes.{without_offsets}
+use Rattle.module_rewrites.specs.Structure.{HasAsking, AreLabelled}
+use Rattle.module_rewrites.specs.Function.{parameters_of}
 use Rattle.module_rewrites.specs.Mutated.{MutatesEntry, IsMutated}
 use Rattle.module_rewrites.specs.Scope.{Scope}
 use Rattle.module_rewrites.specs.Mutates.{RewritesEach, Mutates}
@@ -40,14 +35,9 @@ use Rattle.module_rewrites.specs.DoesAsBefore.{IsBodyOf, AreFunctions, BothStay,
 use Rattle.module_rewrites.specs.declared.mutation.MutationError.{MutationError}
 use Rattle.module_rewrites.specs.declared.times.MadeRewrite.{MadeRewrite}
 use Rattle.module_rewrites.proofs.ReadAgainLemmas.{entry_moved}
+use Rattle.module_rewrites.proofs.StandAgainLemmas.{all_functions, had_before, labels_stay, own_body, unread_stay, OneReading}
 
 -- ---- what is known
-
--- that a text has one reading
-pub record OneReading : Type 0 where
-  pub locals : (params : List PrimitiveTypeInfo) (start : ℕ) (text : List ℕ) (types others : List PrimitiveTypeInfo) (expression place : ℕ) →
-      SpellsLocals params start text types expression → SpellsLocals params start text others place → (types ≡ others) × (expression ≡ place)
-  pub operators : (xs ys : List (Operator × ℕ)) (start : ℕ) (text : List ℕ) → SpellsAll xs start text → SpellsAll ys start text → xs ≡ ys
 
 -- that bytes are one module
 abbrev pub OneModule : Type 0
@@ -227,37 +217,6 @@ does_after law exact a b c h k = record { functions = λ info layout old is mark
               (y.made (with_more_globals x.more making) (x.made making is));
         }
 
--- ---- one function has one reading
-
-pub one_body : OneReading → (bytes : List ℕ) (info : Module) (layout : Layout) (n : ℕ) (locals types : List PrimitiveTypeInfo) (expression other : ℕ)
-    (operators located : List (Operator × ℕ)) → IsFunction bytes info layout n locals expression operators →
-    IsFunction bytes info layout n types other located → (locals ≡ types) × (operators ≡ located)
-one_body one bytes info layout n locals types expression other operators located f g =
-    let entry : g.entry ≡ f.entry = same_Some _ _ (sym g.is.at ∙ f.is.at) in
-    let params : g.params ≡ f.params = same_Some _ _ (sym g.is.parameters ∙ f.is.parameters) in
-    let there : SpellsLocals f.params f.entry.contents (slice_range bytes f.entry.contents f.entry.end) types other =
-    subst (λ (p : Entry × List PrimitiveTypeInfo). SpellsLocals p.1 p.0.contents (slice_range bytes p.0.contents p.0.end) types other)
-    (ap₂ (λ (e : Entry) (ps : List PrimitiveTypeInfo). (e, ps)) entry params) g.locals_are in
-    let (same, place) = one.locals f.params f.entry.contents (slice_range bytes f.entry.contents f.entry.end) locals types expression other
-    f.locals_are there in
-    let all : SpellsAll located expression (slice_range bytes expression f.entry.end) =
-    subst (λ (p : ℕ × Entry). SpellsAll located p.0 (slice_range bytes p.0 p.1.end)) (ap₂ (λ (k : ℕ) (e : Entry). (k, e)) (sym place) entry) g.body.all in
-    (same, one.operators operators located expression (slice_range bytes expression f.entry.end) f.body.all all)
-
-one_function : OneReading → (bytes : List ℕ) (info : Module) (layout : Layout) (n : ℕ) (locals types : List PrimitiveTypeInfo) (expression : ℕ)
-    (operators : List (Operator × ℕ)) (body : List Operator) → IsFunction bytes info layout n locals expression operators →
-    HasFunction bytes info layout n types body → (locals ≡ types) × (without_offsets operators ≡ body)
-one_function one bytes info layout n locals types expression operators body f h =
-    let (same, located) = one_body one bytes info layout n locals types expression h.expression operators h.located f h.is in
-    (same, ap without_offsets located ∙ h.are)
-
--- so have its operators that ask more
-one_asking : OneReading → (bytes : List ℕ) (info : Module) (layout : Layout) (n : ℕ) (xs ys : List (Operator × List ℕ)) →
-    HasAsking bytes info layout n xs → HasAsking bytes info layout n ys → xs ≡ ys
-one_asking one bytes info layout n xs ys f g =
-    let (same, located) = one_body one bytes info layout n f.locals g.locals f.expression g.expression f.located g.located f.is g.is in
-    sym f.are ∙ (ap (λ (os : List (Operator × ℕ)). asking_operators (own_bytes bytes os)) located ∙ g.are)
-
 -- ---- a rewritten function among the others
 
 module _ (one : OneReading) (law : OfPrograms) (alike : MadeAlike) {scope : Scope} {bytes : List ℕ} {info : Module} {layout : Layout} {n : ℕ}
@@ -279,74 +238,12 @@ module _ (one : OneReading) (law : OfPrograms) (alike : MadeAlike) {scope : Scop
 
   rewritten_does : (b : Body) → IsBodyOf bytes info layout index b → DoesAs info new more b (with_operators written b)
   rewritten_does b h =
-      let same : h.n ≡ n = let e = h.index in omega (arith, e) in
-      let there = subst (λ (k : ℕ). HasFunction bytes info layout k (b.params ++ b.locals) b.operators) same h.function in
-      let (locals, operators) = one_function one bytes info layout n m.locals (b.params ++ b.locals) m.expression m.operators b.operators m.function there in
+      let (locals, operators) = own_body one m.function m.again b h in
       body_does info new b (ap (context_in info) locals) operators
-
-  -- operators that ask more had their bytes before
-  had_before : (k : ℕ) (texts : List (Operator × List ℕ)) → HasAsking new (wider_module new more info) m.again.again k texts →
-      HasAsking bytes info layout k texts
-  had_before k texts h = elim (eqb_tells k n) [
-    | inl (is, same) ↦
-        let here = subst (λ (i : ℕ). HasAsking new (wider_module new more info) m.again.again i texts) same h in
-        let alike : m.again.asking ≡ texts =
-        one_asking one new (wider_module new more info) m.again.again n m.again.asking texts m.again.has here in
-        subst (λ (i : ℕ). HasAsking bytes info layout i texts) (sym same) (subst (HasAsking bytes info layout n) alike m.again.had)
-    | inr (is, differ) ↦ (m.again.others_have k texts differ).1 h
-  ]
-
-  labels_stay : (beyonds : Beyonds) → AreLabelled bytes info layout beyonds → AreLabelled new (wider_module new more info) m.again.again beyonds
-  labels_stay beyonds labelled k texts h =
-      subst (λ (i : ℕ). HasLabels (texts_of texts) (beyonds (i + k))) (sym m.again.imported) (labelled k texts (had_before k texts h))
-
-  unread_stay : (k : ℕ) (entry : Entry) → slice_get layout.entries k ≡ Some entry → CannotRead bytes info layout k →
-      HasContents new m.again.again.entries k (slice_range bytes entry.contents entry.end)
-  unread_stay k entry at cannot = elim (eqb_tells k n) [
-    | inl (is, same) ↦ absurd (subst (CannotRead bytes info layout) same cannot m.locals m.expression m.operators m.function)
-    | inr (is, differ) ↦ m.again.contents k entry differ at
-  ]
 
   module _ (old : Functions) (are : AreFunctions bytes info layout old) where
     both_do : DoAsFunctions info new more old (with_function old index written)
     both_do = law.one info new more old index written (λ b k. rewritten_does b (are index b k))
-
-    all_functions : AreFunctions new (wider_module new more info) m.again.again (with_function old index written)
-    all_functions f b k = elim (eqb_tells f index) [
-      | inl (is, same) ↦
-          let there : option_map (with_operators written) (old f) ≡ Some b =
-          subst (λ (x : Bool). (if x then option_map (with_operators written) (old f) else old f) ≡ Some b) is k in
-          go (old f) refl there same
-      | inr (is, differ) ↦
-          let there : old f ≡ Some b =
-          subst (λ (x : Bool). (if x then option_map (with_operators written) (old f) else old f) ≡ Some b) is k in
-          other (are f b there) differ
-    ]
-      where
-        go : (o : Option Body) → old f ≡ o → option_map (with_operators written) o ≡ Some b → f ≡ index →
-            IsBodyOf new (wider_module new more info) m.again.again f b
-        go None k e same = absurd cc
-        go (Some c) k e same =
-            let own = are f c k in
-            let number : own.n ≡ n = let i = own.index in omega (arith, i, same) in
-            let (locals, operators) = one_function one bytes info layout n m.locals (c.params ++ c.locals) m.expression m.operators c.operators m.function
-            (subst (λ (x : ℕ). HasFunction bytes info layout x (c.params ++ c.locals) c.operators) number own.function) in
-            subst (IsBodyOf new (wider_module new more info) m.again.again f) (same_Some (with_operators written c) b e) (record {
-              n = n;
-              index = same ∙ ap (λ (x : ℕ). x + n) (sym m.again.imported);
-              params = own.params;
-              function = subst (λ (ts : List PrimitiveTypeInfo). HasFunction new (wider_module new more info) m.again.again n ts written) locals
-                  m.again.function;
-            })
-
-        other : IsBodyOf bytes info layout f b → f ≢ index → IsBodyOf new (wider_module new more info) m.again.again f b
-        other own differ = record {
-          n = own.n;
-          index = own.index ∙ ap (λ (x : ℕ). x + own.n) (sym m.again.imported);
-          params = own.params;
-          function = (m.again.others own.n (b.params ++ b.locals) b.operators
-              (λ e. differ (own.index ∙ ap (λ (x : ℕ). layout.imported_functions + x) e))).0 own.function;
-        }
 
     module_after : IsModuleAfter bytes info layout old new
     module_after =
@@ -356,13 +253,13 @@ module _ (one : OneReading) (law : OfPrograms) (alike : MadeAlike) {scope : Scop
           again = m.again.again;
           is = m.again.is;
           functions = functions;
-          are = all_functions;
+          are = all_functions one m.function m.again old are;
           after = do_as_before law info new more old functions both_do;
           imported = m.again.imported;
           indices = m.again.indices.0;
-          asking = had_before;
-          labels = labels_stay;
-          unread = unread_stay;
+          asking = had_before one m.function m.again;
+          labels = labels_stay one m.function m.again;
+          unread = unread_stay one m.function m.again;
           made = λ making is. alike bytes info layout n (slice_range bytes m.function.entry.contents m.expression ++ m.body) more new
               m.again.again.sections making known m.written m.again.is.spells is;
         }

@@ -26,7 +26,7 @@ use Rattle.module_rewrites.specs.Drawing.{ContainsByte, contents_length}
 use Rattle.module_rewrites.specs.EntryWords.{DrawsRewrite, HasEntryWords}
 use Rattle.module_rewrites.specs.Function.{IsFunction}
 use Rattle.module_rewrites.specs.Scope.{Scope, wanted_of}
-use Rattle.module_rewrites.proofs.DoesAsBeforeLemmas.{OneReading, one_body}
+use Rattle.module_rewrites.proofs.StandAgainLemmas.{OneReading, one_body}
 
 -- an operator takes a byte or more
 some_byte : (text : List ℕ) (x : Operator) → Spells text x → 0 < length text

@@ -15,3 +15,4 @@ pub mod OneChoiceLemmas
 pub mod AttemptLemmas
 pub mod DoseLemmas
 pub mod OperatorCodeLemmas
+pub mod StandAgainLemmas

@@ -24,7 +24,7 @@ use Rattle.body_rewrites.specs.declared.growth.Growth.{Growth}
 use Rattle.module_rewrites.specs.Scope.{Scope, wanted_of}
 use Rattle.module_rewrites.specs.Size.{IsSmaller}
 use Rattle.module_rewrites.specs.Writing.{MakesAt, WritesAt}
-use Rattle.module_rewrites.proofs.DoesAsBeforeLemmas.{OneReading, one_body}
+use Rattle.module_rewrites.proofs.StandAgainLemmas.{OneReading, one_body}
 use Rattle.module_rewrites.proofs.OneSearchLemmas.{AreApart}
 
 -- What is said of bodies and modules that are written: each is one text, where it is one at all.

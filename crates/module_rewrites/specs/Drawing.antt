@@ -16,12 +16,15 @@ pub record ContainsByte (entries : List Entry) (n byte : ℕ) : Type 0 where
   pub from : sum_by contents_length (take n entries) ≤ byte
   pub to : byte < sum_by contents_length (take (n + 1) entries)
 
--- The next word names the n-th entry: it contains the byte whose number is the word, modulo how many bytes entries contain. (There are some, and fewer
--- than 2 ^ 64.)
-pub record NamesEntry (s : Stream) (entries : List Entry) (n : ℕ) : Type 0 where
+-- The word names the n-th entry: it contains the byte whose number is the word, modulo how many bytes entries contain. (There are some, and fewer than 2 ^ 64.)
+pub record WordNames (word : ℕ) (entries : List Entry) (n : ℕ) : Type 0 where
   pub inside : n < length entries
   pub contains : 0 < sum_by contents_length entries → sum_by contents_length entries < 2 ^ 64 →
-      ContainsByte entries n ((next_u64 s).0 % sum_by contents_length entries)
+      ContainsByte entries n (word % sum_by contents_length entries)
+
+-- the next word does
+abbrev pub NamesEntry : Stream → List Entry → (n : ℕ) → Type 0
+NamesEntry s entries n = WordNames (next_u64 s).0 entries n
 
 -- So many attempts, each at the entry that `at` gives for its number, one after another, are in vain; `after` is what the generator then gives.
 abbrev pub EachInVain : (Vain : Stream → ℕ → Stream → Type 0) → (at : ℕ → ℕ) → (count : ℕ) → Stream → (after : Stream) → Type 0

@@ -18,3 +18,5 @@ pub mod Seeded
 pub mod DoesAsBefore
 pub mod Attempt
 pub mod Dose
+pub mod StandAgain
+pub mod Inside

@@ -1,15 +1,16 @@
 -- A rewritten module read again: its functions are those of the old one, of which one has another body (this project).
-use Rattle.std.specs.Prelude.{◌≡◌, ◌≢◌, ◌↔◌, ℕ, List, length, Some, slice_get, slice_range}
+use Rattle.std.specs.Prelude.{◌≡◌, ◌≢◌, ◌↔◌, ℕ, List, [], ◌++◌, length, Some, slice_get, slice_range}
+use Rattle.wasm_code.specs.Body.{SpellsCode}
 use Rattle.wasm_code.specs.declared.operator.Operator.{Operator}
 use Rattle.wasm_types.specs.Module.{Module}
 use Rattle.wasm_types.specs.declared.types.PrimitiveTypeInfo.{PrimitiveTypeInfo}
 use Rattle.wasm_declarations.specs.declared.entries.Entry.{Entry}
 use Rattle.wasm_module.specs.Module.{Layout, IsModule}
-use Rattle.wasm_module.specs.Reread.{HasContents}
+use Rattle.wasm_module.specs.Reread.{HasContents, IsReread}
 use Rattle.peephole_programs.specs.control.Wider.{wider_module}
-use Rattle.body_splices.specs.OwnBytes.{without_offsets}
+use Rattle.body_splices.specs.OwnBytes.{own_bytes, without_offsets}
 use Rattle.module_rewrites.specs.Function.{IsFunction, KnowsIndices}
-use Rattle.module_rewrites.specs.Structure.{HasAsking}
+use Rattle.module_rewrites.specs.Structure.{asking_operators, HasAsking}
 
 -- The n-th code entry is a function with these types of parameters and locals, and these operators, wherever they stand.
 pub record HasFunction (bytes : List ℕ) (info : Module) (layout : Layout) (n : ℕ) (locals : List PrimitiveTypeInfo) (operators : List Operator) :
@@ -39,3 +40,13 @@ pub record IsReadAgain (bytes : List ℕ) (info : Module) (layout : Layout) (n :
   pub indices : KnowsIndices again ↔ KnowsIndices layout
   pub contents : (k : ℕ) (old : Entry) → k ≢ n → slice_get layout.entries k ≡ Some old →
       HasContents new again.entries k (slice_range bytes old.contents old.end)
+
+-- A module that is read again with a body of these operators in its n-th code entry, behind the locals as they stood, is read again so, where the operators
+-- that ask more than they carry have the bytes that they had.
+abbrev pub BodiesAreReadAgain : Type 0
+BodiesAreReadAgain =
+    (bytes : List ℕ) (info : Module) (layout : Layout) (n : ℕ) (locals : List PrimitiveTypeInfo) (expression : ℕ) (operators : List (Operator × ℕ))
+    (f : IsFunction bytes info layout n locals expression operators) (body : List ℕ) (written : List (Operator × ℕ)) (new : List ℕ) →
+    SpellsCode 0 body written → asking_operators (own_bytes body written) ≡ asking_operators (own_bytes bytes operators) →
+    IsReread bytes info layout n (slice_range bytes f.entry.contents expression ++ body) [] new →
+    IsReadAgain bytes info layout n locals (without_offsets written) [] new

@@ -1,10 +1,9 @@
 //! A code entry, drawn by its size.
 ghost use Rattle.std.specs.Prelude.{◌≡◌, ◌<◌, ◌≤◌, ◌%◌, ◌^◌, All, length, IfNone, IfSome};
 ghost use Rattle.std.specs.List.{sum_by};
-ghost use Rattle.rand_core.specs.Stream.{next_u64};
 ghost use Rattle.wasm_declarations.specs.declared.entries.Entry.{Entry as Place};
 ghost use Rattle.body_rewrites.specs.Choice.{after_word};
-ghost use Rattle.module_rewrites.specs.Drawing.{ContainsByte, NamesEntry, contents_length};
+ghost use Rattle.module_rewrites.specs.Drawing.{ContainsByte, NamesEntry, WordNames, contents_length};
 
 use rand_core::Rng;
 use wasm_module::{Entry, Layout};
@@ -47,19 +46,30 @@ fn entry_of_byte(entries: &[Entry], byte: usize) -> Option<usize>
     None
 }
 
-// A number below `count`: the generator's next word, modulo `count`.
-fn draw_below<R: Rng>(generator: &mut R, count: usize) -> usize
+// A number below `count`: the word, modulo `count`.
+fn number_below(word: u64, count: usize) -> usize
     requires some { 0 < count }
-    ensures drawn { result ≡ (next_u64 (R.stream generator.old)).0 % count }
-    ensures after { R.stream generator.new ≡ after_word (R.stream generator.old) }
+    ensures { result ≡ word % count }
 {
-    let word = generator.next_u64();
     (word % count as u64) as usize
 }
 
-/// The index of a code entry that is drawn by its size: the generator's next word, modulo the number of bytes that all entries
-/// contain, names one of these bytes, and so the entry that contains it. The first one where no entry contains any. Condition:
-/// there is an entry, and they are those of a module, which has fewer than 2^64 bytes.
+/// The index of the code entry that a word names by its size: the word, modulo the number of bytes that all entries contain, names one
+/// of these bytes, and so the entry that contains it. The first one where no entry contains any. Condition: there is an entry, and
+/// they are those of a module, which has fewer than 2^64 bytes.
+pub fn entry_of_word(layout: &Layout, word: u64) -> usize
+    requires some { 0 < length layout.now.entries }
+    requires ordered { All (λ (e : Place). e.contents ≤ e.end) layout.now.entries }
+    requires few { sum_by contents_length layout.now.entries < 2 ^ 64 }
+    ensures named { WordNames word layout.now.entries result }
+    ensures inside { result < length layout.now.entries }
+{
+    let count = size_of_entries(&layout.entries);
+    let byte = number_below(word, count.max(1));
+    entry_of_byte(&layout.entries, byte).unwrap_or(0)
+}
+
+/// The index of a code entry that is drawn by its size: the one that the generator's next word names.
 pub(crate) fn draw_entry<R: Rng>(generator: &mut R, layout: &Layout) -> usize
     requires some { 0 < length layout.now.entries }
     requires ordered { All (λ (e : Place). e.contents ≤ e.end) layout.now.entries }
@@ -68,7 +78,5 @@ pub(crate) fn draw_entry<R: Rng>(generator: &mut R, layout: &Layout) -> usize
     ensures inside { result < length layout.now.entries }
     ensures after { R.stream generator.new ≡ after_word (R.stream generator.old) }
 {
-    let count = size_of_entries(&layout.entries);
-    let byte = draw_below(generator, count.max(1));
-    entry_of_byte(&layout.entries, byte).unwrap_or(0)
+    entry_of_word(layout, generator.next_u64())
 }

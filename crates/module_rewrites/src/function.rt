@@ -84,8 +84,8 @@ fn parameters<'a>(info: &'a ModuleInfo<'_>, index: usize) -> Option<&'a [Primiti
     }
 }
 
-// The index, among all functions, of the one whose code is the n-th entry.
-pub(crate) fn function_index(info: &ModuleInfo<'_>, layout: &Layout, n: usize) -> usize
+/// The index, among all functions, of the one whose code is the n-th entry. Condition: the module has such a function.
+pub fn function_index(info: &ModuleInfo<'_>, layout: &Layout, n: usize) -> usize
     requires { layout.now.imported_functions + n < length info.now.functions }
     ensures { result ≡ layout.now.imported_functions + n }
 {

@@ -21,11 +21,14 @@ ghost use Rattle.module_rewrites.specs.DoesAsBefore.{DoesAsBefore};
 ghost use Rattle.module_rewrites.specs.Drawing.{contents_length};
 ghost use Rattle.module_rewrites.specs.EntryWords.{DrawsRewrite, HasEntryWords};
 ghost use Rattle.module_rewrites.specs.Function.{IsFunction};
+ghost use Rattle.module_rewrites.specs.Inside.{FunctionsAreInside, LocalsStandBefore};
 ghost use Rattle.module_rewrites.specs.Mutated.{CannotMutate, IsMutated, IsOfSize, RefusesMutation};
 ghost use Rattle.module_rewrites.specs.Mutates.{Mutates};
+ghost use Rattle.module_rewrites.specs.ReadAgain.{BodiesAreReadAgain};
 ghost use Rattle.module_rewrites.specs.Scope.{Scope, wanted_of};
 ghost use Rattle.module_rewrites.specs.Size.{IsSmaller};
 ghost use Rattle.module_rewrites.specs.Smaller.{MakesSmaller};
+ghost use Rattle.module_rewrites.specs.StandAgain.{FunctionsStandAgain};
 ghost use Rattle.module_rewrites.specs.Stopped.{HadMemory};
 ghost use Rattle.module_rewrites.specs.declared.mutation.MutationError.{MutationError};
 ghost use Rattle.module_rewrites.specs.declared.times.MadeRewrite.{MadeRewrite};
@@ -42,8 +45,9 @@ use peephole_programs::laws::{
 use wasm_code::laws::one_list as one_list_of_operators;
 use wasm_declarations::laws::one_list;
 use wasm_module::laws::{
-    entries_fit_the_module, modules_have_no_fault, modules_without_debug_are_the_same, one_reading,
-    one_rewritten_module, rewritten_modules_are_made_alike,
+    entries_are_inside, entries_fit_the_module, modules_have_no_fault,
+    modules_without_debug_are_the_same, one_reading, one_rewritten_module,
+    rewritten_modules_are_made_alike,
 };
 use wasm_sections::laws::one_module;
 
@@ -54,6 +58,29 @@ pub fn rewritten_modules_are_read_again()
         → (fault : ModuleFault) (offset : ℕ) → IsModuleFault new fault offset → fault ≡ Memory }
 {
     modules_have_no_fault();
+}
+
+/// A module that is read again with another body in one of its code entries has that function, and all others as they were.
+pub fn bodies_are_read_again()
+    ensures { BodiesAreReadAgain }
+{
+    own_bytes_stay();
+}
+
+/// Of such a module the functions are those of the old one, with the new body in place.
+pub fn functions_stand_again()
+    ensures { FunctionsStandAgain }
+{
+    one_list();
+    one_list_of_operators();
+}
+
+/// A function's body stands in the module's bytes (`body`), behind its locals (`locals`).
+pub fn functions_are_inside()
+    ensures body { FunctionsAreInside }
+    ensures locals { LocalsStandBefore }
+{
+    entries_are_inside();
 }
 
 /// A module in which an operator was rewritten (`one`), or several, one after another (`each`), is valid where it was, and does what it

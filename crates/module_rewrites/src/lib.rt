@@ -18,7 +18,8 @@ mod watch;
 
 pub use attempt::{Reason, chosen_entries, index_of};
 pub use dose::{Dose, count_of_dose};
-pub use function::{BodyError, FunctionBody, FunctionError, read_function};
+pub use drawing::entry_of_word;
+pub use function::{BodyError, FunctionBody, FunctionError, function_index, read_function};
 pub use mutation::MutationError;
 pub use operator_code::{Family, OperatorCode};
 pub use scope::Scope;

@@ -1,4 +1,4 @@
-use Rattle.module_rewrites.proofs.DoesAsBeforeLemmas.{OneReading}
+use Rattle.module_rewrites.proofs.StandAgainLemmas.{OneReading}
 use Rattle.module_rewrites.proofs.OneAttemptLemmas.{OneWriting}
 use Rattle.module_rewrites.proofs.OneChoiceLemmas.{answers_same, cannot_none, each_begins, each_same, gives_up_none, module_one, refused_apart}
 use Rattle.module_rewrites.proofs.laws.equal_words_give_equal_bytes.Goals as goal

@@ -1,4 +1,5 @@
-use Rattle.module_rewrites.proofs.DoesAsBeforeLemmas.{OneReading, OfModules, OfPrograms, does_after, mutated_does, mutates_does}
+use Rattle.module_rewrites.proofs.DoesAsBeforeLemmas.{OfModules, OfPrograms, does_after, mutated_does, mutates_does}
+use Rattle.module_rewrites.proofs.StandAgainLemmas.{OneReading}
 use Rattle.module_rewrites.proofs.SameModuleLemmas.{OfStripped, does_itself, does_stripped}
 use Rattle.module_rewrites.proofs.laws.rewritten_modules_do_as_before.Goals as goal
 

@@ -1,4 +1,4 @@
-use Rattle.module_rewrites.proofs.DoesAsBeforeLemmas.{OneReading}
+use Rattle.module_rewrites.proofs.StandAgainLemmas.{OneReading}
 use Rattle.module_rewrites.proofs.EntryWordsLemmas.{draws_one}
 use Rattle.module_rewrites.proofs.laws.words_draw_one_rewrite.Goals as goal
 
