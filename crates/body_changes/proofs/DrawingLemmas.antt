@@ -4,13 +4,13 @@ use Rattle.std.proofs.Common.{length-append, arith}
 use Rattle.std.specs.Prelude.{reverse, IsTrue}
 use Rattle.std.specs.List.{All}
 use Rattle.std.proofs.lemmas.List.{map-append, reverse-append, length-reverse}
-use Rattle.std.proofs.lemmas.List.Elements.{All-head, All-tail, All-append, All-cons, All-nil}
+use Rattle.std.proofs.lemmas.List.Elements.{All-head, All-tail, All-append, All-push, All-cons, All-nil}
 use Rattle.wasm_code.specs.Instruction.{Instruction}
 use Rattle.wasm_types.specs.declared.types.PrimitiveTypeInfo.{PrimitiveTypeInfo}
 use Rattle.peephole_machine.specs.Values.{Context}
 use Rattle.body_changes.specs.declared.goal.Goal.{Goal}
 use Rattle.body_changes.specs.declared.goal.Words.{Words}
-use Rattle.body_changes.specs.Drawing.{is_drawable, words_of, AreDrawable, IsLeaf}
+use Rattle.body_changes.specs.Drawing.{asks_types_alone, is_drawable, words_of, AreDrawable, AskTypesAlone, IsLeaf}
 use Rattle.body_changes.specs.Goals.{first_words, types_in, wanted_types, whole_size, AreFor, DrawsOnly, HasDrawn, HasPushed, IsDrawing, IsOpen}
 use Rattle.body_changes.specs.Typed.{types_after, Leaves}
 use Rattle.body_changes.proofs.ConstantLemmas.{drawable_told}
@@ -47,6 +47,7 @@ module _ (context : Context) where
             (behind_others context h.chosen.instr (wanted_types front) ts (Some goal.wanted)
             (told_known context h.chosen.instr ts goal.wanted (drawable_told context.info goal.wanted is_open.drawable) h.fits.types))
             ∙ (ap (types_after context (reverse code)) (sym types) ∙ d.whole));
+        plain = subst AskTypesAlone (sym h.added) (All-push (λ (i : Instruction). IsTrue (asks_types_alone i)) code h.chosen.instr d.plain h.fits.plain);
       }
     where
       longer : (goals ≡ []) ⊎ (length code ≡ step) → length grown ≡ length code + 1 → length grown ≡ step + 1
@@ -61,6 +62,7 @@ module _ (context : Context) where
     goes_on = inl f;
     some = subst (All (IsOpen context)) (e ∙ sym f) d.some;
     whole = ap (λ (gs : List Goal). types_after context (reverse code) (wanted_types gs)) (f ∙ sym e) ∙ d.whole;
+    plain = d.plain;
   }
 
   -- ---- the end
@@ -88,6 +90,16 @@ module _ (context : Context) where
             ∙ (ap (λ (gs : List Goal). types_after context (reverse code) (wanted_types gs)) (sym none) ∙ d.whole),
         omega arith,
       )
+
+  all_reversed : {X : Type 0} (P : X → Type 0) (xs : List X) → All P xs → All P (reverse xs)
+  all_reversed P [] h = h
+  all_reversed P (x ∷ xs) h =
+      subst (All P) (sym (reverse-append (x ∷ []) xs)) (All-push P (reverse xs) x (all_reversed P xs (All-tail P x xs h)) (All-head P x xs h))
+
+  pub drawn_plain : (wanted : PrimitiveTypeInfo) (size step : ℕ) (goals : List Goal) (code turned : List Instruction) → turned ≡ reverse code →
+      IsDrawing context wanted size step goals code → AskTypesAlone turned
+  drawn_plain wanted size step goals code turned e d =
+      subst AskTypesAlone (sym e) (all_reversed (λ (i : Instruction). IsTrue (asks_types_alone i)) code d.plain)
 
   -- ---- a single instruction
 

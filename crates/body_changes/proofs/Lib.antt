@@ -10,3 +10,14 @@ pub mod StandLemmas
 pub mod KeptLemmas
 pub mod UnitLemmas
 pub mod PassLemmas
+pub mod OneUnitLemmas
+pub mod ChangingLemmas
+pub mod ProposalLemmas
+pub mod EndLemmas
+pub mod NumberLemmas
+pub mod CopyLemmas
+pub mod StatementLemmas
+pub mod PartLemmas
+pub mod OperatorLemmas
+pub mod AccessLemmas
+pub mod BeyondLemmas

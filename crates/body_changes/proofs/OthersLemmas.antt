@@ -78,6 +78,15 @@ other_there asked i other own gives h =
     one_result : (a b : Option PrimitiveTypeInfo) → Some a ≡ Some b → a ≡ b
     one_result a b e = cc
 
+-- the one that the word names
+pub other_named : (asked : Asked) (i : Instruction) (o : Option Instruction) (word : ℕ) → i.row ≡ asked.own →
+    told_types (context_for asked.scope) i asked.operands.now ≡ Some asked.gives →
+    ((row : ℕ) → row < 446 → word ≡ row → IsTrue (is_other asked row) → o ≡ Some (bare row)) →
+    (other : Instruction) → IsOther (context_for asked.scope) asked.operands.now i other → word ≡ other.row → o ≡ Some other
+other_named asked i o word own gives named other h e =
+    let (small, is) = other_there asked i other own gives h in
+    named other.row small e is ∙ ap (λ (j : Instruction). Some j) (sym h.is_bare)
+
 -- ---- how many there are
 
 -- where there are none, no row is one

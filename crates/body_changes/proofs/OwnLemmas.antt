@@ -8,7 +8,7 @@ use Rattle.wasm_code.specs.declared.operator.Operator.TheVariants.{Instr}
 use Rattle.body_splices.specs.OwnBytes.{without_offsets}
 use Rattle.body_changes.specs.Replacing.{AreTheseInstructions, HasInstruction}
 
-take_got : {A : Type 0} (xs : List A) (i : ℕ) (x : A) → slice_get xs i ≡ Some x → take (i + 1) xs ≡ take i xs ++ x ∷ []
+pub take_got : {A : Type 0} (xs : List A) (i : ℕ) (x : A) → slice_get xs i ≡ Some x → take (i + 1) xs ≡ take i xs ++ x ∷ []
 take_got [] zero x e = absurd cc
 take_got [] (suc i) x e = absurd cc
 take_got (y ∷ ys) zero x e = let same : y ≡ x = cc in ap (λ z. z ∷ []) same
@@ -56,3 +56,20 @@ same_instructions operators a b g h = mapped_same a b (sym g.are ∙ h.are)
         let same : x ≡ y = cc in
         let tails : map (λ (j : Instruction). Instr j) a ≡ map (λ (j : Instruction). Instr j) b = cc in
         ap₂ (λ (z : Instruction) zs. z ∷ zs) same (mapped_same a b tails)
+
+-- ---- one by one
+
+mapped_there : (code : List Instruction) (i : ℕ) → i < length code →
+    (x : Instruction) × (slice_get code i ≡ Some x) × (slice_get (map (λ (j : Instruction). Instr j) code) i ≡ Some (Instr x))
+mapped_there [] i l = absurd (omega arith)
+mapped_there (x ∷ code) zero l = (x, refl, refl)
+mapped_there (x ∷ code) (suc i) l = mapped_there code i (omega arith)
+
+-- each of them stands at its index
+pub own_there : (operators : List (Operator × ℕ)) (code : List Instruction) (i : ℕ) → AreTheseInstructions operators code → i < length code →
+    (x : Instruction) × (slice_get code i ≡ Some x) × HasInstruction operators i x
+own_there operators code i h l =
+    let (x, is, there) = mapped_there code i l in (x, is, ap (λ xs. slice_get xs i) h.are ∙ there)
+
+pub one_there : (operators : List (Operator × ℕ)) (i : ℕ) (x y : Instruction) → HasInstruction operators i x → HasInstruction operators i y → x ≡ y
+one_there operators i x y a b = let e : Some (Instr x) ≡ Some (Instr y) = sym a ∙ b in let same : Instr x ≡ Instr y = cc in cc

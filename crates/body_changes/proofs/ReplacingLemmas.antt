@@ -90,7 +90,7 @@ same_types context own others old types same a b =
     let g : Some old ≡ Some types = sym a ∙ (ap (λ xs. types_after context xs []) same ∙ b) in cc
 
 -- it leaves what it leaves, and no other types
-closed_one : (context : Context) (operators : List (Operator × ℕ)) (start end : ℕ) (old types : List PrimitiveTypeInfo) →
+pub closed_one : (context : Context) (operators : List (Operator × ℕ)) (start end : ℕ) (old types : List PrimitiveTypeInfo) →
     IsClosed context operators start end old → IsClosed context operators start end types → old ≡ types
 closed_one context operators start end old types a b =
     same_types context a.own b.own old types (same_instructions (slice_range operators start end) a.own b.own a.stands b.stands) a.leaves b.leaves

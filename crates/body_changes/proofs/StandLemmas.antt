@@ -27,18 +27,18 @@ Types = List PrimitiveTypeInfo
 
 -- ---- places
 
-get_behind : {X : Type 0} (xs : List X) (n i : ℕ) → slice_get (drop n xs) i ≡ slice_get xs (n + i)
+pub get_behind : {X : Type 0} (xs : List X) (n i : ℕ) → slice_get (drop n xs) i ≡ slice_get xs (n + i)
 get_behind xs zero i = ap (slice_get xs) (let e : i ≡ 0 + i = omega arith in e)
 get_behind [] (suc n) i = refl
 get_behind (x ∷ xs) (suc n) i = get_behind xs n i ∙ ap (slice_get (x ∷ xs)) (let e : suc (n + i) ≡ suc n + i = omega arith in e)
 
-nothing_there : (operators : Operators) (s : ℕ) → AreTheseInstructions (slice_range operators s s) []
+pub nothing_there : (operators : Operators) (s : ℕ) → AreTheseInstructions (slice_range operators s s) []
 nothing_there operators s = record { are = ap (λ n. without_offsets (take n (drop s operators))) (let e : s - s ≡ 0 = omega arith in e) }
 
 only_nothing : (operators : Operators) (s : ℕ) (code : List Instruction) → AreTheseInstructions (slice_range operators s s) code → code ≡ []
 only_nothing operators s code h = same_instructions (slice_range operators s s) code [] h (nothing_there operators s)
 
-one_behind : (operators : Operators) (s at : ℕ) (code : List Instruction) (i : Instruction) → s ≤ at → HasInstruction operators at i →
+pub one_behind : (operators : Operators) (s at : ℕ) (code : List Instruction) (i : Instruction) → s ≤ at → HasInstruction operators at i →
     AreTheseInstructions (slice_range operators s at) code → AreTheseInstructions (slice_range operators s (at + 1)) (code ++ i ∷ [])
 one_behind operators s at code i le has h =
     let more : at - s + 1 ≡ at + 1 - s = omega arith in
@@ -50,7 +50,7 @@ one_behind operators s at code i le has h =
     (one_more (drop s operators) (at - s) i code (code ++ i ∷ []) there h refl)
 
 -- the first part of the code, and the rest
-first_part : (operators : Operators) (s m e : ℕ) (code : List Instruction) → s ≤ m → m ≤ e → AreTheseInstructions (slice_range operators s e) code →
+pub first_part : (operators : Operators) (s m e : ℕ) (code : List Instruction) → s ≤ m → m ≤ e → AreTheseInstructions (slice_range operators s e) code →
     AreTheseInstructions (slice_range operators s m) (take (m - s) code)
 first_part operators s m e code a b h = record {
   are = ap without_offsets (sym (take-take (m - s) (e - s) (drop s operators) (omega arith)))
@@ -58,7 +58,7 @@ first_part operators s m e code a b h = record {
       ∙ (ap (take (m - s)) h.are ∙ take-map (λ (i : Instruction). Instr i) (m - s) code));
 }
 
-second_part : (operators : Operators) (s m e : ℕ) (code : List Instruction) → s ≤ m → m ≤ e → AreTheseInstructions (slice_range operators s e) code →
+pub second_part : (operators : Operators) (s m e : ℕ) (code : List Instruction) → s ≤ m → m ≤ e → AreTheseInstructions (slice_range operators s e) code →
     AreTheseInstructions (slice_range operators m e) (drop (m - s) code)
 second_part operators s m e code a b h =
     let split : e - s ≡ m - s + (e - m) = omega arith in
@@ -141,14 +141,14 @@ types_above context i front ts us e =
     ∙ (behind_others context i (front ++ take f.below ts) (drop f.below ts) f.gives f.typed
     ∙ ap (λ (xs : Types). Some xs) (append_assoc front (take f.below ts) (list_of f.gives) ∙ ap (λ xs. front ++ xs) (sym f.left))))
 
-code_above : (context : Context) (code : List Instruction) (front ts us : Types) → types_after context code ts ≡ Some us →
+pub code_above : (context : Context) (code : List Instruction) (front ts us : Types) → types_after context code ts ≡ Some us →
     types_after context code (front ++ ts) ≡ Some (front ++ us)
 code_above context [] front ts us e = let same : ts ≡ us = cc in ap (λ (xs : Types). Some (front ++ xs)) same
 code_above context (i ∷ code) front ts us e =
     let (vs, first, more) = and_then_some (types_after context code) (types_behind context i ts) us e in
     after_one context i code (front ++ ts) (front ++ vs) (types_above context i front ts vs first) ∙ code_above context code front vs us more
 
-after_both : (context : Context) (code back : List Instruction) (ts : Types) →
+pub after_both : (context : Context) (code back : List Instruction) (ts : Types) →
     types_after context (code ++ back) ts ≡ option_and_then (types_after context back) (types_after context code ts)
 after_both context [] back ts = refl
 after_both context (i ∷ code) back ts = go (types_behind context i ts) (after_both context code back)

@@ -15,7 +15,7 @@ use Rattle.peephole_machine.specs.IntegerRow.{integer_row}
 use Rattle.peephole_machine.specs.Row.{at_most_one, instruction_types}
 use Rattle.peephole_machine.specs.RowLemmas.{same_type_is, same_type_self}
 use Rattle.peephole_machine.specs.Values.{Context, same_type}
-use Rattle.body_changes.specs.Drawing.{rank}
+use Rattle.body_changes.specs.Drawing.{asks_types_alone, rank}
 use Rattle.body_changes.specs.Goals.{indexed, Gives, HasVariable}
 
 pub there_is : (types : List PrimitiveTypeInfo) (t d : PrimitiveTypeInfo) (n : ℕ) → n < length types → same_type t (get_or types n d) ≡ true →
@@ -91,6 +91,7 @@ unfolding integer_row row_at table
 local_gives context t n i e is h = record {
   instruction = is;
   types = subst (λ (j : Instruction). instruction_types context j [] ≡ Some (Some t)) (sym e) (read_gives (slice_get context.locals n) t h);
+  plain = subst (λ (j : Instruction). IsTrue (asks_types_alone j)) (sym e) refl;
 }
 
 pub global_gives : (context : Context) (t : PrimitiveTypeInfo) (n : ℕ) (i : Instruction) → i ≡ indexed 7 n → IsInstruction i →
@@ -99,4 +100,5 @@ unfolding integer_row row_at table
 global_gives context t n i e is h = record {
   instruction = is;
   types = subst (λ (j : Instruction). instruction_types context j [] ≡ Some (Some t)) (sym e) (read_gives (slice_get context.info.globals n) t h);
+  plain = subst (λ (j : Instruction). IsTrue (asks_types_alone j)) (sym e) refl;
 }

@@ -38,6 +38,23 @@ pub record IsLeaf (context : Context) (t : PrimitiveTypeInfo) (i : Instruction) 
   pub row : IsTrue (is_leaf_row i.row)
   pub types : instruction_types context i [] ≡ Some (Some t)
 
+-- local.get, local.set, local.tee
+abbrev pub is_local_row : ℕ → Bool
+is_local_row n = n == 4 || (n == 5 || n == 6)
+
+abbrev pub is_nothing : Imm → Bool
+is_nothing imm.Nothing = true
+is_nothing i = false
+
+-- The standard asks nothing of it beyond its types (a variable that it names is there, which is part of these): it has no immediate, or is a constant, or
+-- reads a variable, or writes a local.
+abbrev pub asks_types_alone : Instruction → Bool
+asks_types_alone i = is_nothing i.imm || (is_leaf_row i.row || is_local_row i.row)
+
+-- of each instruction of the code
+abbrev pub AskTypesAlone : List Instruction → Type 0
+AskTypesAlone code = All (λ (i : Instruction). IsTrue (asks_types_alone i)) code
+
 -- the bits of a constant's number; 0 of what has none
 abbrev pub bits_of : Imm → ℕ
 bits_of (imm.I32 z) = cast_unsigned w32 z

@@ -18,7 +18,7 @@ use Rattle.body_changes.specs.declared.goal.Operands.{Operands}
 use Rattle.body_changes.specs.declared.goal.Operands.TheVariants as operands
 use Rattle.body_changes.specs.declared.goal.Words.{Words}
 use Rattle.body_changes.specs.declared.source.Scope.{Scope}
-use Rattle.body_changes.specs.Drawing.{is_drawable, AreDrawable, IsLeaf, bits_of, choice_of, words_of}
+use Rattle.body_changes.specs.Drawing.{asks_types_alone, is_drawable, AreDrawable, AskTypesAlone, IsLeaf, bits_of, choice_of, words_of}
 use Rattle.body_changes.specs.Typed.{types_after}
 
 -- what code may name in the scope
@@ -73,10 +73,11 @@ constant_imm t low high = imm.Heap (Abstract heap.Extern)
 abbrev pub constant_by : PrimitiveTypeInfo → (low high : ℕ) → Instruction
 constant_by t low high = record { row = constant_row t; imm = constant_imm t low high }
 
--- The instruction takes nothing and gives a value of the type.
+-- The instruction takes nothing and gives a value of the type, and the standard asks nothing else of it.
 pub record Gives (context : Context) (t : PrimitiveTypeInfo) (i : Instruction) : Type 0 where
   pub instruction : IsInstruction i
   pub types : instruction_types context i [] ≡ Some (Some t)
+  pub plain : IsTrue (asks_types_alone i)
 
 -- In each module that has such values, the instruction takes nothing and gives one.
 abbrev pub IsConstantOf : PrimitiveTypeInfo → Instruction → Type 0
@@ -106,12 +107,14 @@ types_in (operands.One a) = a ∷ []
 types_in (operands.Two a b) = a ∷ b ∷ []
 types_in (operands.Three a b c) = a ∷ b ∷ c ∷ []
 
--- The instruction gives a value of the wanted type on operands of these types, for which the goal has room, and which can be drawn.
+-- The instruction gives a value of the wanted type on operands of these types, for which the goal has room, and which can be drawn. The standard asks nothing
+-- else of it.
 pub record Fits (context : Context) (goal : Goal) (c : Chosen) : Type 0 where
   pub instruction : IsInstruction c.instr
   pub types : instruction_types context c.instr (types_in c.operands) ≡ Some (Some goal.wanted)
   pub room : length (types_in c.operands) < goal.size
   pub drawable : AreDrawable context.info (types_in c.operands)
+  pub plain : IsTrue (asks_types_alone c.instr)
 
 -- Where the words draw a single instruction, it is that one, without operands.
 abbrev pub IsDrawnBy : Context → (wanted : PrimitiveTypeInfo) → Words → Chosen → Type 0
@@ -152,12 +155,13 @@ pub record HasDrawn (context : Context) (goal : Goal) (words : Words) (goals : L
   pub added : grown ≡ code ++ chosen.instr ∷ []
 
 -- The instructions so far are the last ones, the very last one first: on values of the goals' types they leave the wanted one. All together will be at most
--- `size`; and in each step one was drawn, unless nothing is left to be.
+-- `size`; and in each step one was drawn, unless nothing is left to be. The standard asks nothing of them beyond their types.
 pub record IsDrawing (context : Context) (wanted : PrimitiveTypeInfo) (size step : ℕ) (goals : List Goal) (code : List Instruction) : Type 0 where
   pub size_is : length code + whole_size goals ≤ size
   pub goes_on : (goals ≡ []) ⊎ (length code ≡ step)
   pub some : All (IsOpen context) goals
   pub whole : types_after context (reverse code) (wanted_types goals) ≡ Some (wanted ∷ [])
+  pub plain : AskTypesAlone code
 
 -- Nothing was drawn yet, and all words are left.
 pub record IsFirst (goal : Goal) (step : ℕ) (words rest : List ℕ) (goals : List Goal) (code : List Instruction) : Type 0 where

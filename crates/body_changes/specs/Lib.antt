@@ -5,3 +5,9 @@ pub mod Goals
 pub mod Others
 pub mod Units
 pub mod Pass
+pub mod Change
+pub mod Kinds
+pub mod Beyond
+pub mod Chosen
+pub mod Proposals
+pub mod Body

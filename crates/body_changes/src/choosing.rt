@@ -3,7 +3,7 @@ ghost use Rattle.std.specs.Prelude.{◌≡◌, IfSome, IfOk, IsTrue, Some};
 ghost use Rattle.wasm_code.specs.Instruction.{IsInstruction};
 ghost use Rattle.wasm_types.specs.Module.{Module};
 ghost use Rattle.peephole_machine.specs.Row.{instruction_types};
-ghost use Rattle.body_changes.specs.Drawing.{AreDrawable};
+ghost use Rattle.body_changes.specs.Drawing.{asks_types_alone, AreDrawable};
 ghost use Rattle.body_changes.specs.Goals.{context_for, types_in, Fits, IsDrawnBy, IsOpen};
 
 use crate::constants::is_drawable;
@@ -63,7 +63,8 @@ fn operands_drawable(info: &ModuleInfo<'_>, operands: Operands) -> bool
 
 // The instruction on these operands, where it fits.
 fn fitting(scope: &Scope<'_>, instr: Instr, operands: Operands, goal: Goal) -> Option<Chosen>
-    requires { IsInstruction instr }
+    requires instruction { IsInstruction instr }
+    requires plain { IsTrue (asks_types_alone instr) }
     ensures { IfSome result (Fits (context_for scope.now) goal) }
 {
     if operands.count() >= goal.size {

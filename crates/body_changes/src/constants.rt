@@ -111,8 +111,8 @@ pub(crate) fn instr(row: u16, imm: Imm) -> Instr
     }
 }
 
-// The row of its constants.
-fn constant_row(t: PrimitiveTypeInfo) -> u16
+/// The row of its constants.
+pub(crate) fn constant_row(t: PrimitiveTypeInfo) -> u16
     ensures { result ≡ constant_row t }
 {
     match t {
@@ -154,6 +154,7 @@ pub(crate) fn constant(wanted: PrimitiveTypeInfo, kind: u64, low: u64, high: u64
     requires { IsTrue (is_told_apart wanted) }
     ensures instruction { IsInstruction result }
     ensures typed { IsConstantOf wanted result }
+    ensures row { result.row ≡ constant_row wanted }
     ensures own { kind ≡ 4 → result ≡ constant_by wanted low high }
 {
     let imm = immediate(wanted, kind, low, high);

@@ -1,7 +1,7 @@
 //! Code that words draw.
-ghost use Rattle.std.specs.Prelude.{◌≡◌, ◌<◌, ◌≤◌, [], ◌∷◌, length, get_or, reverse, IfOk, OnOk, IsTrue};
+ghost use Rattle.std.specs.Prelude.{◌≡◌, ◌<◌, ◌≤◌, [], ◌∷◌, length, drop, get_or, reverse, IfOk, OnOk, IsTrue};
 ghost use Rattle.wasm_code.specs.Instruction.{Instruction};
-ghost use Rattle.body_changes.specs.Drawing.{is_drawable, words_of, AreDrawable, IsLeaf};
+ghost use Rattle.body_changes.specs.Drawing.{is_drawable, words_of, AreDrawable, AskTypesAlone, IsLeaf};
 ghost use Rattle.body_changes.specs.Goals.{context_for, types_in, first_words, HasDrawn, HasPushed, IsOpen};
 ghost use Rattle.body_changes.specs.Typed.{Leaves};
 
@@ -92,15 +92,15 @@ fn draw_next(
     Ok(())
 }
 
-// The word with that number, or 0.
-fn word_at(words: &[u64], number: usize) -> u64
+/// The word with that number, or 0.
+pub(crate) fn word_at(words: &[u64], number: usize) -> u64
     ensures { result ≡ get_or words.now number 0 }
 {
     words.get(number).copied().unwrap_or(0)
 }
 
-// The first three words.
-fn first_words(words: &[u64]) -> Words
+/// The first three words.
+pub(crate) fn first_words(words: &[u64]) -> Words
     ensures { result ≡ first_words words.now }
 {
     Words {
@@ -110,8 +110,10 @@ fn first_words(words: &[u64]) -> Words
     }
 }
 
-// The words from that number on.
-fn words_from(words: &[u64], number: usize) -> &[u64] {
+/// The words from that number on.
+pub(crate) fn words_from(words: &[u64], number: usize) -> &[u64]
+    ensures { result.now ≡ drop number words.now }
+{
     if number <= words.len() {
         &words[number..]
     } else {
@@ -129,7 +131,8 @@ fn turn(code: &mut Vec<Instr>)
 /// Code that leaves one value of the type, of at most `size` instructions, as the words choose it: three words for each instruction,
 /// the last one first, of which the first one chooses the instruction, and the others its constant, or how the room that is left is
 /// cut among its operands. Words that aren't there are 0. The instructions are constants, the function's locals, the module's globals
-/// and operators without an immediate; those of vectors only where a vector is wanted.
+/// and operators without an immediate; those of vectors only where a vector is wanted. The standard asks nothing of them beyond their
+/// types.
 ///
 /// Each constant of the type, and each local and global of it, is drawn by some words (`leaves_have_words`).
 ///
@@ -147,6 +150,7 @@ pub fn code_of_words(
     ensures code { IfOk result (λ code.
         Leaves (context_for scope.now) code.items (wanted ∷ [])) }
     ensures few { IfOk result (λ code. length code.items ≤ size) }
+    ensures plain { IfOk result (λ code. AskTypesAlone code.items) }
     // Each single instruction is what its words draw.
     ensures drawn { IfOk result (λ code. (i : Instruction)
         → IsLeaf (context_for scope.now) wanted i

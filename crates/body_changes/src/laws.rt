@@ -1,4 +1,5 @@
-//! What holds of typed code, and of code that words draw. A function here does nothing: its contract is the law.
+//! What holds of typed code, of code that words draw, and of what changes make. A function here does nothing: its contract is the law.
+ghost use Rattle.body_changes.specs.Beyond.{ChangesAskNoMore};
 ghost use Rattle.body_changes.specs.Drawing.{LeavesHaveWords};
 ghost use Rattle.body_changes.specs.Typed.{LeavingCodePushes};
 
@@ -15,4 +16,10 @@ pub fn leaving_code_pushes()
 /// of them is drawn by some.
 pub fn leaves_have_words()
     ensures { LeavesHaveWords }
+{}
+
+/// Of each instruction in the code that a change makes the standard asks nothing beyond its types, or it stands in the body already. So
+/// whatever else it asks (an alignment, the index of a segment, that a global may be written) was asked of the body as it was.
+pub fn changes_ask_no_more()
+    ensures { ChangesAskNoMore }
 {}

@@ -1,14 +1,21 @@
 //! Instructions of a body replaced by others that leave the same types: the body stays valid, and computes something else.
 #![tactic(auto)]
 
+mod change;
+#[cfg(test)]
+mod change_tests;
+mod changing;
 mod choosing;
 mod constants;
 mod drawing;
 mod goal;
+mod kinds;
 pub mod laws;
 mod leaf;
 mod operands;
 mod others;
+mod own;
+mod proposing;
 mod replacing;
 mod source;
 #[cfg(test)]
@@ -19,6 +26,8 @@ mod unit_tests;
 mod units;
 mod variables;
 
+pub use change::{CHANGES, Change};
+pub use changing::{Body, Changed, change_of_words};
 pub use constants::is_drawable;
 pub use drawing::code_of_words;
 pub use others::other_operator;

@@ -1,5 +1,5 @@
 //! Another operator of the same types.
-ghost use Rattle.std.specs.Prelude.{◌≡◌, ◌<◌, ◌≤◌, ◌↔◌, false, List, IfNone, IfSome, IsTrue};
+ghost use Rattle.std.specs.Prelude.{◌≡◌, ◌<◌, ◌≤◌, ◌↔◌, ℕ, false, List, Some, IfNone, IfSome, IsTrue};
 ghost use Rattle.std.specs.List.{All};
 ghost use Rattle.wasm_code.specs.Instruction.{Instruction, IsInstruction};
 ghost use Rattle.wasm_types.specs.declared.types.PrimitiveTypeInfo.{PrimitiveTypeInfo};
@@ -110,7 +110,22 @@ fn other_with(asked: &Asked<'_>, number: u16) -> Option<Instr>
     None
 }
 
-/// Another operator that gives the same as the instruction does on operands of these types, each as likely as any other by the word.
+// That of the row with the word's number, where there is such a row, and it is what is asked for.
+fn other_of_word(asked: &Asked<'_>, word: u64) -> Option<Instr>
+    ensures some { IfSome result (λ i. (i ≡ bare i.row) × IsInstruction i
+        × IsTrue (is_other asked.now i.row)) }
+    ensures named { (row : ℕ) → row < 446 → word ≡ row → IsTrue (is_other asked.now row)
+        → result ≡ Some (bare row) }
+{
+    if word < ROWS as u64 {
+        other_at(asked, word as u16)
+    } else {
+        None
+    }
+}
+
+/// Another operator that gives the same as the instruction does on operands of these types: that of the row with the word's number,
+/// where it is one, and else each as likely as any other by the word.
 /// None only where there is no other among those without an immediate, where the instruction doesn't take such operands, or where one
 /// of them, or what it gives, is a reference that is none of funcref and externref.
 ///
@@ -124,6 +139,8 @@ pub fn other_operator(
     ensures some { IfSome result (IsOther (context_for scope.now) operands.now instr.now) }
     ensures none { IfNone result ((other : Instruction)
         → ¬ (IsOther (context_for scope.now) operands.now instr.now other)) }
+    ensures named { (other : Instruction) → IsOther (context_for scope.now) operands.now instr.now
+        other → word ≡ other.row → result ≡ Some other }
 {
     if !are_told_apart(operands) {
         return None;
@@ -135,6 +152,9 @@ pub fn other_operator(
         operands,
         gives,
     };
+    if let Some(other) = other_of_word(&asked, word) {
+        return Some(other);
+    }
     let count = count_others(&asked);
     if count == 0 {
         return None;

@@ -1,12 +1,12 @@
 //! Instructions of a body replaced by others that leave the same types.
-ghost use Rattle.std.specs.Prelude.{◌≡◌, ◌<◌, ◌≤◌, ℕ, false, List, length, IfOk, IfNone, IfSome, OnErr, IsTrue};
+ghost use Rattle.std.specs.Prelude.{◌≡◌, ◌<◌, ◌≤◌, false, List, length, IfOk, IfNone, IfSome, OnErr, IsTrue};
 ghost use Rattle.std.specs.List.{All};
-ghost use Rattle.wasm_code.specs.Instruction.{Instruction};
 ghost use Rattle.wasm_types.specs.declared.types.PrimitiveTypeInfo.{PrimitiveTypeInfo};
 ghost use Rattle.body_splices.specs.OwnBytes.{IsBodyIn};
 ghost use Rattle.body_splices.specs.Splice.{IsPieceIn};
-ghost use Rattle.body_changes.specs.Replacing.{context_of, new_pieces, AppendsReplaced, AreTheseInstructions, CanReplace, HasInstruction, IsClosed};
+ghost use Rattle.body_changes.specs.Replacing.{context_of, new_pieces, AppendsReplaced, CanReplace, IsClosed};
 
+use crate::own::instrs_of;
 use crate::source::Source;
 use crate::typed::{are_same, types_of_code};
 use body_splices::laws::spliced_operators_are;
@@ -14,40 +14,8 @@ use body_splices::{Piece, splice};
 use peephole_programs::validity::{replaced_code_stays_valid, typed_rows_check};
 use std::alloc::{AllocError, Global};
 use std::ops::Range;
-use wasm_code::{Function, Instr, Operator, OperatorAndByteOffset, SinkError};
+use wasm_code::{Function, Instr, OperatorAndByteOffset, SinkError};
 use wasm_types::PrimitiveTypeInfo;
-
-// The instruction at the index, where one stands there.
-fn instr_at(operators: &[OperatorAndByteOffset], at: usize) -> Option<Instr>
-    requires { at < length operators.now }
-    ensures some { IfSome result (HasInstruction operators.now at) }
-    ensures none { IfNone result ((i : Instruction) → ¬ (HasInstruction operators.now at i)) }
-{
-    match operators[at].0 {
-        Operator::Instr(instr) => Some(instr),
-        _ => None,
-    }
-}
-
-// The instructions that the operators are; none where one of them is no instruction.
-fn instrs_of(
-    alloc: Global,
-    operators: &[OperatorAndByteOffset],
-) -> Result<Option<Vec<Instr>>, AllocError>
-    ensures some { IfOk result (λ o. IfSome o (λ code.
-        AreTheseInstructions operators.now code.items)) }
-    ensures none { IfOk result (λ o. IfNone o ((code : List Instruction)
-        → ¬ (AreTheseInstructions operators.now code))) }
-{
-    let mut code = Vec::new(alloc);
-    for i in 0..operators.len() {
-        match instr_at(operators, i) {
-            Some(instr) => code.push(instr)?,
-            None => return Ok(None),
-        }
-    }
-    Ok(Some(code))
-}
 
 /// The types of the values that the operators in `range` leave, the last one on top; none where there are none of them, one is no
 /// instruction, they need something from what stands before them, or aren't typed (see `types_of_code`).
@@ -73,6 +41,29 @@ pub fn types_in_place(
         return Ok(None);
     };
     types_of_code(alloc, source.locals, source.info, &own)
+}
+
+/// Whether the code may stand in the place of the operators in the range: they are instructions, at least one, that need nothing from
+/// what stands before them, and so is the code, which leaves values of the same types. The only error: an allocation was refused.
+pub(crate) fn can_replace(
+    alloc: Global,
+    source: &Source<'_>,
+    range: Range<usize>,
+    code: &[Instr],
+) -> Result<bool, AllocError>
+    requires { range.end ≤ length source.now.operators.now }
+    ensures can { IfOk result (λ b. IsTrue b → CanReplace (context_of source.now)
+        source.now.operators.now range.start range.end code.now) }
+    ensures never { IfOk result (λ b. b ≡ false → ¬ (CanReplace (context_of source.now)
+        source.now.operators.now range.start range.end code.now)) }
+{
+    let Some(old) = types_in_place(alloc, source, range)? else {
+        return Ok(false);
+    };
+    let Some(new) = types_of_code(alloc, source.locals, source.info, code)? else {
+        return Ok(false);
+    };
+    Ok(are_same(&old, &new))
 }
 
 // Each instruction as a piece of a body.
@@ -124,13 +115,7 @@ pub fn replace_code(
     typed_rows_check();
     replaced_code_stays_valid();
     spliced_operators_are();
-    let Some(old) = types_in_place(alloc, source, range.start..range.end)? else {
-        return Ok(false);
-    };
-    let Some(new) = types_of_code(alloc, source.locals, source.info, code)? else {
-        return Ok(false);
-    };
-    if !are_same(&old, &new) {
+    if !can_replace(alloc, source, range.start..range.end, code)? {
         return Ok(false);
     }
     let pieces = pieces_of(alloc, source.operators, code)?;

@@ -13,25 +13,25 @@ use wasm_code::{Function, Imm, Instr, OperatorAndByteOffset, read_code};
 use wasm_types::{ModuleInfo, PrimitiveTypeInfo};
 
 /// Instructions: their rows and immediates.
-type Code = &'static [(u16, Imm)];
+pub(crate) type Code = &'static [(u16, Imm)];
 
 const LOCALS: &[PrimitiveTypeInfo] = &[I32, I64, Empty];
 
-const FIRST: (u16, Imm) = (4, Imm::Index(0));
+pub(crate) const FIRST: (u16, Imm) = (4, Imm::Index(0));
 
-const SECOND: (u16, Imm) = (4, Imm::Index(1));
+pub(crate) const SECOND: (u16, Imm) = (4, Imm::Index(1));
 
 const REFERENCE: (u16, Imm) = (4, Imm::Index(2));
 
-const GLOBAL: (u16, Imm) = (7, Imm::Index(0));
+pub(crate) const GLOBAL: (u16, Imm) = (7, Imm::Index(0));
 
-const ONE: (u16, Imm) = (36, Imm::I32(1));
+pub(crate) const ONE: (u16, Imm) = (36, Imm::I32(1));
 
-const DROP: (u16, Imm) = (2, Imm::Nothing);
+pub(crate) const DROP: (u16, Imm) = (2, Imm::Nothing);
 
-const ADD: (u16, Imm) = (77, Imm::Nothing);
+pub(crate) const ADD: (u16, Imm) = (77, Imm::Nothing);
 
-const COUNT_ZEROS: (u16, Imm) = (92, Imm::Nothing);
+pub(crate) const COUNT_ZEROS: (u16, Imm) = (92, Imm::Nothing);
 
 const EXTEND: (u16, Imm) = (143, Imm::Nothing);
 
@@ -94,7 +94,7 @@ const CASES: [Case; 22] = [
 ];
 
 /// The instructions, which all stand in the table.
-fn instrs(alloc: Global, code: Code) -> Result<Vec<Instr>, Fail> {
+pub(crate) fn instrs(alloc: Global, code: Code) -> Result<Vec<Instr>, Fail> {
     let mut instrs = Vec::new(alloc);
     for i in 0..code.len() {
         let (row, imm) = code[i];
@@ -104,7 +104,7 @@ fn instrs(alloc: Global, code: Code) -> Result<Vec<Instr>, Fail> {
 }
 
 /// A module with a global of type i32.
-fn module(alloc: Global) -> Result<ModuleInfo<'static>, AllocError> {
+pub(crate) fn module(alloc: Global) -> Result<ModuleInfo<'static>, AllocError> {
     let mut info = ModuleInfo::new(alloc, BODY);
     info.one_reference = true;
     info.global_types.push(I32)?;

@@ -5,7 +5,7 @@ use Rattle.std.proofs.lemmas.List.Elements.{All-pop}
 use Rattle.body_changes.specs.declared.goal.Goal.{Goal}
 use Rattle.body_changes.specs.declared.goal.Words.{Words}
 use Rattle.body_changes.specs.Goals.{context_for, HasDrawn, IsOpen}
-use Rattle.body_changes.proofs.DrawingLemmas.{drawing_goes_on, drawing_stays, drawing_ends, only_goes_on, only_stays, only_ends}
+use Rattle.body_changes.proofs.DrawingLemmas.{drawing_goes_on, drawing_stays, drawing_ends, drawn_plain, only_goes_on, only_stays, only_ends}
 use Rattle.body_changes.proofs.drawing.code_of_words.Goals.{in-Some+in_ok-draw_next, in_default}
 use Rattle.body_changes.proofs.drawing.code_of_words.Goals as goal
 
@@ -55,6 +55,11 @@ pub returns-clause-few : goal.returns-clause-few
 returns-clause-few c =
     (drawing_ends (context_for c.args.scope.now) c.args.wanted c.args.size c.loop-step.step c.loop-step.goals.items c.loop-step.code.items
     c.turn.new.code.items c.loop-step-test.false c.turn.ensures c.loop-step.invariant.drawing).1
+
+pub returns-clause-plain : goal.returns-clause-plain
+returns-clause-plain c =
+    drawn_plain (context_for c.args.scope.now) c.args.wanted c.args.size c.loop-step.step c.loop-step.goals.items c.loop-step.code.items
+    c.turn.new.code.items c.turn.ensures c.loop-step.invariant.drawing
 
 pub returns-clause-drawn : goal.returns-clause-drawn
 returns-clause-drawn c =

@@ -1,7 +1,7 @@
 -- The variable or the constant that the words name.
 use Rattle.std.proofs.Common.{◌≡◌, inl, inr, Some, None, sym, ◌∙◌}
 use Rattle.body_changes.specs.Goals.{context_for}
-use Rattle.body_changes.proofs.ConstantLemmas.{drawable_told}
+use Rattle.body_changes.proofs.ConstantLemmas.{constant_plain, drawable_told}
 use Rattle.body_changes.proofs.LeafLemmas.{is_chosen}
 use Rattle.body_changes.proofs.leaf.leaf.Goals as goal
 
@@ -20,3 +20,10 @@ returns-in-None-clause-drawn c = λ i h named.
       | inl e ↦ absurd (let no : None ≡ Some i = sym c.in-None.is ∙ e in cc)
       | inr n ↦ c.constant.ensures.own n.1 ∙ n.2
     ]
+
+pub returns-in-None-clause-gives : goal.returns-in-None-clause-gives
+returns-in-None-clause-gives c = record {
+  instruction = c.constant.ensures.instruction;
+  types = c.constant.ensures.typed (context_for c.args.scope.now) c.requires;
+  plain = constant_plain c.args.wanted c.constant.result c.constant.ensures.row;
+}

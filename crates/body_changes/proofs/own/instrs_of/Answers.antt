@@ -1,6 +1,6 @@
 -- One more instruction.
 use Rattle.body_changes.proofs.OwnLemmas.{one_more, no_instructions}
-use Rattle.body_changes.proofs.replacing.instrs_of.Goals as goal
+use Rattle.body_changes.proofs.own.instrs_of.Goals as goal
 
 pub returns-in-None-clause-none : goal.returns-in-None-clause-none
 returns-in-None-clause-none c = λ code h.

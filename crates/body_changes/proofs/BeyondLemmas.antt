@@ -1,0 +1,97 @@
+-- What the standard asks of an instruction beyond its types: nothing, or it was asked already.
+use Rattle.std.proofs.Common.{◌≡◌, ℕ, zero, suc, ◌+◌, ◌-◌, ◌⊎◌, inl, inr, List, [], ◌∷◌, ◌++◌, get_or, take, drop, Some, refl, sym, ap, ◌∙◌, subst}
+use Rattle.std.specs.Prelude.{slice_get, slice_range, IsTrue}
+use Rattle.std.proofs.lemmas.List.{drop-map, take-map}
+use Rattle.std.proofs.lemmas.List.Elements.{All-append, All-nil, All-push, All-weaker}
+use Rattle.std.proofs.lemmas.Option.{same_Some, slice_get-get_or}
+use Rattle.wasm_code.specs.Instruction.{Instruction}
+use Rattle.wasm_code.specs.declared.operator.Operator.{Operator}
+use Rattle.wasm_code.specs.declared.operator.Operator.TheVariants.{Instr}
+use Rattle.peephole_machine.specs.Values.{Context}
+use Rattle.body_splices.specs.OwnBytes.{without_offsets}
+use Rattle.body_changes.specs.declared.change.Change.{Change}
+use Rattle.body_changes.specs.declared.change.Change.TheVariants as change
+use Rattle.body_changes.specs.declared.units.Unit.{Unit}
+use Rattle.body_changes.specs.Beyond.{AsksNoMore, ChangesAskNoMore, StandsSomewhere}
+use Rattle.body_changes.specs.Drawing.{asks_types_alone, is_leaf_row, is_local_row, AskTypesAlone}
+use Rattle.body_changes.specs.Goals.{indexed}
+use Rattle.body_changes.specs.Kinds.{IsBehindOperands, Makes, Stand}
+use Rattle.body_changes.specs.Others.{bare}
+use Rattle.body_changes.specs.Replacing.{HasInstruction}
+use Rattle.body_changes.proofs.ConstantLemmas.{constants_plain, or_second}
+use Rattle.body_changes.proofs.OwnLemmas.{own_there}
+use Rattle.body_changes.proofs.StandLemmas.{get_behind, Operators}
+
+-- ---- single instructions
+
+bare_plain : (i : Instruction) → i ≡ bare i.row → IsTrue (asks_types_alone i)
+bare_plain i e = subst (λ (j : Instruction). IsTrue (asks_types_alone j)) (sym e) refl
+
+access_plain : (row n : ℕ) → IsTrue (is_local_row row) → IsTrue (asks_types_alone (indexed row n))
+access_plain row n h = or_second (is_leaf_row row) (is_local_row row) h
+
+-- ---- code that stands in the body
+
+got_within : {X : Type 0} (n : ℕ) (xs : List X) (i : ℕ) (x : X) → slice_get (take n xs) i ≡ Some x → slice_get xs i ≡ Some x
+got_within zero xs zero x e = absurd cc
+got_within zero xs (suc i) x e = absurd cc
+got_within (suc n) [] i x e = e
+got_within (suc n) (y ∷ xs) zero x e = e
+got_within (suc n) (y ∷ xs) (suc i) x e = got_within n xs i x e
+
+module _ (operators : Operators) where
+  -- what stands in a part stands in the whole
+  has_within : (a b k : ℕ) (i : Instruction) → HasInstruction (slice_range operators a b) k i → HasInstruction operators (a + k) i
+  has_within a b k i h =
+      let first : Operator × ℕ → Operator = λ o. o.0 in
+      let back = without_offsets (drop a operators) in
+      let there : slice_get back k ≡ Some (Instr i) =
+      got_within (b - a) back k (Instr i) (ap (λ os. slice_get os k) (take-map first (b - a) (drop a operators)) ∙ h) in
+      sym (get_behind (without_offsets operators) a k) ∙ (ap (λ os. slice_get os k) (drop-map first a operators) ∙ there)
+
+  abbrev IsAsked : Instruction → Type 0
+  IsAsked i = IsTrue (asks_types_alone i) ⊎ StandsSomewhere operators i
+
+  stood : (a b : ℕ) (code : List Instruction) → Stand operators a b code → AsksNoMore operators code
+  stood a b code h k d l =
+      let (x, is, there) = own_there (slice_range operators a b) code k h l in
+      let same : x ≡ get_or code k d = same_Some x (get_or code k d) (sym is ∙ slice_get-get_or code k d l) in
+      inr (a + k, has_within a b k (get_or code k d) (subst (λ (i : Instruction). HasInstruction (slice_range operators a b) k i) same there))
+
+  plain_code : (code : List Instruction) → AskTypesAlone code → AsksNoMore operators code
+  plain_code code h = All-weaker (λ (i : Instruction). IsTrue (asks_types_alone i)) IsAsked (λ i plain. inl plain) code h
+
+  behind : (at : ℕ) (unit : Unit) (other : Instruction) (code : List Instruction) → IsBehindOperands operators at unit other code →
+      IsTrue (asks_types_alone other) → AsksNoMore operators code
+  behind at unit other code b h =
+      subst (AsksNoMore operators) (sym b.code_is)
+      (All-push IsAsked b.operands other (stood unit.start at b.operands b.stand) (inl h))
+
+  -- ---- kind by kind
+
+  made : (context : Context) (most : ℕ) (words : List ℕ) (kind : Change) (at : ℕ) (unit : Unit) (start : ℕ) (code : List Instruction) →
+      Makes context operators most words kind at unit start code → AsksNoMore operators code
+  made context most words change.Constant at unit start code (same, m) =
+      plain_code code (constants_plain m.type m.other code m.other_row m.code_is)
+  made context most words change.Operator at unit start code (same, m) = behind at unit m.other code m.behind (bare_plain m.other m.is.is_bare)
+  made context most words change.Local at unit start code (same, m) =
+      behind at unit (indexed m.row m.other) code m.behind (access_plain m.row m.other m.is_row)
+  made context most words change.Draw at unit start code (same, m) = plain_code code m.plain
+  made context most words change.Copy at unit start code (same, m) = stood m.source.start _ code m.stand
+  made context most words change.FirstOperand at unit start code (same, m) = stood unit.start unit.last code m.stand
+  made context most words change.LastOperand at unit start code (same, m) = stood unit.last at code m.stand
+  made context most words change.ExchangeOperands at unit start code (same, m) =
+      subst (AsksNoMore operators) (sym m.code_is)
+      (All-push IsAsked (m.last ++ m.first) m.own
+      (All-append IsAsked m.last m.first (stood unit.last at m.last m.last_stands) (stood unit.start unit.last m.first m.first_stands))
+      (inr (at, m.has)))
+  made context most words change.Delete at unit start code (same, m) = subst (AsksNoMore operators) (sym m.code_is) (All-nil IsAsked)
+  made context most words change.Double at unit start code (same, m) =
+      let own = stood unit.start (at + 1) m.own m.stand in
+      subst (AsksNoMore operators) (sym m.code_is) (All-append IsAsked m.own m.own own own)
+  made context most words change.ExchangeStatements at unit start code m =
+      subst (AsksNoMore operators) (sym m.code_is)
+      (All-append IsAsked m.own m.first (stood unit.start (at + 1) m.own m.own_stands) (stood m.before.start unit.start m.first m.first_stands))
+
+pub changes_asked : ChangesAskNoMore
+changes_asked context operators most words kind at start code c = made operators context most words kind at c.unit start code c.makes

@@ -1,0 +1,7 @@
+-- The operators so far are the instructions so far.
+use Rattle.std.proofs.Common.{take}
+use Rattle.body_changes.specs.Replacing.{AreTheseInstructions}
+use Rattle.body_changes.proofs.own.are_these.Given as goal
+
+abbrev pub invariant-loop-i : goal.invariant-loop-i
+invariant-loop-i l = AreTheseInstructions (take l.i l.operators) (take l.i l.code)

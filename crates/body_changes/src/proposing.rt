@@ -1,0 +1,126 @@
+//! What a change makes of an operator's unit, where it makes anything.
+ghost use Rattle.std.specs.Prelude.{◌≡◌, ◌<◌, ◌≤◌, ℕ, false, List, None, is_some, length, IfNone, IfOk, IfSome, IsTrue};
+ghost use Rattle.wasm_code.specs.Instruction.{Instruction};
+ghost use Rattle.body_changes.specs.Kinds.{IsNewWithin};
+ghost use Rattle.body_changes.specs.Proposals.{IsNewFrom, IsPlace, MakesAt, NamesAt};
+ghost use Rattle.body_changes.specs.Replacing.{context_of};
+
+use crate::change::Change;
+use crate::kinds::accesses::other_access;
+use crate::kinds::constants::other_constant;
+use crate::kinds::copies::copied;
+use crate::kinds::drawn::drawn;
+use crate::kinds::operands::{exchanged, first_operand, last_operand};
+use crate::kinds::operators::other_behind;
+use crate::kinds::statements::{deleted, doubled, turned};
+use crate::kinds::{Place, Proposal};
+use crate::own::are_these;
+use crate::replacing::can_replace;
+use crate::source::Source;
+use std::alloc::{AllocError, Global};
+use std::ops::Range;
+use wasm_code::Instr;
+
+// Code in the place of the unit, where there is any.
+fn in_place(place: &Place<'_>, code: Option<Vec<Instr>>) -> Option<Proposal>
+    ensures some { IfSome result (λ p. IfSome code (λ own. (p.start ≡ place.now.unit.start)
+        × (p.code.items ≡ own.items))) }
+    ensures there { IfSome result (λ p. IsTrue (is_some code)) }
+    ensures none { IfNone result (code ≡ None) }
+{
+    match code {
+        Some(code) => Some(Proposal {
+            start: place.unit.start,
+            code,
+        }),
+        None => None,
+    }
+}
+
+// What the change makes of the unit; some words name what. It is new wherever the change makes anything that is.
+fn propose(
+    alloc: Global,
+    place: &Place<'_>,
+    most: usize,
+    change: Change,
+    words: &[u64],
+) -> Result<Option<Proposal>, AllocError>
+    requires place { IsPlace place.now }
+    requires some { 0 < most }
+    ensures made { IfOk result (λ o. IfSome o (λ p.
+        MakesAt place.now most words.now change p.start p.code.items)) }
+    ensures new { IfOk result (λ o. IfSome o (λ p. (start : ℕ) (code : List Instruction)
+        → MakesAt place.now most words.now change start code → IsNewFrom place.now start code
+        → IsNewFrom place.now p.start p.code.items)) }
+    ensures none { IfOk result (λ o. IfNone o ((start : ℕ) (code : List Instruction)
+        → MakesAt place.now most words.now change start code
+        → ¬ (IsNewFrom place.now start code))) }
+    ensures named { IfOk result (λ o. IfSome o (λ p. (start : ℕ) (code : List Instruction)
+        → MakesAt place.now most words.now change start code → IsNewFrom place.now start code
+        → NamesAt place.now change words.now code → p.code.items ≡ code)) }
+{
+    match change {
+        Change::Constant => Ok(in_place(place, other_constant(alloc, place, words)?)),
+        Change::Operator => Ok(in_place(place, other_behind(alloc, place, words)?)),
+        Change::Local => Ok(in_place(place, other_access(alloc, place, words)?)),
+        Change::Draw => Ok(in_place(place, drawn(alloc, place, most, words)?)),
+        Change::Copy => Ok(in_place(place, copied(alloc, place, words)?)),
+        Change::FirstOperand => Ok(in_place(place, first_operand(alloc, place)?)),
+        Change::LastOperand => Ok(in_place(place, last_operand(alloc, place)?)),
+        Change::ExchangeOperands => Ok(in_place(place, exchanged(alloc, place)?)),
+        Change::Delete => Ok(in_place(place, deleted(alloc, place))),
+        Change::Double => Ok(in_place(place, doubled(alloc, place)?)),
+        Change::ExchangeStatements => turned(alloc, place),
+    }
+}
+
+// Whether the code may stand in the place of the operators in the range, and isn't what stands there. What has another length isn't.
+fn is_new(
+    alloc: Global,
+    source: &Source<'_>,
+    range: Range<usize>,
+    code: &[Instr],
+) -> Result<bool, AllocError>
+    requires inside { range.end ≤ length source.now.operators.now }
+    requires some { range.start < range.end }
+    ensures new { IfOk result (λ b. IsTrue b → IsNewWithin (context_of source.now)
+        source.now.operators.now range.start range.end code.now) }
+    ensures never { IfOk result (λ b. b ≡ false → ¬ (IsNewWithin (context_of source.now)
+        source.now.operators.now range.start range.end code.now)) }
+{
+    if are_these(&source.operators[range.start..range.end], code) {
+        return Ok(false);
+    }
+    can_replace(alloc, source, range, code)
+}
+
+/// What the change makes of the unit of the operator, where that is new; some words name what. None only where it makes nothing new.
+pub(crate) fn made_of(
+    alloc: Global,
+    place: &Place<'_>,
+    most: usize,
+    change: Change,
+    words: &[u64],
+) -> Result<Option<Proposal>, AllocError>
+    requires place { IsPlace place.now }
+    requires some { 0 < most }
+    ensures made { IfOk result (λ o. IfSome o (λ p.
+        MakesAt place.now most words.now change p.start p.code.items)) }
+    ensures new { IfOk result (λ o. IfSome o (λ p. IsNewFrom place.now p.start p.code.items)) }
+    ensures none { IfOk result (λ o. IfNone o ((start : ℕ) (code : List Instruction)
+        → MakesAt place.now most words.now change start code
+        → ¬ (IsNewFrom place.now start code))) }
+    ensures named { IfOk result (λ o. IfSome o (λ p. (start : ℕ) (code : List Instruction)
+        → MakesAt place.now most words.now change start code → IsNewFrom place.now start code
+        → NamesAt place.now change words.now code → p.code.items ≡ code)) }
+{
+    let Some(proposal) = propose(alloc, place, most, change, words)? else {
+        return Ok(None);
+    };
+    let range = proposal.start..place.at + 1;
+    if is_new(alloc, &place.source, range, &proposal.code)? {
+        Ok(Some(proposal))
+    } else {
+        Ok(None)
+    }
+}
