@@ -1,0 +1,5 @@
+pub mod ValidLemmas
+pub mod WordLemmas
+pub mod EntryLemmas
+pub mod ChoosingLemmas
+pub mod TimesLemmas

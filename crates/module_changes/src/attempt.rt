@@ -1,0 +1,90 @@
+//! A module changed once, as a generator's words choose it.
+ghost use Rattle.std.specs.Prelude.{◌≡◌, ◌<◌, ◌≤◌, IfErr, IfOk};
+ghost use Rattle.module_changes.specs.Chosen.{ChoosesLater, ChoosesOne};
+ghost use Rattle.module_changes.specs.Entry.{refusal_by, GivesNone, IsReading};
+ghost use Rattle.module_changes.specs.Times.{IsRefusal};
+
+use crate::choosing::change_by_words;
+use crate::entry::{Attempt, MadeChange, Reading};
+use crate::refusal::Refusal;
+use crate::scope::Scope;
+use crate::words::draw_words;
+use module_rewrites::{Reason, chosen_entries};
+use rand_core::Rng;
+use std::alloc::Global;
+use wasm_module::read_module;
+
+// How often words are drawn where what they make doesn't fit.
+const DRAWS: usize = 16;
+
+/// A module with a change.
+#[derive(Drop)]
+pub(crate) struct Step {
+    pub made: MadeChange,
+    pub bytes: Vec<u8>,
+}
+
+// The module with a change.
+fn change_read<R: Rng>(
+    alloc: Global,
+    reading: &Reading<'_>,
+    generator: &mut R,
+    scope: &Scope<'_>,
+) -> Result<Step, Refusal>
+    requires reading { IsReading reading.now }
+    requires most { (0 < scope.now.most) × (scope.now.most ≤ 1000) }
+    ensures chosen { IfOk result (λ m. ChoosesLater scope.now reading.now.bytes.now
+        reading.now.info.now reading.now.layout.now (R.stream generator.old) m.made m.bytes.items
+        (R.stream generator.new)) }
+    ensures none { IfErr result (GivesNone scope.now reading.now.bytes.now
+        reading.now.info.now reading.now.layout.now (R.stream generator.old)) }
+{
+    'draws: for _ in 0..DRAWS {
+        let words = draw_words(alloc, generator, scope.words())?;
+        match change_by_words(alloc, reading, scope, &words)? {
+            Attempt::Made(made, bytes) => return Ok(Step { made, bytes }),
+            Attempt::Unchanged => return Err(Refusal::NoChange),
+            Attempt::TooLarge => {}
+        }
+    }
+    Err(Refusal::TooLarge)
+}
+
+// Why no function may be changed.
+fn refusal_by(reason: Reason) -> Refusal
+    ensures { result ≡ refusal_by reason }
+{
+    match reason {
+        Reason::NoFunction(function) => Refusal::NoFunction(function),
+        Reason::UnknownImport(e) => Refusal::UnknownImport(e),
+        _ => Refusal::NoChange,
+    }
+}
+
+/// The module with a change, by a generator that then stands behind the words that were drawn, or why there is none.
+pub(crate) fn change_once<R: Rng>(
+    alloc: Global,
+    bytes: &[u8],
+    generator: &mut R,
+    scope: &Scope<'_>,
+) -> Result<Step, Refusal>
+    requires { (0 < scope.now.most) × (scope.now.most ≤ 1000) }
+    ensures chosen { IfOk result (λ m. ChoosesOne scope.now bytes.now
+        (R.stream generator.old) m.made m.bytes.items (R.stream generator.new)) }
+    ensures fails { IfErr result
+        (IsRefusal scope.now bytes.now (R.stream generator.old)) }
+{
+    let module = match read_module(alloc, bytes) {
+        Ok(module) => module,
+        Err(e) => return Err(Refusal::Read(e)),
+    };
+    if let Err(reason) = chosen_entries(&module.layout, scope.function()) {
+        return Err(refusal_by(reason));
+    }
+    let reading = Reading {
+        bytes,
+        info: &module.info,
+        layout: &module.layout,
+    };
+    change_read(alloc, &reading, generator, scope)
+}

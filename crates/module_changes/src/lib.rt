@@ -1,0 +1,17 @@
+//! Modules changed: a module in, and out comes one in which an operator of one of its functions, and what stands right before it, is
+//! changed in its place, so that it stays valid and computes something else.
+#![tactic(auto)]
+
+mod attempt;
+mod choosing;
+mod entry;
+pub mod laws;
+mod refusal;
+mod scope;
+mod times;
+mod words;
+
+pub use entry::MadeChange;
+pub use refusal::Refusal;
+pub use scope::Scope;
+pub use times::{ChangedModule, change_module};

@@ -1,0 +1,88 @@
+//! A module changed several times, one change after another.
+ghost use Rattle.std.specs.Prelude.{◌≡◌, ◌<◌, ◌≤◌, IfErr, IfOk, length};
+ghost use Rattle.module_changes.specs.Times.{ChangesTimes, ChoosesEach, IsRefusal};
+ghost use Rattle.module_changes.specs.Valid.{StaysValidModule};
+
+use crate::attempt::change_once;
+use crate::entry::MadeChange;
+use crate::laws::changed_modules_stay_valid;
+use crate::refusal::Refusal;
+use crate::scope::Scope;
+use rand_core::Rng;
+use std::alloc::Global;
+
+/// A module that was changed once or more.
+#[derive(Drop)]
+pub struct ChangedModule {
+    /// The bytes of the new module.
+    pub bytes: Vec<u8>,
+    /// The changes, in the order that they were made in: each of the module that the last one left.
+    pub made: Vec<MadeChange>,
+    /// Why no further change was made, where fewer were than there were to be.
+    pub stopped: Option<Refusal>,
+}
+
+/// The module changed `count` times, with the generator going on from change to change: each of the module that the last one left. Fewer
+/// times only where a further change is refused: `stopped` says why. Or why nothing of it is changed. Conditions: `count` is not 0, and
+/// code that is drawn may have 1 to 1,000 instructions.
+///
+/// A change takes an operator of one of the functions that may be changed, and what stands right before it, and writes other code in
+/// their place that leaves values of the same types: so the module stays valid, and computes something else, of which nothing is
+/// promised. A function that can't be read, since it has operators or forms that aren't known here, is left alone.
+///
+/// A change takes 3 words, and 3 for each instruction that may be drawn. The first one, modulo the number of bytes that all code entries
+/// contain, names one of these bytes, and so the function whose entry contains it; the next one the change, the one behind it the
+/// operator, and the others the code, as `change_of_words` has them. Where nothing can be changed there that fits, the functions behind
+/// it are tried by the same words, and then those before it. Where changes are made and none fits, words are drawn again, at most 16
+/// times in all. So equal modules, generators, scopes and counts give equal bytes.
+///
+/// It takes time linear in the module for each change, and by the functions that are tried.
+///
+/// `Read` as `read_module` refuses; `NoFunction` and `UnknownImport` as `chosen_entries` does; `NoChange` only where no change makes
+/// anything by the words that were drawn, in any function that may be changed and can be read: no change but copies, whatever the words;
+/// `TooLarge` only where those that were chosen don't fit; `Memory` for want of memory.
+pub fn change_module<R: Rng>(
+    alloc: Global,
+    bytes: &[u8],
+    generator: &mut R,
+    scope: &Scope<'_>,
+    count: usize,
+) -> Result<ChangedModule, Refusal>
+    requires some { 0 < count }
+    requires most { (0 < scope.now.most) × (scope.now.most ≤ 1000) }
+    // The new module is the old one changed once or more, as the words choose, and fewer times only for the reason that is told.
+    ensures changed { IfOk result (λ m. ChangesTimes scope.now count bytes.now
+        (R.stream generator.old) m.made.items m.bytes.items m.stopped) }
+    // It is valid where the old one was.
+    ensures valid { IfOk result (λ m. StaysValidModule bytes.now m.bytes.items) }
+    // Where as many are made, the generator is left behind their words.
+    ensures goes_on { IfOk result (λ m. length m.made.items ≡ count → ChoosesEach scope.now
+        bytes.now (R.stream generator.old) m.made.items m.bytes.items (R.stream generator.new)) }
+    ensures fails { IfErr result (IsRefusal scope.now bytes.now (R.stream generator.old)) }
+{
+    changed_modules_stay_valid();
+    let first = change_once(alloc, bytes, generator, scope)?;
+    let mut made = Vec::new(alloc);
+    made.push(first.made)?;
+    let mut module = ChangedModule {
+        bytes: first.bytes,
+        made,
+        stopped: None,
+    };
+    'changes: for _ in 1..count {
+        match change_once(alloc, &module.bytes, generator, scope) {
+            Ok(next) => {
+                if module.made.push(next.made).is_err() {
+                    module.stopped = Some(Refusal::Memory);
+                    return Ok(module);
+                }
+                module.bytes = next.bytes;
+            }
+            Err(refusal) => {
+                module.stopped = Some(refusal);
+                return Ok(module);
+            }
+        }
+    }
+    Ok(module)
+}
