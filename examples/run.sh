@@ -70,6 +70,7 @@ options_of() {
         4) echo "--function $(($1 / 8))" ;;
         5) echo "--count 100 --growth 40" ;;
         6) echo "--rule no_such_rule" ;;
+        7) echo "--change --count 3" ;;
     esac
 }
 
@@ -93,7 +94,7 @@ compare() {
     fi
     cmp "$work/c.wasm" "$work/rust.wasm" || return 1
     echo rewritten >> "$work/count"
-    if command -v wasm-validate > /dev/null; then wasm-validate --enable-threads "$work/c.wasm"; fi
+    if command -v wasm-validate > /dev/null; then wasm-validate --enable-all "$work/c.wasm"; fi
 }
 
 # Builds the crate with nothing but a folder in which pkg-config looks.

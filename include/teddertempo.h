@@ -41,6 +41,15 @@ extern "C" {
  */
 size_t teddertempo_mutate(uint8_t *data, size_t size, size_t max_size, uint64_t seed);
 
+/*
+ * The same arguments, for a fuzzer that goes by coverage: changes the module in data[0..size] once, in place, so that it stays valid and
+ * computes something else. The seed chooses the function by its size, the change (another constant, operator or local, code drawn
+ * anew or copied, an operand for its operator, operands or statements exchanged, a statement twice or none) and the operator. What is
+ * valid stays valid, as above; of what the new module computes nothing is promised. Returns the new size, at most max_size, or 0,
+ * and data is as it was: no module that can be read, nothing in it that can be changed so that it fits, or no memory.
+ */
+size_t teddertempo_change(uint8_t *data, size_t size, size_t max_size, uint64_t seed);
+
 /* What a call has done, or why it has done nothing. */
 enum {
     TEDDERTEMPO_REWRITTEN = 0,       /* the module is rewritten */
@@ -92,6 +101,41 @@ struct teddertempo_report {
 
 /* As teddertempo_mutate, by options, and with a report. */
 size_t teddertempo_mutate_with(uint8_t *data, size_t size, size_t max_size, const struct teddertempo_options *options,
+                               struct teddertempo_report *report);
+
+/*
+ * The changes, by number. An operand, or code, stands for the operator and all that it takes; a statement leaves no value.
+ */
+enum {
+    TEDDERTEMPO_CHANGE_CONSTANT = 0,            /* a constant becomes another one of its type */
+    TEDDERTEMPO_CHANGE_OPERATOR = 1,            /* an operator becomes another one of the same types */
+    TEDDERTEMPO_CHANGE_LOCAL = 2,               /* an access to a local becomes one to another of its type */
+    TEDDERTEMPO_CHANGE_DRAW = 3,                /* a value is drawn anew: a constant, a local, a global, or operators on such */
+    TEDDERTEMPO_CHANGE_COPY = 4,                /* a value, or a statement, becomes a copy of another one of the function */
+    TEDDERTEMPO_CHANGE_FIRST_OPERAND = 5,       /* the first of two operands stands for the whole */
+    TEDDERTEMPO_CHANGE_LAST_OPERAND = 6,        /* the only operand, or the second one, does */
+    TEDDERTEMPO_CHANGE_EXCHANGE_OPERANDS = 7,   /* two operands of one type change places */
+    TEDDERTEMPO_CHANGE_DELETE = 8,              /* a statement is gone */
+    TEDDERTEMPO_CHANGE_DOUBLE = 9,              /* a statement stands there twice */
+    TEDDERTEMPO_CHANGE_EXCHANGE_STATEMENTS = 10 /* a statement changes places with the one right before it */
+};
+
+/* As the structures above, its size first. */
+struct teddertempo_change_options {
+    uint64_t struct_size; /* sizeof(struct teddertempo_change_options) */
+    uint64_t seed;        /* equal modules, options and max_size give equal bytes */
+    uint64_t changes;     /* bit i is the change with the number i; zero: every change; a bit of no change is refused */
+    uint64_t function;    /* the only function that is changed, imported ones counted first; or TEDDERTEMPO_ANY_FUNCTION */
+    uint64_t count;       /* at most so many changes, one after another, each of which takes time; 0 counts as 1 */
+    uint64_t max_growth;  /* the new module has at most so many bytes more than the old one; or TEDDERTEMPO_ANY_GROWTH */
+};
+
+/*
+ * As teddertempo_change, by options, and with a report, whose rule is the number of the last change. The outcomes are those above:
+ * TEDDERTEMPO_REWRITTEN, the module is changed; TEDDERTEMPO_NO_RULE, no change makes anything by what the seed draws, or the module has
+ * no function of its own that can be read; TEDDERTEMPO_TOO_LARGE, no change that was tried fits.
+ */
+size_t teddertempo_change_with(uint8_t *data, size_t size, size_t max_size, const struct teddertempo_change_options *options,
                                struct teddertempo_report *report);
 
 /* The version as a number, 0x000300 for 0.3.0. */

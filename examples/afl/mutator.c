@@ -1,5 +1,6 @@
 /*
- * A custom mutator for AFL++ (4 and later) that rewrites modules so that they do what they did. As a shared object:
+ * A custom mutator for AFL++ (4 and later) that changes modules so that they stay valid and compute something else; with -DKEEP it
+ * rewrites them so that they do what they did, for a target that compares what two engines give. As a shared object:
  *
  *     cc -O2 -shared -fPIC mutator.c $(pkg-config --cflags --libs teddertempo) -o teddertempo_afl.so
  *     AFL_CUSTOM_MUTATOR_LIBRARY=$PWD/teddertempo_afl.so afl-fuzz -i CORPUS -o FINDINGS -- ./target
@@ -17,8 +18,10 @@ struct mutator {
     uint8_t *data;  /* of room bytes: AFL++ reads here what was made, until the next call */
     size_t room;
     uint64_t state; /* of the generator that seeds the calls; each instance of AFL++ starts with a seed of its own */
+#ifdef KEEP
     uint32_t rule;  /* of the last rewrite */
     char text[64];
+#endif
 };
 
 /* AFL++ looks these up by name. */
@@ -66,12 +69,32 @@ static int grow(struct mutator *mutator, size_t room)
     return 1;
 }
 
-/* The bytes in buf are AFL++'s, so a copy is rewritten. Where this returns 0 AFL++ goes on without a run; *out_buf isn't null. */
-size_t afl_custom_fuzz(void *data, unsigned char *buf, size_t buf_size, unsigned char **out_buf, unsigned char *add_buf,
-                       size_t add_buf_size, size_t max_size)
+/* Makes another module of the one in mutator->data, and returns its size, or 0. */
+#ifdef KEEP
+static size_t mutate(struct mutator *mutator, size_t size, size_t max_size)
 {
     struct teddertempo_options options = {sizeof options, 0, {0}, TEDDERTEMPO_ANY_FUNCTION, 1, TEDDERTEMPO_ANY_GROWTH, 0, 0};
     struct teddertempo_report report = {sizeof report, 0, 0, 0, 0, 0};
+    size_t new_size;
+
+    options.seed = next_word(&mutator->state);
+    new_size = teddertempo_mutate_with(mutator->data, size, max_size, &options, &report);
+    if (new_size != 0) {
+        mutator->rule = report.rule;
+    }
+    return new_size;
+}
+#else
+static size_t mutate(struct mutator *mutator, size_t size, size_t max_size)
+{
+    return teddertempo_change(mutator->data, size, max_size, next_word(&mutator->state));
+}
+#endif
+
+/* The bytes in buf are AFL++'s, so a copy is mutated. Where this returns 0 AFL++ goes on without a run; *out_buf isn't null. */
+size_t afl_custom_fuzz(void *data, unsigned char *buf, size_t buf_size, unsigned char **out_buf, unsigned char *add_buf,
+                       size_t add_buf_size, size_t max_size)
+{
     struct mutator *mutator = data;
     size_t new_size;
 
@@ -81,18 +104,17 @@ size_t afl_custom_fuzz(void *data, unsigned char *buf, size_t buf_size, unsigned
         return 0;
     }
     memcpy(mutator->data, buf, buf_size);
-    options.seed = next_word(&mutator->state);
-    new_size = teddertempo_mutate_with(mutator->data, buf_size, max_size, &options, &report);
+    new_size = mutate(mutator, buf_size, max_size);
     if (new_size != 0) {
         *out_buf = mutator->data;
-        mutator->rule = report.rule;
     }
     return new_size;
 }
 
-/* A text for the name of the file in which AFL++ keeps what was made: the rule. */
+/* A text for the name of the file in which AFL++ keeps what was made: the rule, or that it is a change. */
 const char *afl_custom_describe(void *data, size_t max_description_len)
 {
+#ifdef KEEP
     struct mutator *mutator = data;
     char name[40];
     size_t size = teddertempo_rule_name(mutator->rule, name, sizeof name);
@@ -102,6 +124,12 @@ const char *afl_custom_describe(void *data, size_t max_description_len)
     }
     snprintf(mutator->text, sizeof mutator->text, "op:teddertempo,rule:%.*s", (int)size, name);
     return strlen(mutator->text) <= max_description_len ? mutator->text : NULL;
+#else
+    static const char text[] = "op:teddertempo,change";
+
+    (void)data;
+    return strlen(text) <= max_description_len ? text : NULL;
+#endif
 }
 
 void afl_custom_deinit(void *data)

@@ -1,12 +1,19 @@
 /*
- * A fuzz target for libFuzzer whose mutator rewrites modules so that they do what they did, and leaves other bytes to
- * libFuzzer's own:
+ * A fuzz target for libFuzzer whose mutator changes modules so that they stay valid, and leaves other bytes to libFuzzer's own:
  *
  *     clang -fsanitize=fuzzer fuzz.c $(pkg-config --cflags --libs teddertempo) -o fuzz && ./fuzz CORPUS
+ *
+ * With -DKEEP it rewrites them so that they do what they did, for a target that compares what two engines give.
  */
 #include <teddertempo.h>
 
 #include <string.h>
+
+#ifdef KEEP
+#define MUTATE teddertempo_mutate
+#else
+#define MUTATE teddertempo_change
+#endif
 
 size_t LLVMFuzzerMutate(uint8_t *data, size_t size, size_t max_size);
 size_t LLVMFuzzerCustomMutator(uint8_t *data, size_t size, size_t max_size, unsigned int seed);
@@ -22,10 +29,10 @@ static int begins_as_module(const uint8_t *data, size_t size)
     return size >= sizeof preamble && memcmp(data, preamble, sizeof preamble) == 0;
 }
 
-/* What is no module, and a module that can't be rewritten, libFuzzer changes as it would any bytes. */
+/* What is no module, and a module of which nothing can be made, libFuzzer changes as it would any bytes. */
 size_t LLVMFuzzerCustomMutator(uint8_t *data, size_t size, size_t max_size, unsigned int seed)
 {
-    size_t new_size = teddertempo_mutate(data, size, max_size, seed);
+    size_t new_size = MUTATE(data, size, max_size, seed);
 
     return new_size != 0 ? new_size : LLVMFuzzerMutate(data, size, max_size);
 }

@@ -1,7 +1,8 @@
 /*
- * Rewrites a module and says what was done, or why nothing was:
+ * Rewrites a module and says what was done, or why nothing was; or changes it, so that it computes something else:
  *
  *     mutate [--exact] [--seed N] [--count N] [--percent N] [--function N] [--growth N] [--rule NAME].. MODULE NEW
+ *     mutate --change [--seed N] [--count N] [--function N] [--growth N] MODULE NEW
  *
  * Numbers are decimal. Without --rule all rules are meant; --growth is how many bytes NEW may have more than MODULE. The status
  * is 2 where the library writes no module, and 1 where the options can't be read, or a file can't be read or written.
@@ -17,13 +18,28 @@
 /* How many bytes more than the old module the new one may have, and how many the name of a rule. */
 enum { EXTRA = 1 << 16, LONGEST_NAME = 64 };
 
+/* The names of the changes, by number. */
+static const char *const changes[] = {
+    [TEDDERTEMPO_CHANGE_CONSTANT] = "constant",
+    [TEDDERTEMPO_CHANGE_OPERATOR] = "operator",
+    [TEDDERTEMPO_CHANGE_LOCAL] = "local",
+    [TEDDERTEMPO_CHANGE_DRAW] = "draw",
+    [TEDDERTEMPO_CHANGE_COPY] = "copy",
+    [TEDDERTEMPO_CHANGE_FIRST_OPERAND] = "first_operand",
+    [TEDDERTEMPO_CHANGE_LAST_OPERAND] = "last_operand",
+    [TEDDERTEMPO_CHANGE_EXCHANGE_OPERANDS] = "exchange_operands",
+    [TEDDERTEMPO_CHANGE_DELETE] = "delete",
+    [TEDDERTEMPO_CHANGE_DOUBLE] = "double",
+    [TEDDERTEMPO_CHANGE_EXCHANGE_STATEMENTS] = "exchange_statements",
+};
+
 /* Why nothing was done, by the outcome. */
 static const char *const reasons[] = {
     [TEDDERTEMPO_LINKABLE_OBJECT] = "a linkable object",
     [TEDDERTEMPO_UNREADABLE] = "no function can be read",
-    [TEDDERTEMPO_NO_RULE] = "no rule applies",
+    [TEDDERTEMPO_NO_RULE] = "nothing applies",
     [TEDDERTEMPO_NO_FUNCTION] = "no function with that index",
-    [TEDDERTEMPO_TOO_LARGE] = "no rewrite fits",
+    [TEDDERTEMPO_TOO_LARGE] = "nothing fits",
     [TEDDERTEMPO_NO_MEMORY] = "no memory",
     [TEDDERTEMPO_BAD_OPTIONS] = "bad options",
 };
@@ -105,34 +121,55 @@ static int read_option(const char *option, const char *value, struct teddertempo
     return strcmp(option, "--rule") == 0 && add_rule(value, options);
 }
 
-/* Says what a call has made of a module of so many bytes. */
-static void tell(const struct teddertempo_report *report, size_t size, size_t new_size)
+/* Says what a call has made of a module of so many bytes: what was done, and what of it was the last. */
+static void tell(const struct teddertempo_report *report, size_t size, size_t new_size, const char *done, const char *last)
 {
-    char name[LONGEST_NAME];
-    size_t length;
-
     if (report->outcome == TEDDERTEMPO_REWRITTEN) {
-        length = teddertempo_rule_name(report->rule, name, sizeof name);
-        printf("%zu bytes, now %zu; rewrites %" PRIu64 ", the last by %.*s in function %" PRIu64 "\n", size, new_size, report->made,
-               (int)(length < sizeof name ? length : sizeof name), name, report->function);
+        printf("%zu bytes, now %zu; %s %" PRIu64 ", the last by %s in function %" PRIu64 "\n", size, new_size, done, report->made, last,
+               report->function);
     } else if (report->outcome == TEDDERTEMPO_NOT_A_MODULE) {
-        printf("not rewritten: no module, by its byte %" PRIu64 "\n", report->offset);
+        printf("nothing done: no module, by its byte %" PRIu64 "\n", report->offset);
     } else {
-        printf("not rewritten: %s\n", reasons[report->outcome]);
+        printf("nothing done: %s\n", reasons[report->outcome]);
     }
+}
+
+/* Rewrites the module as the options say. Returns the new size, or 0. */
+static size_t rewrite(uint8_t *data, size_t size, const struct teddertempo_options *options)
+{
+    struct teddertempo_report report = {sizeof report, 0, 0, 0, 0, 0};
+    char name[LONGEST_NAME + 1] = "";
+    size_t new_size = teddertempo_mutate_with(data, size, size + EXTRA, options, &report);
+
+    teddertempo_rule_name(report.rule, name, LONGEST_NAME);
+    tell(&report, size, new_size, "rewrites", name);
+    return new_size;
+}
+
+/* Changes it, by those of the options that both have. */
+static size_t change(uint8_t *data, size_t size, const struct teddertempo_options *options)
+{
+    struct teddertempo_change_options asked = {sizeof asked, options->seed, 0, options->function, options->count, options->max_growth};
+    struct teddertempo_report report = {sizeof report, 0, 0, 0, 0, 0};
+    size_t new_size = teddertempo_change_with(data, size, size + EXTRA, &asked, &report);
+
+    tell(&report, size, new_size, "changes", changes[report.rule]);
+    return new_size;
 }
 
 int main(int count, char **arguments)
 {
     struct teddertempo_options options = {sizeof options, 0, {0}, TEDDERTEMPO_ANY_FUNCTION, 1, TEDDERTEMPO_ANY_GROWTH, 0, 0};
-    struct teddertempo_report report = {sizeof report, 0, 0, 0, 0, 0};
     uint8_t *data;
     size_t size = 0, new_size;
-    int at = 1, status = 0;
+    int at = 1, is_change = 0, status = 0;
 
     while (at < count) {
         if (strcmp(arguments[at], "--exact") == 0) {
             options.flags = TEDDERTEMPO_EXACT;
+            at += 1;
+        } else if (strcmp(arguments[at], "--change") == 0) {
+            is_change = 1;
             at += 1;
         } else if (at + 1 < count && read_option(arguments[at], arguments[at + 1], &options)) {
             at += 2;
@@ -141,7 +178,7 @@ int main(int count, char **arguments)
         }
     }
     if (count - at != 2) {
-        fprintf(stderr, "usage: mutate [--exact] [--seed N] [--count N] [--percent N] [--function N] [--growth N] [--rule NAME].. MODULE NEW\n");
+        fprintf(stderr, "usage: mutate [--change] [--exact] [--seed N] [--count N] [--percent N] [--function N] [--growth N] [--rule NAME].. MODULE NEW\n");
         return 1;
     }
     data = read_file(arguments[at], &size);
@@ -149,8 +186,7 @@ int main(int count, char **arguments)
         fprintf(stderr, "mutate: %s can't be read\n", arguments[at]);
         return 1;
     }
-    new_size = teddertempo_mutate_with(data, size, size + EXTRA, &options, &report);
-    tell(&report, size, new_size);
+    new_size = is_change ? change(data, size, &options) : rewrite(data, size, &options);
     if (new_size == 0) {
         status = 2;
     } else if (!write_file(arguments[at + 1], data, new_size)) {

@@ -23,7 +23,7 @@ use Rattle.teddertempo_c.specs.Writes.{Fits, HasRule}
 not_empty : (front size contents behind new : List ℕ) (id : ℕ) → new ≡ (front ++ (id ∷ size ++ contents)) ++ behind → 0 < length new
 not_empty front size contents behind new id is = omega (arith, simp length-append at (ap length is))
 
-length-rewritten : (bytes : List ℕ) (layout : Layout) (n : ℕ) (contents : List ℕ) (more : List PrimitiveTypeInfo) (new : List ℕ) →
+pub length-rewritten : (bytes : List ℕ) (layout : Layout) (n : ℕ) (contents : List ℕ) (more : List PrimitiveTypeInfo) (new : List ℕ) →
     IsRewritten bytes layout n contents more new → 0 < length new
 length-rewritten bytes layout n contents more new w =
     let code = code_with bytes w.code w.entry contents in

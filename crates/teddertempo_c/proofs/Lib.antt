@@ -7,3 +7,5 @@ pub mod AttemptLemmas
 pub mod NamingLemmas
 pub mod RefusalLemmas
 pub mod WritesLemmas
+pub mod ChangesLemmas
+pub mod ChangeReportsLemmas

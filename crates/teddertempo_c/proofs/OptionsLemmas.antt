@@ -1,5 +1,5 @@
 -- The rules that pass a test, one after another.
-use Rattle.std.proofs.Common.{◌≡◌, ◌≢◌, ℕ, ◌+◌, ◌<◌, ◌≤◌, inl, inr, Bool, true, false, List, [], ◌∷◌, ◌++◌, length, take, get_or, refl, sym, ap, ◌∙◌, append-nil, arith}
+use Rattle.std.proofs.Common.{◌≡◌, ◌≢◌, ℕ, zero, suc, ◌+◌, ◌<◌, ◌≤◌, inl, inr, Bool, true, false, List, [], ◌∷◌, ◌++◌, length, take, get_or, refl, sym, ap, ◌∙◌, append-nil, arith}
 use Rattle.std.specs.Prelude.{◌↔◌, IsTrue, cond, not}
 use Rattle.std.specs.List.{filter}
 use Rattle.std.proofs.lemmas.List.{take_more}
@@ -8,6 +8,12 @@ use Rattle.teddertempo_c.specs.Options.{AreBad, rules_of}
 use Rattle.teddertempo_c.specs.declared.options.Options.{Options}
 use Rattle.teddertempo_c.specs.declared.options.TheConstants.{OPTIONS_SIZE}
 use Rattle.teddertempo_c.specs.declared.report.TheConstants.{REPORT_SIZE}
+
+-- an item of a list, whatever would stand for it behind its end
+pub any_other : {A : Type 0} (xs : List A) (i : ℕ) (d e : A) → i < length xs → get_or xs i d ≡ get_or xs i e
+any_other [] i d e l = absurd (omega (arith, l))
+any_other (x ∷ xs) zero d e l = refl
+any_other (x ∷ xs) (suc i) d e l = any_other xs i d e (omega (arith, l))
 
 module _ {A : Type 0} (p : A → Bool) (xs : List A) (i : ℕ) (x : A) (is : x ≡ get_or xs i x) (l : i < length xs) where
   filter_more : filter p (take (i + 1) xs) ≡ filter p (take i xs) ++ cond (p x) (x ∷ []) []

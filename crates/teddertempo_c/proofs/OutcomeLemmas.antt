@@ -7,33 +7,38 @@ use Rattle.wasm_module.specs.declared.refusal.WriteError.TheVariants as writes
 use Rattle.module_rewrites.specs.declared.attempt.Reason.{Reason}
 use Rattle.module_rewrites.specs.declared.attempt.Reason.TheVariants as reasons
 use Rattle.module_rewrites.specs.declared.mutation.MutationError.TheVariants as mutations
-use Rattle.teddertempo_c.specs.Outcome.{IsOutcome, offset_by, offset_by_fault, outcome_by, outcome_by_fault}
+use Rattle.teddertempo_c.specs.Outcome.{IsNoModule, IsOutcome, offset_by, offset_by_fault, outcome_by, outcome_by_fault}
 use Rattle.teddertempo_c.specs.Writes.{Asked, IsRefusedFor}
+use Rattle.teddertempo_c.specs.declared.outcome.Outcome.{Outcome}
+use Rattle.teddertempo_c.specs.declared.outcome.Outcome.TheVariants.{LinkableObject, NoMemory, NotAModule}
+
+-- what holds of the outcome of each fault: that the bytes are no module, that they are a linkable object, or that memory is wanting
+pub by_fault : (P : (offset : ℕ) → Outcome → Type 0) (bytes : List ℕ) → ((offset : ℕ) → IsNoModule bytes offset → P offset NotAModule) →
+    ((offset : ℕ) → IsModuleFault bytes faults.Linkable offset → P offset LinkableObject) → P 0 NoMemory → (fault : ModuleFault) (offset : ℕ) →
+    IsModuleFault bytes fault offset → P (offset_by_fault fault offset) (outcome_by_fault fault)
+by_fault P bytes other linkable memory faults.BadMagic offset h = other offset (record { kind = faults.BadMagic; is = h; other = tt })
+by_fault P bytes other linkable memory faults.BadVersion offset h = other offset (record { kind = faults.BadVersion; is = h; other = tt })
+by_fault P bytes other linkable memory faults.Truncated offset h = other offset (record { kind = faults.Truncated; is = h; other = tt })
+by_fault P bytes other linkable memory faults.BadInteger offset h = other offset (record { kind = faults.BadInteger; is = h; other = tt })
+by_fault P bytes other linkable memory faults.UnknownSection offset h = other offset (record { kind = faults.UnknownSection; is = h; other = tt })
+by_fault P bytes other linkable memory faults.OutOfOrder offset h = other offset (record { kind = faults.OutOfOrder; is = h; other = tt })
+by_fault P bytes other linkable memory faults.Linkable offset h = linkable offset h
+by_fault P bytes other linkable memory faults.UnknownForm offset h = other offset (record { kind = faults.UnknownForm; is = h; other = tt })
+by_fault P bytes other linkable memory faults.UnknownOpcode offset h = other offset (record { kind = faults.UnknownOpcode; is = h; other = tt })
+by_fault P bytes other linkable memory faults.TrailingBytes offset h = other offset (record { kind = faults.TrailingBytes; is = h; other = tt })
+by_fault P bytes other linkable memory faults.CodeCount offset h = other offset (record { kind = faults.CodeCount; is = h; other = tt })
+by_fault P bytes other linkable memory faults.TooManyLocals offset h = other offset (record { kind = faults.TooManyLocals; is = h; other = tt })
+by_fault P bytes other linkable memory faults.Memory offset h = memory
 
 module _ (asked : Asked) (bytes : List ℕ) where
-  by_fault : (fault : ModuleFault) (offset : ℕ) → IsModuleFault bytes fault offset →
-      IsOutcome asked bytes (offset_by_fault fault offset) (outcome_by_fault fault)
-  by_fault faults.BadMagic offset h = record { kind = faults.BadMagic; is = h; other = tt }
-  by_fault faults.BadVersion offset h = record { kind = faults.BadVersion; is = h; other = tt }
-  by_fault faults.Truncated offset h = record { kind = faults.Truncated; is = h; other = tt }
-  by_fault faults.BadInteger offset h = record { kind = faults.BadInteger; is = h; other = tt }
-  by_fault faults.UnknownSection offset h = record { kind = faults.UnknownSection; is = h; other = tt }
-  by_fault faults.OutOfOrder offset h = record { kind = faults.OutOfOrder; is = h; other = tt }
-  by_fault faults.Linkable offset h = h
-  by_fault faults.UnknownForm offset h = record { kind = faults.UnknownForm; is = h; other = tt }
-  by_fault faults.UnknownOpcode offset h = record { kind = faults.UnknownOpcode; is = h; other = tt }
-  by_fault faults.TrailingBytes offset h = record { kind = faults.TrailingBytes; is = h; other = tt }
-  by_fault faults.CodeCount offset h = record { kind = faults.CodeCount; is = h; other = tt }
-  by_fault faults.TooManyLocals offset h = record { kind = faults.TooManyLocals; is = h; other = tt }
-  by_fault faults.Memory offset h = refl
-
   pub by_reason : (reason : Reason) → IsRefusedFor asked bytes reason → IsOutcome asked bytes (offset_by reason) (outcome_by reason)
   by_reason reasons.NoRule h = (refl, (reasons.NoRule, tt, h))
   by_reason reasons.NoOwnFunction h = (refl, (reasons.NoOwnFunction, tt, h))
   by_reason (reasons.Unreadable e) h = (refl, (e, h))
   by_reason (reasons.NoFunction function) h = (refl, (reasons.NoFunction function, h.is))
   by_reason (reasons.UnknownImport e) h = (refl, (reasons.UnknownImport e, h.is))
-  by_reason (reasons.Refused (mutations.Read e)) h = by_fault e.kind e.offset h.is
+  by_reason (reasons.Refused (mutations.Read e)) h =
+      by_fault (IsOutcome asked bytes) bytes (λ offset h. h) (λ offset h. h) refl e.kind e.offset h.is
   by_reason (reasons.Refused mutations.Memory) h = refl
   by_reason (reasons.Refused (mutations.Write writes.TooLarge)) h = (refl, record { error = mutations.Write writes.TooLarge; large = tt; is = h })
   by_reason (reasons.Refused (mutations.Write writes.EmptyType)) h = absurd h.is.refuses

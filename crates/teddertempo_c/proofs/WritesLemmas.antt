@@ -20,7 +20,7 @@ module _ (bytes old : List ℕ) (result : ℕ) (new : List ℕ) (put : IsPut byt
   pub front_is : take result new ≡ bytes
   front_is = ap (take result) put.is ∙ take_at bytes (drop (length bytes) old) result (sym put.size)
 
-  writes_front : length bytes ≤ length old → 0 < length bytes → WritesFront old result new
+  pub writes_front : length bytes ≤ length old → 0 < length bytes → WritesFront old result new
   writes_front fits some = record {
     inside = omega (arith, put.size);
     whole = omega (arith, fits, ap length put.is, length-append bytes (drop (length bytes) old), length-drop (length bytes) old);
@@ -31,7 +31,7 @@ module _ (bytes old : List ℕ) (result : ℕ) (new : List ℕ) (put : IsPut byt
   }
 
 -- nothing is written
-writes_nothing : (old : List ℕ) → WritesFront old 0 old
+pub writes_nothing : (old : List ℕ) → WritesFront old 0 old
 writes_nothing old = record { inside = omega arith; whole = refl; behind = refl; untouched = λ none. refl }
 
 -- ---- the simple call

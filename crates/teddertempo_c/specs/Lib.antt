@@ -5,3 +5,6 @@ pub mod Outcome
 pub mod Writes
 pub mod Reports
 pub mod Naming
+pub mod Changes
+pub mod ChangeOptions
+pub mod ChangeReports

@@ -65,8 +65,8 @@ pub fn rewritten_once(
     rewritten(alloc, bytes, seed, &scope, Dose::Times(1))
 }
 
-// An outcome that no place in the module belongs to.
-fn without_place(outcome: Outcome) -> Refusal
+/// An outcome that no place in the module belongs to.
+pub fn without_place(outcome: Outcome) -> Refusal
     ensures outcome { result.outcome ≡ outcome }
     ensures offset { result.offset ≡ 0 }
 {

@@ -1,5 +1,5 @@
-//! The calls by which fuzzers and other programs in C rewrite instructions of a module, in place, so that it does what it did. They
-//! are those of the header `teddertempo.h`.
+//! The calls by which fuzzers and other programs in C rewrite instructions of a module, in place, so that it does what it did, or change
+//! it, so that it stays valid and computes something else. They are those of the header `teddertempo.h`.
 #![tactic(auto)]
 
 ghost use Rattle.std.specs.Prelude.{◌≡◌, ◌≢◌, ℕ, ◌^◌, ◌<◌, List, IfNone, IfSome, Some, length, slice_get};
@@ -8,17 +8,23 @@ ghost use Rattle.rewrite_rules.specs.Names.{names};
 ghost use Rattle.rewrite_rules.specs.Rule.{rule_name};
 ghost use Rattle.rewrite_rules.specs.declared.rule.Rule.{Rule};
 ghost use Rattle.teddertempo_c.specs.Buffer.{bytes_at};
+ghost use Rattle.teddertempo_c.specs.ChangeReports.{ChangesWith};
+ghost use Rattle.teddertempo_c.specs.Changes.{ChangesOnce};
 ghost use Rattle.teddertempo_c.specs.Naming.{HoldsName, WritesName};
 ghost use Rattle.teddertempo_c.specs.Reports.{MutatesWith};
 ghost use Rattle.teddertempo_c.specs.Writes.{MutatesOnce};
 
 mod attempt;
+mod change_options;
+mod changing;
 mod mutating;
 mod options;
 mod outcome;
 mod report;
 mod rules;
 
+pub use change_options::ChangeOptions;
+use changing::{change_in, change_with_in};
 use mutating::{mutate_in, mutate_with_in};
 pub use options::Options;
 pub use report::Report;
@@ -76,6 +82,64 @@ pub unsafe extern "C" fn teddertempo_mutate_with(
         ⌜ MutatesWith options.now size old result new report.old report.new ⌝) }
 {
     mutate_with_in(
+        alloc,
+        std::slice::from_raw_parts_mut(data, max_size),
+        size,
+        options,
+        report,
+    )
+}
+
+/// Changes the module that the first `size` of the `max_size` bytes at `data` are, once and by any change in any function, under a
+/// seed, and writes the new module over them. Answers the new module's size, which is `max_size` at most.
+///
+/// Answers 0, and leaves the bytes as they were, where `size` is above `max_size`, or for one of the reasons for which
+/// `change_module` refuses. One of these is that no memory is left, which may be so at any time: so no contract can tell this
+/// call from one that always answers 0.
+///
+/// The new module is valid where the old one was, and computes something else, of which nothing is promised. Equal modules, seeds and
+/// `max_size` give equal bytes. C passes `data`, `size`, `max_size` and `seed`; the bytes may be read and written, and `data` isn't null.
+#[unsafe(no_mangle)]
+pub unsafe extern "C" fn teddertempo_change(
+    alloc: Global,
+    data: *mut u8,
+    size: usize,
+    max_size: usize,
+    seed: u64,
+) -> usize
+    ghost old: { List ℕ }
+    requires* { sem 𝓛 (bytes_at «data» max_size old) ∗ ⌜ max_size < 2 ^ 63 ⌝ }
+    ensures* { ∃ₛ (λ new. sem 𝓛 (bytes_at «data» max_size new) ∗
+        ⌜ ChangesOnce seed size old result new ⌝) }
+{
+    change_in(
+        alloc,
+        std::slice::from_raw_parts_mut(data, max_size),
+        size,
+        seed,
+    )
+}
+
+/// The same by options, and the report says what was done, or why nothing was: each reason but a want of memory only where it is so,
+/// and bad options always. It is written whole, but for its size; the number in the place of a rule's is that of the last change.
+///
+/// C passes `data`, `size`, `max_size`, and pointers to the options and the report, which aren't null and don't overlap the bytes. Both
+/// have their sizes in them: what is smaller than this version's is refused, and of what is larger nothing is read or written behind it.
+#[unsafe(no_mangle)]
+pub unsafe extern "C" fn teddertempo_change_with(
+    alloc: Global,
+    data: *mut u8,
+    size: usize,
+    max_size: usize,
+    options: &ChangeOptions,
+    report: &mut Report,
+) -> usize
+    ghost old: { List ℕ }
+    requires* { sem 𝓛 (bytes_at «data» max_size old) ∗ ⌜ max_size < 2 ^ 63 ⌝ }
+    ensures* { ∃ₛ (λ new. sem 𝓛 (bytes_at «data» max_size new) ∗
+        ⌜ ChangesWith options.now size old result new report.old report.new ⌝) }
+{
+    change_with_in(
         alloc,
         std::slice::from_raw_parts_mut(data, max_size),
         size,

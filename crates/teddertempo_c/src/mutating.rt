@@ -14,8 +14,8 @@ use module_rewrites::MadeRewrite;
 use rewrite_rules::Rule;
 use std::alloc::Global;
 
-// Writes the bytes over the front of the buffer, and answers how many they are.
-fn put(buffer: &mut [u8], bytes: &[u8]) -> usize
+/// Writes the bytes over the front of the buffer, and answers how many they are.
+pub(crate) fn put(buffer: &mut [u8], bytes: &[u8]) -> usize
     requires fits { length bytes.now ≤ length buffer.old }
     ensures { IsPut bytes.now buffer.old result buffer.new }
 {
@@ -72,8 +72,8 @@ fn report_of(report_size: u64, made: &[MadeRewrite]) -> Report
     }
 }
 
-// What is reported where there is none.
-fn report_on(report_size: u64, refusal: Refusal) -> Report
+/// What is reported where there is none.
+pub(crate) fn report_on(report_size: u64, refusal: Refusal) -> Report
     ensures outcome { result.outcome ≡ outcome_number refusal.outcome }
     ensures tells { TellsNone result }
     ensures offset { result.offset ≡ refusal.offset }

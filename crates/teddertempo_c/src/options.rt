@@ -57,8 +57,8 @@ fn word_of(words: &[u64], number: usize) -> u64
     }
 }
 
-// Whether the bit of the rule with the number is set in its word.
-fn has_bit(word: u64, number: usize) -> bool
+/// Whether the bit of the rule with the number is set in its word.
+pub fn has_bit(word: u64, number: usize) -> bool
     ensures { result ≡ has_bit word number }
 {
     (word >> (number % 64)) % 2 == 1

@@ -1,5 +1,6 @@
 //! What a call comes to.
 ghost use Rattle.std.specs.Prelude.{◌≡◌};
+ghost use Rattle.teddertempo_c.specs.ChangeReports as change;
 ghost use Rattle.teddertempo_c.specs.Outcome.{offset_by, offset_by_fault, offset_by_refusal, outcome_by, outcome_by_fault, outcome_by_refusal, outcome_by_write, outcome_number};
 
 use module_rewrites::{MutationError, Reason};
@@ -138,5 +139,41 @@ pub fn refusal_by(reason: Reason) -> Refusal
     Refusal {
         outcome: outcome_by(reason),
         offset: offset_by(reason),
+    }
+}
+
+// What a refusal to change a module comes to.
+fn outcome_by_change(refusal: module_changes::Refusal) -> Outcome
+    ensures { result ≡ change.outcome_by refusal }
+{
+    match refusal {
+        module_changes::Refusal::Read(e) => outcome_by_fault(e.kind),
+        module_changes::Refusal::NoFunction(_) | module_changes::Refusal::UnknownImport(_) => {
+            Outcome::NoFunction
+        }
+        module_changes::Refusal::NoChange => Outcome::NoRule,
+        module_changes::Refusal::TooLarge => Outcome::TooLarge,
+        module_changes::Refusal::Memory => Outcome::NoMemory,
+    }
+}
+
+// Where the module is at fault.
+fn offset_by_change(refusal: module_changes::Refusal) -> usize
+    ensures { result ≡ change.offset_by refusal }
+{
+    match refusal {
+        module_changes::Refusal::Read(e) => offset_by_fault(e),
+        _ => 0,
+    }
+}
+
+/// Why nothing is changed, for this reason.
+pub fn refusal_by_change(refusal: module_changes::Refusal) -> Refusal
+    ensures outcome { result.outcome ≡ change.outcome_by refusal }
+    ensures offset { result.offset ≡ change.offset_by refusal }
+{
+    Refusal {
+        outcome: outcome_by_change(refusal),
+        offset: offset_by_change(refusal),
     }
 }

@@ -1,14 +1,15 @@
-//! Rewrites a module and says what was done, or why nothing was, as `examples/c/mutate.c` does:
+//! Rewrites a module and says what was done, or why nothing was, or changes it, as `examples/c/mutate.c` does:
 //!
 //! ```text
 //! mutate [--exact] [--seed N] [--count N] [--percent N] [--function N] [--growth N] [--rule NAME].. MODULE NEW
+//! mutate --change [--seed N] [--count N] [--function N] [--growth N] MODULE NEW
 //! ```
 //!
 //! The status is 2 where the library writes no module, and 1 where the options can't be read, or a file can't be read or written.
 
 use std::process::ExitCode;
 use std::{env, fs};
-use teddertempo::{Options, Report, mutate_with};
+use teddertempo::{ChangeOptions, Options, Outcome, change_with, mutate_with};
 
 /// How many bytes more than the old module the new one may have.
 const EXTRA: usize = 1 << 16;
@@ -26,18 +27,52 @@ fn with_option(options: Options, name: &str, value: &str) -> Option<Options> {
     })
 }
 
+/// The options of a change with another one, where it has one of that name.
+fn with_change_option(options: ChangeOptions, name: &str, value: &str) -> Option<ChangeOptions> {
+    Some(match name {
+        "--seed" => options.seed(value.parse().ok()?),
+        "--count" => options.count(value.parse().ok()?),
+        "--function" => options.function(value.parse().ok()?),
+        "--growth" => options.max_growth(value.parse().ok()?),
+        _ => options,
+    })
+}
+
+/// What is asked for, and the names of the two files.
+struct Arguments<'a> {
+    options: Options,
+    /// The module is changed, so, and not rewritten.
+    change: Option<ChangeOptions>,
+    old: &'a str,
+    new: &'a str,
+}
+
 /// Reads the options, and the names of the two files.
-fn read_arguments(mut words: &[String]) -> Option<(Options, &str, &str)> {
+fn read_arguments(mut words: &[String]) -> Option<Arguments<'_>> {
     let mut options = Options::new();
+    let mut change_options = ChangeOptions::new();
+    let mut is_change = false;
     loop {
         match words {
+            [name, rest @ ..] if name == "--change" => {
+                is_change = true;
+                words = rest;
+            }
             [name, rest @ ..] if name == "--exact" => {
                 options = options.exact();
                 words = rest;
             }
-            [old, new] => return Some((options, old, new)),
+            [old, new] => {
+                return Some(Arguments {
+                    options,
+                    change: is_change.then_some(change_options),
+                    old,
+                    new,
+                });
+            }
             [name, value, rest @ ..] => {
                 options = with_option(options, name, value)?;
+                change_options = with_change_option(change_options, name, value)?;
                 words = rest;
             }
             _ => return None,
@@ -45,38 +80,68 @@ fn read_arguments(mut words: &[String]) -> Option<(Options, &str, &str)> {
     }
 }
 
-/// Says what was made of a module of so many bytes.
-fn tell(report: &Report, size: usize, new_size: usize) {
-    match report.last {
-        Some(last) => println!(
-            "{size} bytes, now {new_size}; rewrites {}, the last by {} in function {}",
-            report.made, last.rule, last.function
-        ),
-        None => println!("not rewritten: {}", report.outcome),
-    }
+/// Says that nothing was done, and why.
+fn tell_nothing(outcome: Outcome) {
+    println!("nothing done: {outcome}");
 }
 
-/// Whether the module was rewritten, or what went wrong.
-fn run(options: &Options, old: &str, new: &str) -> Result<bool, String> {
-    let mut module = fs::read(old).map_err(|e| format!("{old}: {e}"))?;
+/// Changes the module by the options, and says what was made; no answer where it isn't changed.
+fn changed(mut module: Vec<u8>, options: &ChangeOptions) -> Option<Vec<u8>> {
+    let size = module.len();
+    let report = change_with(&mut module, size + EXTRA, options);
+    match report.last {
+        Some(last) => println!(
+            "{size} bytes, now {}; changes {}, the last by {} in function {}",
+            module.len(),
+            report.made,
+            last.change,
+            last.function
+        ),
+        None => tell_nothing(report.outcome),
+    }
+    report.is_changed().then_some(module)
+}
+
+/// Rewrites it by the options, and says what was made; no answer where it isn't rewritten.
+fn rewritten(mut module: Vec<u8>, options: &Options) -> Option<Vec<u8>> {
     let size = module.len();
     let report = mutate_with(&mut module, size + EXTRA, options);
-    tell(&report, size, module.len());
-    if report.is_rewritten() {
+    match report.last {
+        Some(last) => println!(
+            "{size} bytes, now {}; rewrites {}, the last by {} in function {}",
+            module.len(),
+            report.made,
+            last.rule,
+            last.function
+        ),
+        None => tell_nothing(report.outcome),
+    }
+    report.is_rewritten().then_some(module)
+}
+
+/// Whether there is a new module, or what went wrong.
+fn run(arguments: &Arguments<'_>) -> Result<bool, String> {
+    let Arguments { old, new, .. } = arguments;
+    let module = fs::read(old).map_err(|e| format!("{old}: {e}"))?;
+    let made = match &arguments.change {
+        Some(options) => changed(module, options),
+        None => rewritten(module, &arguments.options),
+    };
+    if let Some(module) = &made {
         fs::write(new, module).map_err(|e| format!("{new}: {e}"))?;
     }
-    Ok(report.is_rewritten())
+    Ok(made.is_some())
 }
 
 fn main() -> ExitCode {
     let words: Vec<String> = env::args().skip(1).collect();
-    let Some((options, old, new)) = read_arguments(&words) else {
+    let Some(arguments) = read_arguments(&words) else {
         eprintln!(
-            "usage: mutate [--exact] [--seed N] [--count N] [--percent N] [--function N] [--growth N] [--rule NAME].. MODULE NEW"
+            "usage: mutate [--change] [--exact] [--seed N] [--count N] [--percent N] [--function N] [--growth N] [--rule NAME].. MODULE NEW"
         );
         return ExitCode::from(1);
     };
-    match run(&options, old, new) {
+    match run(&arguments) {
         Ok(true) => ExitCode::SUCCESS,
         Ok(false) => ExitCode::from(2),
         Err(message) => {

@@ -1,26 +1,26 @@
-//! Rewrites instructions of a WebAssembly module so that it does what it did: safe Rust over the static library of Teddertempo,
-//! whose header, `teddertempo.h`, says what is proved of the calls.
+//! Rewrites instructions of a WebAssembly module so that it does what it did, or changes them so that it stays valid and computes
+//! something else: safe Rust over the static library of Teddertempo, whose header, `teddertempo.h`, says what is proved of the calls.
 //!
 //! [`mutate`] is one rewrite of any kind, [`mutate_with`] takes [`Options`] and answers a [`Report`], and [`mutate_slice`] rewrites
-//! in place, as a fuzzer's mutator does. With cargo-fuzz:
+//! in place, as a fuzzer's mutator does; [`change_slice`] changes in place, and [`change_with`] takes [`ChangeOptions`] and answers a
+//! [`ChangeReport`]. With cargo-fuzz, for coverage:
 //!
 //! ```ignore
 //! libfuzzer_sys::fuzz_mutator!(|data: &mut [u8], size: usize, max_size: usize, seed: u32| {
-//!     let options = teddertempo::Options::new().seed(seed.into());
-//!     let (new_size, report) = teddertempo::mutate_slice(&mut data[..max_size], size, &options);
-//!     if report.is_rewritten() {
-//!         new_size
-//!     } else {
-//!         libfuzzer_sys::fuzzer_mutate(data, size, max_size)
+//!     match teddertempo::change_slice(&mut data[..max_size], size, seed.into()) {
+//!         Some(new_size) => new_size,
+//!         None => libfuzzer_sys::fuzzer_mutate(data, size, max_size),
 //!     }
 //! });
 //! ```
 
+mod change;
 mod options;
 mod raw;
 mod report;
 mod rule;
 
+pub use change::{Change, ChangeOptions, ChangeReport, MadeChange};
 pub use options::Options;
 pub use report::{Outcome, Report, Rewrite};
 pub use rule::{NoSuchRule, Rule};
@@ -76,6 +76,52 @@ pub fn mutate_with(module: &mut Vec<u8>, max: usize, options: &Options) -> Repor
 /// ```
 pub fn mutate(module: &mut Vec<u8>, max: usize, seed: u64) -> bool {
     mutate_with(module, max, &Options::new().seed(seed)).is_rewritten()
+}
+
+/// Changes the module in `data[..size]` once, in place, so that it stays valid and computes something else, to one of at most
+/// `data.len()` bytes, and answers the new size. None where nothing is changed: the bytes are as they were.
+///
+/// ```
+/// let mut module = *b"\0asm\x01\0\0\0";
+/// assert_eq!(teddertempo::change_slice(&mut module, 8, 7), None);
+/// ```
+pub fn change_slice(data: &mut [u8], size: usize, seed: u64) -> Option<usize> {
+    // SAFETY: the declaration is the header's. The pointer is that of a slice, whose length is handed over and which isn't null even
+    // where that is 0; nothing else reads or writes it during the call. That `size` is at most the length, the library checks.
+    let new_size = unsafe { raw::teddertempo_change(data.as_mut_ptr(), size, data.len(), seed) };
+    (new_size != 0).then_some(new_size)
+}
+
+/// Changes a module to one of at most `max` bytes; so many are taken meanwhile. Where it isn't changed, it is as it was.
+///
+/// ```
+/// let mut module = b"\0asm\x01\0\0\0".to_vec();
+/// assert!(!teddertempo::change_with(&mut module, 4096, &Default::default()).is_changed());
+/// ```
+pub fn change_with(module: &mut Vec<u8>, max: usize, options: &ChangeOptions) -> ChangeReport {
+    let size = module.len();
+    let Some(extra) = max.checked_sub(size) else {
+        return ChangeReport::of_nothing(Outcome::BadOptions);
+    };
+    if module.try_reserve_exact(extra).is_err() {
+        return ChangeReport::of_nothing(Outcome::NoMemory);
+    }
+    module.resize(max, 0);
+    let options = options.raw();
+    let mut report = raw::Report::new();
+    // SAFETY: the declaration is the header's. The pointers are those of a vector's bytes, whose number is handed over, and which aren't
+    // null even where that is 0, and of two values that lie apart from them; nothing else reads or writes them during the call.
+    let new_size = unsafe {
+        raw::teddertempo_change_with(
+            module.as_mut_ptr(),
+            size,
+            max,
+            &raw const options,
+            &raw mut report,
+        )
+    };
+    module.truncate(if new_size == 0 { size } else { new_size });
+    ChangeReport::of_raw(&report)
 }
 
 /// The library's version as a number, 0x000300 for 0.3.0.

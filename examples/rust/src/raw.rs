@@ -18,6 +18,16 @@ pub struct Options {
 }
 
 #[repr(C)]
+pub struct ChangeOptions {
+    pub struct_size: u64,
+    pub seed: u64,
+    pub changes: u64,
+    pub function: u64,
+    pub count: u64,
+    pub max_growth: u64,
+}
+
+#[repr(C)]
 pub struct Report {
     pub struct_size: u64,
     pub outcome: u32,
@@ -28,6 +38,7 @@ pub struct Report {
 }
 
 const _: () = assert!(size_of::<Options>() == 184 && size_of::<Report>() == 40);
+const _: () = assert!(size_of::<ChangeOptions>() == 48);
 
 impl Report {
     /// One to be written.
@@ -55,6 +66,14 @@ unsafe extern "C" {
         size: usize,
         max_size: usize,
         options: *const Options,
+        report: *mut Report,
+    ) -> usize;
+    pub fn teddertempo_change(data: *mut u8, size: usize, max_size: usize, seed: u64) -> usize;
+    pub fn teddertempo_change_with(
+        data: *mut u8,
+        size: usize,
+        max_size: usize,
+        options: *const ChangeOptions,
         report: *mut Report,
     ) -> usize;
     pub fn teddertempo_version() -> u32;

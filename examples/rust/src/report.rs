@@ -8,7 +8,7 @@ use std::fmt;
 #[derive(Clone, Copy, Debug, PartialEq, Eq)]
 #[non_exhaustive]
 pub enum Outcome {
-    /// The module is rewritten.
+    /// The module is rewritten, or changed.
     Rewritten,
     /// The bytes are no module that can be read, by the one at this offset.
     NotAModule(u64),
@@ -16,11 +16,11 @@ pub enum Outcome {
     LinkableObject,
     /// None of the functions that may be rewritten can be read.
     Unreadable,
-    /// No rule applies in them.
+    /// No rule applies in them, or no change makes anything.
     NoRule,
     /// The module has no function of its own with that index.
     NoFunction,
-    /// No rewrite that was tried fits.
+    /// No rewrite that was tried fits, or no change.
     TooLarge,
     /// No memory is left.
     NoMemory,
@@ -68,17 +68,26 @@ impl Report {
 
     /// What the library has reported.
     pub(crate) fn of_raw(report: &raw::Report) -> Report {
-        let outcome = match report.outcome {
-            0 => {
-                return Report {
-                    outcome: Outcome::Rewritten,
-                    made: report.made,
-                    last: Some(Rewrite {
-                        rule: Rule(report.rule),
-                        function: report.function,
-                    }),
-                };
-            }
+        let outcome = Outcome::of_raw(report);
+        if outcome != Outcome::Rewritten {
+            return Report::of_nothing(outcome);
+        }
+        Report {
+            outcome,
+            made: report.made,
+            last: Some(Rewrite {
+                rule: Rule(report.rule),
+                function: report.function,
+            }),
+        }
+    }
+}
+
+impl Outcome {
+    /// The outcome that the library has reported.
+    pub(crate) fn of_raw(report: &raw::Report) -> Outcome {
+        match report.outcome {
+            0 => Outcome::Rewritten,
             1 => Outcome::NotAModule(report.offset),
             2 => Outcome::LinkableObject,
             3 => Outcome::Unreadable,
@@ -88,8 +97,7 @@ impl Report {
             7 => Outcome::NoMemory,
             8 => Outcome::BadOptions,
             other => Outcome::Other(other),
-        };
-        Report::of_nothing(outcome)
+        }
     }
 }
 
@@ -100,9 +108,9 @@ impl fmt::Display for Outcome {
             Outcome::NotAModule(offset) => write!(f, "no module, by its byte {offset}"),
             Outcome::LinkableObject => f.pad("a linkable object"),
             Outcome::Unreadable => f.pad("no function can be read"),
-            Outcome::NoRule => f.pad("no rule applies"),
+            Outcome::NoRule => f.pad("nothing applies"),
             Outcome::NoFunction => f.pad("no function with that index"),
-            Outcome::TooLarge => f.pad("no rewrite fits"),
+            Outcome::TooLarge => f.pad("nothing fits"),
             Outcome::NoMemory => f.pad("no memory"),
             Outcome::BadOptions => f.pad("bad options"),
             Outcome::Other(number) => write!(f, "outcome {number}"),

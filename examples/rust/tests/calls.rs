@@ -2,7 +2,10 @@
 
 use std::fs;
 use std::thread;
-use teddertempo::{Options, Outcome, Report, Rule, mutate, mutate_slice, mutate_with};
+use teddertempo::{
+    Change, ChangeOptions, MadeChange, Options, Outcome, Report, Rule, change_slice, change_with,
+    mutate, mutate_slice, mutate_with,
+};
 
 /// The bytes with which each module begins: the magic and the version.
 const PREAMBLE: [u8; 8] = [0x00, 0x61, 0x73, 0x6d, 0x01, 0x00, 0x00, 0x00];
@@ -47,6 +50,60 @@ fn equal_modules_and_seeds_give_equal_bytes() {
         assert_eq!(first, rewritten(&module, 4096, seed));
         // The room matters only where it is too small.
         assert_eq!(first, rewritten(&module, 8192, seed));
+    }
+}
+
+#[test]
+fn a_module_is_changed_within_its_room() {
+    let module = module();
+    let mut others = 0;
+    for seed in 0..50 {
+        for extra in [0, 4096] {
+            let mut new = module.clone();
+            new.resize(module.len() + extra, 0);
+            let size = change_slice(&mut new, module.len(), seed).unwrap();
+            assert!(size <= module.len() + extra && new.starts_with(&PREAMBLE));
+            others += usize::from(new[..size] != module);
+        }
+    }
+    assert_eq!(others, 100);
+    assert_eq!(change_slice(&mut [0; 8], 8, 7), None);
+    assert_eq!(change_slice(&mut [0; 8], 9, 7), None);
+}
+
+#[test]
+fn each_change_is_made_by_its_name() {
+    let module = module();
+    for change in Change::ALL {
+        let options = ChangeOptions::new().change(change).count(3).seed(7);
+        let mut new = module.clone();
+        let report = change_with(&mut new, module.len() + 4096, &options);
+        assert_eq!(report.made, 3, "{change}");
+        assert!(matches!(report.last, Some(MadeChange { change: last, .. }) if last == change));
+        assert!(new != module && new.starts_with(&PREAMBLE));
+    }
+}
+
+#[test]
+fn changes_are_refused_by_their_options() {
+    let module = module();
+    for (options, max, outcome) in [
+        (ChangeOptions::new(), 0, Outcome::BadOptions),
+        (
+            ChangeOptions::new().function(1 << 40),
+            4096,
+            Outcome::NoFunction,
+        ),
+        (
+            ChangeOptions::new().count(1 << 40).change(Change::Double),
+            module.len(),
+            Outcome::TooLarge,
+        ),
+    ] {
+        let mut new = module.clone();
+        let report = change_with(&mut new, max, &options);
+        assert_eq!((report.outcome, report.made), (outcome, 0));
+        assert_eq!(new, module);
     }
 }
 

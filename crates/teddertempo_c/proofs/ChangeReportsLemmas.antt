@@ -1,0 +1,150 @@
+-- What a call that changes a module by options comes to.
+use Rattle.std.proofs.Common.{◌≡◌, ℕ, ◌+◌, ◌≤◌, inl, inr, List, length, take, refl, sym, subst, arith}
+use Rattle.std.proofs.Math.Nat.{min-le_left}
+use Rattle.std.proofs.lemmas.Bool.{cases_lt}
+use Rattle.std.proofs.lemmas.List.{length-take-le}
+use Rattle.rand_core.specs.Stream.{Stream}
+use Rattle.module_changes.specs.Scope.{Scope}
+use Rattle.module_changes.specs.Times.{IsRefusal}
+use Rattle.module_changes.specs.declared.refusal.Refusal.{Refusal}
+use Rattle.module_changes.specs.declared.refusal.Refusal.TheVariants as refusals
+use Rattle.module_changes.specs.declared.entry.MadeChange.{MadeChange}
+use Rattle.module_rewrites.specs.Seeded.{seeded}
+use Rattle.module_rewrites.specs.declared.attempt.Reason.TheVariants as reasons
+use Rattle.teddertempo_c.specs.ChangeOptions.{AreBad, count_of, scope_of}
+use Rattle.teddertempo_c.specs.ChangeReports.{ChangesWith, IsAttempt, IsChangedAs, IsNone, IsOutcome, IsWhy, TellsChanges, offset_by, outcome_by}
+use Rattle.teddertempo_c.specs.Changes.{HasSize}
+use Rattle.teddertempo_c.specs.Outcome.{outcome_number}
+use Rattle.teddertempo_c.specs.Reports.{TellsNone}
+use Rattle.teddertempo_c.specs.Writes.{IsPut}
+use Rattle.teddertempo_c.specs.declared.change_options.ChangeOptions.{ChangeOptions}
+use Rattle.teddertempo_c.specs.declared.outcome.Outcome.{Outcome}
+use Rattle.teddertempo_c.specs.declared.outcome.Outcome.TheVariants.{Rewritten, NotAModule, LinkableObject, Unreadable, NoRule, NoFunction, TooLarge, NoMemory, BadOptions}
+use Rattle.teddertempo_c.specs.declared.report.Report.{Report}
+use Rattle.teddertempo_c.proofs.ChangesLemmas.{size_of_all}
+use Rattle.teddertempo_c.proofs.OutcomeLemmas.{by_fault}
+use Rattle.teddertempo_c.proofs.WritesLemmas.{front_is, writes_front, writes_nothing}
+
+-- ---- a new module's size
+
+module _ (options : ChangeOptions) (size room : ℕ) (bytes : List ℕ) where
+  size_so : (made : List MadeChange) (new : List ℕ) → IsChangedAs options size room bytes made new → HasSize room new
+  size_so made new is =
+      let has = size_of_all (scope_of options size room) (count_of options) bytes (seeded options.seed) made new is.stopped is.changes in
+      let below = min-le_left room (size + options.max_growth) in
+      record { some = has.some; fits = omega (arith, has.fits, below) }
+
+-- ---- what a refusal comes to is right
+
+module _ (scope : Scope) (bytes : List ℕ) (s : Stream) where
+  by_refusal : (refusal : Refusal) → IsRefusal scope bytes s refusal → IsOutcome scope bytes s (offset_by refusal) (outcome_by refusal)
+  by_refusal (refusals.Read e) h = by_fault (IsOutcome scope bytes s) bytes (λ offset h. h) (λ offset h. h) refl e.kind e.offset h
+  by_refusal (refusals.NoFunction function) h = (refl, (reasons.NoFunction function, h))
+  by_refusal (refusals.UnknownImport e) h = (refl, (reasons.UnknownImport e, h))
+  by_refusal refusals.NoChange h = (refl, h)
+  by_refusal refusals.TooLarge h = (refl, h)
+  by_refusal refusals.Memory h = refl
+
+-- ---- an attempt
+
+module _ (options : ChangeOptions) (report_size size : ℕ) (buffer : List ℕ) where
+  why_of : (offset : ℕ) (outcome : Outcome) →
+      IsOutcome (scope_of options size (length buffer)) (take size buffer) (seeded options.seed) offset outcome →
+      IsWhy options report_size size buffer offset outcome
+  why_of offset Rewritten h = h
+  why_of offset NotAModule h = h
+  why_of offset LinkableObject h = h
+  why_of offset Unreadable h = h
+  why_of offset NoRule h = h
+  why_of offset NoFunction h = h
+  why_of offset TooLarge h = h
+  why_of offset NoMemory h = h
+  why_of offset BadOptions h = absurd h
+
+  inside_of : ¬ (AreBad options report_size size (length buffer)) → size ≤ length buffer
+  inside_of good = elim (cases_lt (length buffer) size) [ inl outside ↦ absurd (good (inr (inl outside))) | inr inside ↦ inside ]
+
+  sized : size ≤ length buffer → length (take size buffer) ≡ size
+  sized inside = length-take-le size buffer inside
+
+  pub attempt_so : (made : List MadeChange) (new : List ℕ) → ¬ (AreBad options report_size size (length buffer)) →
+      IsChangedAs options (length (take size buffer)) (length buffer) (take size buffer) made new →
+      IsAttempt options report_size size buffer made new
+  attempt_so made new good is =
+      let there = subst (λ (n : ℕ). IsChangedAs options n (length buffer) (take size buffer) made new) (sized (inside_of good)) is in
+      record {
+        inside = inside_of good;
+        good = good;
+        is = there;
+        fits = size_so options size (length buffer) (take size buffer) made new there;
+      }
+
+  pub none_so : (refusal : Refusal) (outcome : Outcome) (offset : ℕ) → ¬ (AreBad options report_size size (length buffer)) →
+      IsRefusal (scope_of options (length (take size buffer)) (length buffer)) (take size buffer) (seeded options.seed) refusal →
+      outcome ≡ outcome_by refusal → offset ≡ offset_by refusal → IsNone options report_size size buffer outcome offset
+  none_so refusal outcome offset good is same place =
+      let why = why_of (offset_by refusal) (outcome_by refusal)
+      (by_refusal (scope_of options size (length buffer)) (take size buffer) (seeded options.seed) refusal
+      (subst (λ (n : ℕ). IsRefusal (scope_of options n (length buffer)) (take size buffer) (seeded options.seed) refusal) (sized (inside_of good)) is)) in
+      let there = subst (λ (o : Outcome). IsWhy options report_size size buffer (offset_by refusal) o) (sym same) why in
+      record {
+        why = subst (λ (n : ℕ). IsWhy options report_size size buffer n outcome) (sym place) there;
+        bad = λ bad. absurd (good bad);
+      }
+
+  pub none_memory : (outcome : Outcome) (offset : ℕ) → ¬ (AreBad options report_size size (length buffer)) → outcome ≡ NoMemory → offset ≡ 0 →
+      IsNone options report_size size buffer outcome offset
+  none_memory outcome offset good same place = record {
+    why = subst (λ (o : Outcome). IsWhy options report_size size buffer offset o) (sym same) place;
+    bad = λ bad. absurd (good bad);
+  }
+
+  pub none_bad : (outcome : Outcome) (offset : ℕ) → AreBad options report_size size (length buffer) → outcome ≡ BadOptions → offset ≡ 0 →
+      IsNone options report_size size buffer outcome offset
+  none_bad outcome offset bad same place = record {
+    why = subst (λ (o : Outcome). IsWhy options report_size size buffer offset o) (sym same) (place, bad);
+    bad = λ again. same;
+  }
+
+-- ---- the call
+
+module _ (options : ChangeOptions) (size : ℕ) (old : List ℕ) (before : Report) where
+  pub with_changes : (made : List MadeChange) (bytes : List ℕ) (result : ℕ) (new : List ℕ) (report : Report) →
+      IsAttempt options before.struct_size size old made bytes → IsPut bytes old result new → report.outcome ≡ 0 → TellsChanges made report →
+      report.struct_size ≡ before.struct_size → ChangesWith options size old result new before report
+  with_changes made bytes result new report is put number tells stays =
+      let has = is.fits in
+      record {
+        writes = writes_front bytes old result new put has.fits has.some;
+        outcome = Rewritten;
+        number = number;
+        some = ((λ some. refl), (λ same none. absurd (omega (arith, put.size, has.some, none))));
+        changed = λ same. record {
+          inside = is.inside;
+          made = made;
+          is = subst (IsChangedAs options size (length old) (take size old) made) (sym (front_is bytes old result new put)) is.is;
+          tells = tells;
+        };
+        none = λ other. absurd (other refl);
+        why = λ other. absurd (other refl);
+        bad = λ bad. absurd (is.good bad);
+        size_stays = stays;
+      }
+
+  never : (offset : ℕ) (outcome : Outcome) → IsWhy options before.struct_size size old offset outcome → outcome ≡ Rewritten → ⊥
+  never offset outcome why same = subst (IsWhy options before.struct_size size old offset) same why
+
+  pub with_none : (outcome : Outcome) (offset : ℕ) (report : Report) → IsNone options before.struct_size size old outcome offset →
+      report.outcome ≡ outcome_number outcome → TellsNone report → report.offset ≡ offset → report.struct_size ≡ before.struct_size →
+      ChangesWith options size old 0 old before report
+  with_none outcome offset report is number tells place stays = record {
+    writes = writes_nothing old;
+    outcome = outcome;
+    number = number;
+    some = ((λ some. absurd (some refl)), (λ same. absurd (never offset outcome is.why same)));
+    changed = λ same. absurd (never offset outcome is.why same);
+    none = λ other. tells;
+    why = λ other. subst (λ at. IsWhy options before.struct_size size old at outcome) (sym place) is.why;
+    bad = is.bad;
+    size_stays = stays;
+  }

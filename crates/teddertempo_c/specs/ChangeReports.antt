@@ -1,0 +1,106 @@
+-- What a call that changes a module by options leaves in the buffer, and what it reports (this project).
+use Rattle.std.specs.Prelude.{◌≡◌, ◌≢◌, ◌↔◌, ℕ, ◌≤◌, List, [], ◌∷◌, ◌++◌, Option, length, take}
+use Rattle.rand_core.specs.Stream.{Stream}
+use Rattle.wasm_sections.specs.declared.fault.ModuleFault.TheVariants as faults
+use Rattle.wasm_module.specs.Fault.{IsModuleFault}
+use Rattle.module_changes.specs.Chosen.{ChangesNothing, GivesUp}
+use Rattle.module_changes.specs.Scope.{Scope}
+use Rattle.module_changes.specs.Times.{ChangesTimes}
+use Rattle.module_changes.specs.Valid.{StaysValidModule}
+use Rattle.module_changes.specs.declared.entry.MadeChange.{MadeChange}
+use Rattle.module_changes.specs.declared.refusal.Refusal.{Refusal}
+use Rattle.module_changes.specs.declared.refusal.Refusal.TheVariants as refusals
+use Rattle.module_rewrites.specs.Attempt.{RefusesIndexOf}
+use Rattle.module_rewrites.specs.Seeded.{seeded}
+use Rattle.module_rewrites.specs.declared.attempt.Reason.{Reason}
+use Rattle.teddertempo_c.specs.ChangeOptions.{AreBad, change_number, count_of, scope_of}
+use Rattle.teddertempo_c.specs.Changes.{HasSize}
+use Rattle.teddertempo_c.specs.Outcome.{IsNoModule, offset_by_fault, outcome_by_fault, outcome_number}
+use Rattle.teddertempo_c.specs.Reports.{TellsNone}
+use Rattle.teddertempo_c.specs.Writes.{WritesFront}
+use Rattle.teddertempo_c.specs.declared.change_options.ChangeOptions.{ChangeOptions}
+use Rattle.teddertempo_c.specs.declared.outcome.Outcome.{Outcome}
+use Rattle.teddertempo_c.specs.declared.outcome.Outcome.TheVariants.{Rewritten, NotAModule, LinkableObject, Unreadable, NoRule, NoFunction, TooLarge, NoMemory, BadOptions}
+use Rattle.teddertempo_c.specs.declared.report.Report.{Report}
+
+-- The new bytes are the module with these changes, at most as many as the options say, which the seed chooses; it is valid where the old one was.
+pub record IsChangedAs (options : ChangeOptions) (size room : ℕ) (bytes : List ℕ) (made : List MadeChange) (new : List ℕ) : Type 0 where
+  pub stopped : Option Refusal
+  pub changes : ChangesTimes (scope_of options size room) (count_of options) bytes (seeded options.seed) made new stopped
+  pub valid : StaysValidModule bytes new
+
+-- how many changes were made, and the function and the number of the last one
+pub record TellsChanges (made : List MadeChange) (report : Report) : Type 0 where
+  pub count : report.made ≡ length made
+  pub before : List MadeChange
+  pub last : MadeChange
+  pub made_are : made ≡ before ++ last ∷ []
+  pub function : report.function ≡ last.function
+  pub change : report.rule ≡ change_number last.change
+  pub offset : report.offset ≡ 0
+
+-- The first `size` bytes were a module, and the first ones now, the result says how many, are that module changed as the report says.
+pub record IsChangedSo (options : ChangeOptions) (size : ℕ) (old : List ℕ) (result : ℕ) (new : List ℕ) (report : Report) : Type 0 where
+  pub inside : size ≤ length old
+  pub made : List MadeChange
+  pub is : IsChangedAs options size (length old) (take size old) made (take result new)
+  pub tells : TellsChanges made report
+
+-- Why nothing of the module is changed; the offset is that of its fault, or 0. Nothing is said of a want of memory.
+abbrev pub IsOutcome : Scope → (bytes : List ℕ) → Stream → (offset : ℕ) → Outcome → Type 0
+IsOutcome scope bytes s offset Rewritten = ⊥
+IsOutcome scope bytes s offset NotAModule = IsNoModule bytes offset
+IsOutcome scope bytes s offset LinkableObject = IsModuleFault bytes faults.Linkable offset
+IsOutcome scope bytes s offset Unreadable = ⊥
+IsOutcome scope bytes s offset NoRule = (offset ≡ 0) × ChangesNothing scope bytes s
+IsOutcome scope bytes s offset NoFunction = (offset ≡ 0) × ((reason : Reason) × RefusesIndexOf scope.function bytes reason)
+IsOutcome scope bytes s offset TooLarge = (offset ≡ 0) × GivesUp scope bytes s
+IsOutcome scope bytes s offset NoMemory = offset ≡ 0
+IsOutcome scope bytes s offset BadOptions = ⊥
+
+-- the options are bad, or that outcome is right
+abbrev pub IsWhy : ChangeOptions → (report_size size : ℕ) → (old : List ℕ) → (offset : ℕ) → Outcome → Type 0
+IsWhy options report_size size old offset BadOptions = (offset ≡ 0) × AreBad options report_size size (length old)
+IsWhy options report_size size old offset outcome =
+    IsOutcome (scope_of options size (length old)) (take size old) (seeded options.seed) offset outcome
+
+-- The result is 0, and the buffer as it was, exactly where the outcome is another than that the module is changed; and the report says what was done, or why
+-- nothing was. Bad options are always told. The report was `before`, and keeps its size.
+pub record ChangesWith (options : ChangeOptions) (size : ℕ) (old : List ℕ) (result : ℕ) (new : List ℕ) (before report : Report) : Type 0 where
+  pub writes : WritesFront old result new
+  pub outcome : Outcome
+  pub number : report.outcome ≡ outcome_number outcome
+  pub some : (result ≢ 0) ↔ (outcome ≡ Rewritten)
+  pub changed : outcome ≡ Rewritten → IsChangedSo options size old result new report
+  pub none : outcome ≢ Rewritten → TellsNone report
+  pub why : outcome ≢ Rewritten → IsWhy options before.struct_size size old report.offset outcome
+  pub bad : AreBad options before.struct_size size (length old) → outcome ≡ BadOptions
+  pub size_stays : report.struct_size ≡ before.struct_size
+
+-- ---- for private functions
+
+-- the options are good, and the first `size` bytes are a module, which changes make these bytes of
+pub record IsAttempt (options : ChangeOptions) (report_size size : ℕ) (buffer : List ℕ) (made : List MadeChange) (new : List ℕ) : Type 0 where
+  pub inside : size ≤ length buffer
+  pub good : AreBad options report_size size (length buffer) → ⊥
+  pub is : IsChangedAs options size (length buffer) (take size buffer) made new
+  pub fits : HasSize (length buffer) new
+
+-- nothing is changed, and the outcome is right
+pub record IsNone (options : ChangeOptions) (report_size size : ℕ) (buffer : List ℕ) (outcome : Outcome) (offset : ℕ) : Type 0 where
+  pub why : IsWhy options report_size size buffer offset outcome
+  pub bad : AreBad options report_size size (length buffer) → outcome ≡ BadOptions
+
+-- what a refusal comes to
+abbrev pub outcome_by : Refusal → Outcome
+outcome_by (refusals.Read e) = outcome_by_fault e.kind
+outcome_by (refusals.NoFunction function) = NoFunction
+outcome_by (refusals.UnknownImport e) = NoFunction
+outcome_by refusals.NoChange = NoRule
+outcome_by refusals.TooLarge = TooLarge
+outcome_by refusals.Memory = NoMemory
+
+-- the offset that is told of it; 0 where nothing of the module's bytes is at fault
+abbrev pub offset_by : Refusal → ℕ
+offset_by (refusals.Read e) = offset_by_fault e.kind e.offset
+offset_by refusal = 0

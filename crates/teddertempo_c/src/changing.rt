@@ -1,0 +1,150 @@
+//! A buffer's module changed, so that it stays valid and computes something else, and the new one written over its front.
+ghost use Rattle.std.specs.Prelude.{◌≡◌, ◌<◌, IfErr, IfOk, length};
+ghost use Rattle.module_changes.specs.Times.{IsRefusal};
+ghost use Rattle.module_rewrites.specs.Seeded.{seeded};
+ghost use Rattle.teddertempo_c.specs.ChangeOptions.{changes_of, scope_of};
+ghost use Rattle.teddertempo_c.specs.ChangeReports.{ChangesWith, IsAttempt, IsChangedAs, IsNone, TellsChanges};
+ghost use Rattle.teddertempo_c.specs.Changes.{any_change, ChangesOnce, HasSize, IsChangedBy};
+
+use crate::attempt::without_place;
+use crate::change_options::{
+    ChangeOptions, are_bad, change_number, changes_of, count_of, function_of, most_of,
+};
+use crate::mutating::{put, report_on};
+use crate::outcome::{self, Outcome, refusal_by_change};
+use crate::report::Report;
+use body_changes::{CHANGES, Change};
+use module_changes::{ChangedModule, MadeChange, Refusal, Scope, change_module};
+use rand::rngs::StdRng;
+use rand_core::SeedableRng;
+use std::alloc::Global;
+
+// The module changed once, in any function and by any change, to at most `room` bytes.
+fn changed_once(
+    alloc: Global,
+    bytes: &[u8],
+    seed: u64,
+    room: usize,
+) -> Result<ChangedModule, Refusal>
+    ensures changed { IfOk result (λ m. IsChangedBy seed room bytes.now m.bytes.items) }
+    ensures fits { IfOk result (λ m. HasSize room m.bytes.items) }
+    ensures refused { IfErr result (IsRefusal (any_change room) bytes.now (seeded seed)) }
+{
+    let scope = Scope {
+        changes: &CHANGES,
+        function: None,
+        most: 8,
+        max_size: room,
+    };
+    let mut generator = StdRng::seed_from_u64(seed);
+    change_module(alloc, bytes, &mut generator, &scope, 1)
+}
+
+/// Changes the module that the first `size` bytes of the buffer are, once, by any change in any function.
+#[tactic(auto, using(crate::proofs::ChangesLemmas::change_made, crate::proofs::ChangesLemmas::change_outside, crate::proofs::ChangesLemmas::change_refused))]
+pub fn change_in(alloc: Global, buffer: &mut [u8], size: usize, seed: u64) -> usize
+    ensures { ChangesOnce seed size buffer.old result buffer.new }
+{
+    if size > buffer.len() {
+        return 0;
+    }
+    let room = buffer.len();
+    match changed_once(alloc, &buffer[..size], seed, room) {
+        Ok(module) => put(buffer, &module.bytes),
+        Err(_) => 0,
+    }
+}
+
+// The module changed by these changes, and for the rest as the options say.
+fn changed_by(
+    alloc: Global,
+    bytes: &[u8],
+    options: &ChangeOptions,
+    changes: &[Change],
+    room: usize,
+) -> Result<ChangedModule, Refusal>
+    requires changes { changes.now ≡ changes_of options.now }
+    ensures changed { IfOk result (λ m. IsChangedAs options.now (length bytes.now) room
+        bytes.now m.made.items m.bytes.items) }
+    ensures refused { IfErr result (IsRefusal (scope_of options.now (length bytes.now) room)
+        bytes.now (seeded options.now.seed)) }
+{
+    let scope = Scope {
+        changes,
+        function: function_of(options),
+        most: 8,
+        max_size: most_of(options, bytes.len(), room),
+    };
+    let mut generator = StdRng::seed_from_u64(options.seed);
+    change_module(alloc, bytes, &mut generator, &scope, count_of(options))
+}
+
+// The module that the first `size` bytes of the buffer are, changed as the options say, or why nothing of it is. The caller's report
+// has `report_size` bytes.
+#[tactic(auto, using(crate::proofs::ChangeReportsLemmas::attempt_so, crate::proofs::ChangeReportsLemmas::none_memory, crate::proofs::ChangeReportsLemmas::none_bad))]
+fn attempt(
+    alloc: Global,
+    buffer: &[u8],
+    size: usize,
+    options: &ChangeOptions,
+    report_size: u64,
+) -> Result<ChangedModule, outcome::Refusal>
+    ensures made { IfOk result (λ m.
+        IsAttempt options.now report_size size buffer.now m.made.items m.bytes.items) }
+    ensures refused { IfErr result (λ e.
+        IsNone options.now report_size size buffer.now e.outcome e.offset) }
+{
+    if are_bad(options, report_size, size, buffer.len()) {
+        return Err(without_place(Outcome::BadOptions));
+    }
+    let changes = match changes_of(alloc, options) {
+        Ok(changes) => changes,
+        Err(_) => return Err(without_place(Outcome::NoMemory)),
+    };
+    match changed_by(alloc, &buffer[..size], options, &changes, buffer.len()) {
+        Ok(module) => Ok(module),
+        Err(refusal) => Err(refusal_by_change(refusal)),
+    }
+}
+
+// What is reported of changes to a caller whose report has `report_size` bytes.
+fn report_of(report_size: u64, made: &[MadeChange]) -> Report
+    requires some { 0 < length made.now }
+    ensures outcome { result.outcome ≡ 0 }
+    ensures tells { TellsChanges made.now result }
+    ensures size { result.struct_size ≡ report_size }
+{
+    let last = made[made.len() - 1];
+    Report {
+        struct_size: report_size,
+        outcome: Outcome::Rewritten.number(),
+        rule: change_number(last.change),
+        function: last.function as u64,
+        made: made.len() as u64,
+        offset: 0,
+    }
+}
+
+/// Changes the module that the first `size` bytes of the buffer are as the options say, and reports it.
+#[tactic(auto, using(crate::proofs::ChangeReportsLemmas::with_changes, crate::proofs::ChangeReportsLemmas::with_none))]
+pub fn change_with_in(
+    alloc: Global,
+    buffer: &mut [u8],
+    size: usize,
+    options: &ChangeOptions,
+    report: &mut Report,
+) -> usize
+    ensures { ChangesWith options.now size buffer.old result buffer.new report.old report.new }
+{
+    let report_size = report.struct_size;
+    match attempt(alloc, buffer, size, options, report_size) {
+        Ok(module) => {
+            *report = report_of(report_size, &module.made);
+            put(buffer, &module.bytes)
+        }
+        Err(refusal) => {
+            *report = report_on(report_size, refusal);
+            0
+        }
+    }
+}
