@@ -1,5 +1,6 @@
 /*
- * Teddertempo 0.3.0: rewrites instructions of a WebAssembly module so that it does what it did.
+ * Teddertempo 0.3.0: rewrites instructions of a WebAssembly module so that it does what it did, or changes them so that it stays
+ * valid and computes something else.
  *
  * Link libteddertempo.a (pkg-config --cflags --libs teddertempo).
  *
@@ -103,9 +104,7 @@ struct teddertempo_report {
 size_t teddertempo_mutate_with(uint8_t *data, size_t size, size_t max_size, const struct teddertempo_options *options,
                                struct teddertempo_report *report);
 
-/*
- * The changes, by number. An operand, or code, stands for the operator and all that it takes; a statement leaves no value.
- */
+/* The changes, by number. A value is an operator with its operands; a statement is code that leaves no value. */
 enum {
     TEDDERTEMPO_CHANGE_CONSTANT = 0,            /* a constant becomes another one of its type */
     TEDDERTEMPO_CHANGE_OPERATOR = 1,            /* an operator becomes another one of the same types */
@@ -132,8 +131,8 @@ struct teddertempo_change_options {
 
 /*
  * As teddertempo_change, by options, and with a report, whose rule is the number of the last change. The outcomes are those above:
- * TEDDERTEMPO_REWRITTEN, the module is changed; TEDDERTEMPO_NO_RULE, no change makes anything by what the seed draws, or the module has
- * no function of its own that can be read; TEDDERTEMPO_TOO_LARGE, no change that was tried fits.
+ * TEDDERTEMPO_REWRITTEN, the module is changed; TEDDERTEMPO_NO_RULE, no change makes anything of what the seed draws in the functions
+ * that may be changed and can be read; TEDDERTEMPO_TOO_LARGE, no change that was tried fits; TEDDERTEMPO_UNREADABLE never.
  */
 size_t teddertempo_change_with(uint8_t *data, size_t size, size_t max_size, const struct teddertempo_change_options *options,
                                struct teddertempo_report *report);
