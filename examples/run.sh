@@ -1,8 +1,9 @@
 #!/usr/bin/env bash
 # Builds the examples in C, in Rust and for fuzzers over the static library, and runs them:
-#   - the two programs rewrite the modules of tests/modules under some seeds (8, or the number that is given), each with options
-#     of its own: both say the same and write the same bytes, which wasm-validate accepts, where it is there;
-#   - the header is compiled as C++, and the tests of the Rust crate are run;
+#   - the two programs rewrite the modules of tests/modules, and change them, under some seeds (8, or the number that is given), each
+#     with options of its own: both say the same and write the same bytes, which wasm-validate accepts, where it is there; and both
+#     refuse options that are for rewrites alone where they are to change;
+#   - the header is compiled as C++, the fuzz target and the mutator for AFL++ with KEEP, and the tests of the Rust crate are run;
 #   - where clang has libFuzzer, 2,000 runs of the fuzz target;
 #   - where AFL++ is there, three instances of afl-fuzz for a minute (or AFL_SECONDS; none where that is 0): two over one output
 #     folder, and one that changes inputs by the custom mutator alone. Each has run the target, and what the mutator made was kept.
@@ -60,7 +61,7 @@ finish() {
     exit
 }
 
-# The options of the programs under a seed, of eight kinds in turn.
+# The options of the programs to rewrite under a seed, of eight kinds in turn.
 options_of() {
     echo "--seed $1"
     case $(($1 % 8)) in
@@ -70,7 +71,17 @@ options_of() {
         4) echo "--function $(($1 / 8))" ;;
         5) echo "--count 100 --growth 40" ;;
         6) echo "--rule no_such_rule" ;;
-        7) echo "--change --count 3" ;;
+        7) echo "--exact --percent 5" ;;
+    esac
+}
+
+# The same to change, of four kinds in turn.
+change_options_of() {
+    echo "--change --seed $1"
+    case $(($1 % 4)) in
+        1) echo "--count 3" ;;
+        2) echo "--growth 0" ;;
+        3) echo "--function $(($1 / 4))" ;;
     esac
 }
 
@@ -93,9 +104,12 @@ compare() {
         return
     fi
     cmp "$work/c.wasm" "$work/rust.wasm" || return 1
-    echo rewritten >> "$work/count"
+    echo made >> "$work/count"
     if command -v wasm-validate > /dev/null; then wasm-validate --enable-all "$work/c.wasm"; fi
 }
+
+# Both programs refuse the options, for the same reason.
+refuses() { compare "$@" && test ! -s "$work/c.said" && test -s "$work/c.message"; }
 
 # Builds the crate with nothing but a folder in which pkg-config looks.
 build_by_pkg_config() {
@@ -126,6 +140,8 @@ compile() {
 }
 
 judge "c/mutate.c" compile c/mutate.c "${CC:-cc}" -pedantic -O2 "$library" -o "$work/mutate"
+judge "c/fuzz.c with KEEP" compile c/fuzz.c "${CC:-cc}" -DKEEP -pedantic -O2 -c -o "$work/keep.o"
+judge "afl/mutator.c with KEEP" compile afl/mutator.c "${CC:-cc}" -DKEEP -pedantic -O2 -shared -fPIC "$library" -o "$work/keep.so"
 if command -v "${CXX:-c++}" > /dev/null; then
     judge "the header in C++" "${CXX:-c++}" -x c++ -std=c++11 -Wall -Wextra -Werror -fsyntax-only - < include/teddertempo.h
 fi
@@ -142,11 +158,17 @@ rule=$("$work/mutate" --seed 0 tests/modules/numbers.wasm "$work/new.wasm" | sed
 rule=${rule:-commute}
 for module in tests/modules/*.wasm README.md; do
     for seed in $(seq 0 $((seeds - 1))); do
-        read -ra options <<< "$(options_of "$seed" | tr '\n' ' ')"
-        judge "$(basename "$module") with ${options[*]}" compare "$module" "${options[@]}"
+        for kind in options_of change_options_of; do
+            read -ra options <<< "$("$kind" "$seed" | tr '\n' ' ')"
+            judge "$(basename "$module") with ${options[*]}" compare "$module" "${options[@]}"
+        done
     done
 done
-judge "rewriting any module" test -s "$work/count"
+judge "rewriting or changing any module" test -s "$work/count"
+for asked in "--change --exact" "--percent 5 --change" "--rule $rule --seed 1 --change"; do
+    read -ra options <<< "$asked"
+    judge "that ${options[*]} is refused" refuses tests/modules/numbers.wasm "${options[@]}"
+done
 
 mkdir "$work/corpus"
 cp tests/modules/*.wasm "$work/corpus"
@@ -198,5 +220,5 @@ if command -v afl-fuzz > /dev/null && command -v afl-cc > /dev/null && [ "$afl_s
     cat "$work/afl"
 fi
 
-echo "$(wc -l < "$work/count") modules rewritten"
+echo "$(wc -l < "$work/count") modules rewritten or changed"
 finish

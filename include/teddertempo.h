@@ -4,12 +4,15 @@
  *
  * Link libteddertempo.a (pkg-config --cflags --libs teddertempo).
  *
- * A valid module stays valid, and each of its functions, called with any arguments in any memory, tables and globals, does what
- * it did: that is proved, of validity by types, and of functions that can be read. Where an engine shows a difference it is
- * wrong, with the exceptions that docs/PROMISES.md of the sources has: a host that lists globals, counts them or compares bytes;
- * limits of stack, time, fuel and memory, of which one of the modules alone may meet one (a trap of exhaustion is no difference);
- * bits of NaNs, unless the engine fixes them; other threads at a shared memory, and imports that answer anew, as a clock;
- * exceptions that are caught. Whether the module is valid to begin with, no call checks.
+ * A valid module stays valid, by types: that is proved of every call. Of a module that is rewritten each function that can be
+ * read, called with any arguments in any memory, tables and globals, does what it did: that is proved too. Of what a module
+ * computes that is changed (teddertempo_change, teddertempo_change_with, and teddertempo_either where it changes) nothing is
+ * promised, nor that it ends. Whether the module is valid to begin with, no call checks.
+ *
+ * Where an engine shows a difference between a module and a rewritten one it is wrong, with the exceptions that docs/PROMISES.md
+ * of the sources has: a host that lists globals, counts them or compares bytes; limits of stack, time, fuel and memory, of which
+ * one of the modules alone may meet one (a trap of exhaustion is no difference); bits of NaNs, unless the engine fixes them; other
+ * threads at a shared memory, and imports that answer anew, as a clock; exceptions that are caught.
  * A rewrite may append globals, so that many rewrites may pass an engine's limits.
  *
  * The caller sees to it that
@@ -43,13 +46,21 @@ extern "C" {
 size_t teddertempo_mutate(uint8_t *data, size_t size, size_t max_size, uint64_t seed);
 
 /*
- * The same arguments, for a fuzzer that goes by coverage: changes the module in data[0..size] once, in place, so that it stays valid and
- * computes something else. The seed chooses the function by its size, the change (another constant, operator or local, code drawn
- * anew or copied, an operand for its operator, operands or statements exchanged, a statement twice or none) and the operator. What is
- * valid stays valid, as above; of what the new module computes nothing is promised. Returns the new size, at most max_size, or 0,
- * and data is as it was: no module that can be read, nothing in it that can be changed so that it fits, or no memory.
+ * The same arguments, for a fuzzer that goes by coverage: changes the module in data[0..size] once, in place, so that it stays
+ * valid and computes something else. The seed chooses the function by its size, the change (another constant, operator or local,
+ * code drawn anew or copied, an operand for its operator, operands or statements exchanged, a statement twice or none) and the
+ * operator. What is valid stays valid, as above; of what the new module computes nothing is promised. Returns the new size, at
+ * most max_size, or 0, and data is as it was: size is above max_size, the bytes are no module that can be read or an object file,
+ * nothing of it is changed by what the seed draws, or not so that it fits, or no memory is left.
  */
 size_t teddertempo_change(uint8_t *data, size_t size, size_t max_size, uint64_t seed);
+
+/*
+ * Either of these, for a fuzzer that compares engines and goes by coverage at once: of a hundred seeds some keep rewrite the
+ * module as teddertempo_mutate does (all where keep is 100 or more), the others change it as teddertempo_change does. Returns what
+ * these do.
+ */
+size_t teddertempo_either(uint8_t *data, size_t size, size_t max_size, uint64_t seed, uint32_t keep);
 
 /* What a call has done, or why it has done nothing. */
 enum {
@@ -106,17 +117,20 @@ size_t teddertempo_mutate_with(uint8_t *data, size_t size, size_t max_size, cons
 
 /* The changes, by number. A value is an operator with its operands; a statement is code that leaves no value. */
 enum {
-    TEDDERTEMPO_CHANGE_CONSTANT = 0,            /* a constant becomes another one of its type */
-    TEDDERTEMPO_CHANGE_OPERATOR = 1,            /* an operator becomes another one of the same types */
-    TEDDERTEMPO_CHANGE_LOCAL = 2,               /* an access to a local becomes one to another of its type */
-    TEDDERTEMPO_CHANGE_DRAW = 3,                /* a value is drawn anew: a constant, a local, a global, or operators on such */
-    TEDDERTEMPO_CHANGE_COPY = 4,                /* a value, or a statement, becomes a copy of another one of the function */
-    TEDDERTEMPO_CHANGE_FIRST_OPERAND = 5,       /* the first of two operands stands for the whole */
-    TEDDERTEMPO_CHANGE_LAST_OPERAND = 6,        /* the only operand, or the second one, does */
-    TEDDERTEMPO_CHANGE_EXCHANGE_OPERANDS = 7,   /* two operands of one type change places */
-    TEDDERTEMPO_CHANGE_DELETE = 8,              /* a statement is gone */
-    TEDDERTEMPO_CHANGE_DOUBLE = 9,              /* a statement stands there twice */
-    TEDDERTEMPO_CHANGE_EXCHANGE_STATEMENTS = 10 /* a statement changes places with the one right before it */
+    TEDDERTEMPO_CHANGE_CONSTANT = 0,             /* a constant becomes another one of its type */
+    TEDDERTEMPO_CHANGE_OPERATOR = 1,             /* an operator becomes another one of the same types */
+    TEDDERTEMPO_CHANGE_LOCAL = 2,                /* an access to a local becomes one to another of its type */
+    TEDDERTEMPO_CHANGE_DRAW = 3,                 /* a value is drawn anew: a constant, a local, a global, or operators on such */
+    TEDDERTEMPO_CHANGE_COPY = 4,                 /* a value, or a statement, becomes a copy of another one of the function */
+    TEDDERTEMPO_CHANGE_FIRST_OPERAND = 5,        /* the first of two operands stands for the whole */
+    TEDDERTEMPO_CHANGE_LAST_OPERAND = 6,         /* the only operand, or the second one, does */
+    TEDDERTEMPO_CHANGE_EXCHANGE_OPERANDS = 7,    /* two operands of one type change places */
+    TEDDERTEMPO_CHANGE_DELETE = 8,               /* a statement is gone */
+    TEDDERTEMPO_CHANGE_DOUBLE = 9,               /* a statement stands there twice */
+    TEDDERTEMPO_CHANGE_EXCHANGE_STATEMENTS = 10, /* a statement changes places with the one right before it */
+    TEDDERTEMPO_CHANGE_GLOBAL = 11,              /* a global that is read becomes another one of its type */
+    TEDDERTEMPO_CHANGE_CALL = 12,                /* a function that is called becomes another one of its type */
+    TEDDERTEMPO_CHANGE_MEMORY_ARGUMENT = 13      /* a load or a store gets another offset, and an alignment that is no greater */
 };
 
 /* As the structures above, its size first. */

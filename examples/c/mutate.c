@@ -5,7 +5,8 @@
  *     mutate --change [--seed N] [--count N] [--function N] [--growth N] MODULE NEW
  *
  * Numbers are decimal. Without --rule all rules are meant; --growth is how many bytes NEW may have more than MODULE. The status
- * is 2 where the library writes no module, and 1 where the options can't be read, or a file can't be read or written.
+ * is 2 where the library writes no module, and 1 where the options can't be read or don't go together, or a file can't be read or
+ * written.
  */
 #include <teddertempo.h>
 
@@ -31,6 +32,9 @@ static const char *const changes[] = {
     [TEDDERTEMPO_CHANGE_DELETE] = "delete",
     [TEDDERTEMPO_CHANGE_DOUBLE] = "double",
     [TEDDERTEMPO_CHANGE_EXCHANGE_STATEMENTS] = "exchange_statements",
+    [TEDDERTEMPO_CHANGE_GLOBAL] = "global",
+    [TEDDERTEMPO_CHANGE_CALL] = "call",
+    [TEDDERTEMPO_CHANGE_MEMORY_ARGUMENT] = "memory_argument",
 };
 
 /* Why nothing was done, by the outcome. */
@@ -100,6 +104,12 @@ static int add_rule(const char *text, struct teddertempo_options *options)
     return 1;
 }
 
+/* Whether an option is for rewrites alone. */
+static int is_for_rewrites(const char *option)
+{
+    return strcmp(option, "--exact") == 0 || strcmp(option, "--percent") == 0 || strcmp(option, "--rule") == 0;
+}
+
 /* Reads an option and its value; 0 where there is no such option, or the value is none for it. */
 static int read_option(const char *option, const char *value, struct teddertempo_options *options)
 {
@@ -160,11 +170,15 @@ static size_t change(uint8_t *data, size_t size, const struct teddertempo_option
 int main(int count, char **arguments)
 {
     struct teddertempo_options options = {sizeof options, 0, {0}, TEDDERTEMPO_ANY_FUNCTION, 1, TEDDERTEMPO_ANY_GROWTH, 0, 0};
+    const char *for_rewrites = NULL;
     uint8_t *data;
     size_t size = 0, new_size;
     int at = 1, is_change = 0, status = 0;
 
     while (at < count) {
+        if (is_for_rewrites(arguments[at])) {
+            for_rewrites = arguments[at];
+        }
         if (strcmp(arguments[at], "--exact") == 0) {
             options.flags = TEDDERTEMPO_EXACT;
             at += 1;
@@ -179,6 +193,10 @@ int main(int count, char **arguments)
     }
     if (count - at != 2) {
         fprintf(stderr, "usage: mutate [--change] [--exact] [--seed N] [--count N] [--percent N] [--function N] [--growth N] [--rule NAME].. MODULE NEW\n");
+        return 1;
+    }
+    if (is_change && for_rewrites != NULL) {
+        fprintf(stderr, "mutate: %s is for rewrites alone: leave it out with --change\n", for_rewrites);
         return 1;
     }
     data = read_file(arguments[at], &size);

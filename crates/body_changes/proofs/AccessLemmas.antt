@@ -1,63 +1,66 @@
--- Another local of the same type.
-use Rattle.std.proofs.Common.{◌≡◌, ◌≢◌, ℕ, ◌+◌, ◌-◌, ◌%◌, ◌^◌, ◌<◌, ◌≤◌, inl, inr, true, List, [], ◌∷◌, ◌++◌, length, take, drop, get_or}
-use Rattle.std.proofs.Common.{Option, Some, refl, sym, ap, ap₂, ◌∙◌, subst, ltb, mod-eq_of_lt, arith}
+-- Another local, global or function of the same type.
+use Rattle.std.proofs.Common.{◌≡◌, ◌≢◌, ℕ, ◌^◌, ◌<◌, inl, inr, List, [], ◌∷◌}
+use Rattle.std.proofs.Common.{Option, Some, None, refl, sym, ap, ◌∙◌, subst, arith}
 use Rattle.std.specs.Prelude.{◌==◌, min, slice_get, option_and_then, IsTrue}
-use Rattle.std.proofs.lemmas.Bool.{cases_lt, eqb-true, ltb-true, or_cases}
-use Rattle.std.proofs.lemmas.List.{take-append-drop}
-use Rattle.std.proofs.lemmas.Option.{same_Some, slice_get_read, slice_get_within}
-use Rattle.wasm_code.specs.Instruction.{Instruction}
+use Rattle.std.proofs.lemmas.Bool.{eqb-true, false≢true, or_cases}
+use Rattle.std.proofs.lemmas.Option.{slice_get_within}
+use Rattle.wasm_code.specs.Instruction.{Instruction, fits_row, is_of_kind}
 use Rattle.wasm_code.specs.Table.{row_at, table}
 use Rattle.wasm_code.specs.declared.immediate.Imm.TheVariants.{Index}
+use Rattle.wasm_code.specs.declared.table.Kind.{Kind}
+use Rattle.wasm_code.specs.declared.table.Kind.TheVariants as kinds
+use Rattle.wasm_code.specs.declared.table.Row.{Row}
+use Rattle.wasm_types.specs.Module.{Module, function_type, type_at}
 use Rattle.wasm_types.specs.declared.types.PrimitiveTypeInfo.{PrimitiveTypeInfo}
+use Rattle.wasm_types.specs.declared.types.TypeInfo.{TypeInfo}
 use Rattle.peephole_machine.specs.IntegerRow.{if_typed, integer_row}
-use Rattle.peephole_machine.specs.Row.{list_of, at_most_one, instruction_types, instruction_count}
-use Rattle.peephole_machine.specs.Values.{Context, same_type}
-use Rattle.body_changes.specs.declared.change.Change.TheVariants as change
+use Rattle.peephole_machine.specs.OtherRow.{both_of, other_type, parameters, returned}
+use Rattle.peephole_machine.specs.Row.{at_most_one, instruction_types}
+use Rattle.peephole_machine.specs.Values.{Context, results_on, same_type}
+use Rattle.body_changes.specs.declared.kinds.accesses.Indexed.{Indexed}
+use Rattle.body_changes.specs.declared.kinds.accesses.Indexed.TheVariants as kind
 use Rattle.body_changes.specs.declared.units.Unit.{Unit}
 use Rattle.body_changes.specs.Drawing.{is_local_row}
-use Rattle.body_changes.specs.Goals.{indexed, HasVariable}
-use Rattle.body_changes.specs.Kinds.{IsBehindOperands, IsNew, MakesLocal, Names, Stand}
-use Rattle.body_changes.specs.Pass.{IsCode}
+use Rattle.body_changes.specs.Goals.{indexed}
+use Rattle.body_changes.specs.Kinds.{IsBehindOperands, IsNew, MakesIndexed}
+use Rattle.body_changes.specs.Proposals.{count_in, is_row_of, AreAlike, IsAnother}
 use Rattle.body_changes.specs.Replacing.{HasInstruction}
-use Rattle.body_changes.specs.Typed.{keep}
 use Rattle.body_changes.specs.Units.{IsUnit}
+use Rattle.body_changes.proofs.BehindLemmas.{behind_new, own_behind}
 use Rattle.body_changes.proofs.OwnLemmas.{one_there}
-use Rattle.body_changes.proofs.PartLemmas.{behind_same, last_same, other_new}
-use Rattle.body_changes.proofs.StandLemmas.{Operators, code_of_closed, is_behind, one_behind}
+use Rattle.body_changes.proofs.PartLemmas.{behind_same}
+use Rattle.body_changes.proofs.StandLemmas.{Operators}
 
 -- ---- which one
 
-pub local_there : (locals : List PrimitiveTypeInfo) (own : ℕ) (t : PrimitiveTypeInfo) → true ≡ ltb own (length locals) → t ≡ get_or locals own t →
-    HasVariable locals t own
-local_there locals own t inside e = slice_get_read locals (length locals) own t refl (ltb-true own (length locals) (sym inside)) e
+function_there : (o : Option ℕ) (m : Module) (t : TypeInfo) → type_at m o ≡ Some t → (place : ℕ) × (o ≡ Some place)
+function_there None m t e = absurd cc
+function_there (Some place) m t e = (place, refl)
 
-module _ (locals : List PrimitiveTypeInfo) (own : ℕ) (t : PrimitiveTypeInfo) (own_there : HasVariable locals t own) (word count : ℕ)
-    (count_is : count ≡ min (length locals) (2 ^ 32)) where
-  same_there : (u : PrimitiveTypeInfo) (n : ℕ) → HasVariable locals u own → HasVariable locals u n → HasVariable locals t n
-  same_there u n h k = subst (λ (v : PrimitiveTypeInfo). HasVariable locals v n) (same_Some u t (sym h ∙ own_there)) k
+-- both are among those that there are
+pub alike_inside : (context : Context) (kind : Indexed) (own other : ℕ) → AreAlike context kind own other → other < count_in context kind
+alike_inside context kind.Local own other (t, a, b) = slice_get_within context.locals other t b
+alike_inside context kind.Global own other (t, a, b) = slice_get_within context.info.globals other t b
+alike_inside context kind.Function own other (t, a, b) =
+    let (place, there) = function_there (slice_get context.info.functions other) context.info t b in
+    slice_get_within context.info.functions other place there
 
-  below : (u : PrimitiveTypeInfo) (n : ℕ) → n < 2 ^ 32 → HasVariable locals u n → n < count
-  below u n small k = let inside = slice_get_within locals n u k in let is = count_is in omega arith
+-- where there are none, none is another one
+pub none_alike : (context : Context) (k : Indexed) (own other count : ℕ) → count ≡ min (count_in context k) (2 ^ 32) → count ≡ 0 →
+    AreAlike context k own other → ⊥
+none_alike context k own other count count_is none alike = let inside = alike_inside context k own other alike in let is = count_is in omega arith
 
-  -- the one that the word names is the first one
-  pub named_local : (o : Option ℕ) → ((n : ℕ) → word % count ≡ n → n < count → n ≢ own → HasVariable locals t n → o ≡ Some n) →
-      (u : PrimitiveTypeInfo) (n : ℕ) → n < 2 ^ 32 → n ≢ own → HasVariable locals u own → HasVariable locals u n → word ≡ n → o ≡ Some n
-  named_local o first u n small differs h k e =
-      let l = below u n small k in
-      let whole : word % count ≡ word = mod-eq_of_lt (omega arith) in
-      first n (whole ∙ e) l differs (same_there u n h k)
-
-  -- neither from some one on nor before it
-  pub no_local : (from : ℕ) → ((n : ℕ) → from ≤ n → n < count → n ≢ own → HasVariable locals t n → ⊥) →
-      ((n : ℕ) → 0 ≤ n → n < from → n ≢ own → HasVariable locals t n → ⊥) → (u : PrimitiveTypeInfo) (n : ℕ) → n < 2 ^ 32 → n ≢ own →
-      HasVariable locals u own → HasVariable locals u n → ⊥
-  no_local from behind before u n small differs h k = elim (cases_lt n from) [
-    | inl l ↦ before n (omega arith) l differs (same_there u n h k)
-    | inr le ↦ behind n le (below u n small k) differs (same_there u n h k)
-  ]
-
-same_index : (row r n k : ℕ) → indexed row n ≡ indexed r k → (row ≡ r) × (n ≡ k)
+pub same_index : (row r n k : ℕ) → indexed row n ≡ indexed r k → (row ≡ r) × (n ≡ k)
 same_index row r n k e = let imms : Index n ≡ Index k = ap (λ (i : Instruction). i.imm) e in (ap (λ (i : Instruction). i.row) e, cc)
+
+-- the row takes any index, where it takes one
+pub index_fits : (o : Option Row) (n k : ℕ) → IsTrue (fits_row o (Index n)) → IsTrue (fits_row o (Index k))
+index_fits None n k h = h
+index_fits (Some row) n k h = by_kind row.kind h
+  where
+    by_kind : (kind : Kind) → IsTrue (is_of_kind kind (Index n)) → IsTrue (is_of_kind kind (Index k))
+    by_kind kinds.Index h = refl
+    by_kind kind h = absurd (false≢true h)
 
 -- ---- what an access gives
 
@@ -100,70 +103,74 @@ access_same context row own other ts h e = elim (or_cases (row == 4) _ h) [
         instruction_types context (indexed row own) ts ≡ instruction_types context (indexed row other) ts
     at k is same = subst (λ (r : ℕ). instruction_types context (indexed r own) ts ≡ instruction_types context (indexed r other) ts) (sym is) same
 
+-- so does the reading of a global
+global_same : (context : Context) (own other : ℕ) (ts : List PrimitiveTypeInfo) →
+    slice_get context.info.globals own ≡ slice_get context.info.globals other →
+    instruction_types context (indexed 7 own) ts ≡ instruction_types context (indexed 7 other) ts
+unfolding integer_row row_at table
+global_same context own other [] e =
+    ap (λ (o : Option PrimitiveTypeInfo). option_and_then at_most_one (option_and_then (λ u. Some (u ∷ [])) o)) e
+global_same context own other (t ∷ ts) e = refl
+
+-- and a call, by the type of the function
+named_function : (m : Module) (o : Option ℕ) → option_and_then (slice_get m.types) o ≡ type_at m o
+named_function m None = refl
+named_function m (Some place) = refl
+
+call_same : (context : Context) (own other : ℕ) (ts : List PrimitiveTypeInfo) →
+    function_type context.info own ≡ function_type context.info other →
+    instruction_types context (indexed 1 own) ts ≡ instruction_types context (indexed 1 other) ts
+unfolding integer_row row_at table other_type
+call_same context own other ts e =
+    ap (λ (o : Option TypeInfo). option_and_then at_most_one (option_and_then (results_on ts) (both_of (parameters o) (returned o))))
+    (named_function context.info (slice_get context.info.functions own)
+    ∙ (e ∙ sym (named_function context.info (slice_get context.info.functions other))))
+
+-- it goes by what is alike
+alike_same : (context : Context) (k : Indexed) (row own other : ℕ) (ts : List PrimitiveTypeInfo) → IsTrue (is_row_of k row) →
+    AreAlike context k own other → instruction_types context (indexed row own) ts ≡ instruction_types context (indexed row other) ts
+alike_same context kind.Local row own other ts h (t, a, b) = access_same context row own other ts h (a ∙ sym b)
+alike_same context kind.Global row own other ts h (t, a, b) =
+    subst (λ (r : ℕ). instruction_types context (indexed r own) ts ≡ instruction_types context (indexed r other) ts) (sym (eqb-true row 7 h))
+    (global_same context own other ts (a ∙ sym b))
+alike_same context kind.Function row own other ts h (t, a, b) =
+    subst (λ (r : ℕ). instruction_types context (indexed r own) ts ≡ instruction_types context (indexed r other) ts) (sym (eqb-true row 1 h))
+    (call_same context own other ts (a ∙ sym b))
+
 -- ---- the code
 
-module _ (context : Context) (operators : Operators) (at : ℕ) (unit : Unit) (own : Instruction) (has : HasInstruction operators at own) where
+module _ (context : Context) (k : Indexed) (operators : Operators) (at : ℕ) (unit : Unit) (own : Instruction) (has : HasInstruction operators at own) where
   -- it isn't made of another instruction
-  pub no_access : ((row n : ℕ) → IsTrue (is_local_row row) → own ≢ indexed row n) → (code : List Instruction) →
-      MakesLocal context operators at unit code → IsNew context operators unit.start at code → ⊥
-  no_access none code m new = none m.row m.own m.is_row (one_there operators at own (indexed m.row m.own) has m.has)
+  pub no_access : ((row n : ℕ) → IsTrue (is_row_of k row) → own ≢ indexed row n) → (other : ℕ) (code : List Instruction) →
+      MakesIndexed (is_row_of k) (AreAlike context k) operators at unit other code → IsNew context operators unit.start at code → ⊥
+  no_access none other code m new = none m.row m.own m.is_row (one_there operators at own (indexed m.row m.own) has m.has)
 
   module _ (is : IsUnit context operators at unit) (index : ℕ) (own_is : own ≡ indexed own.row index) where
-    begun : unit.start ≤ at
-    begun = let some = is.is.closed.some in omega arith
-
-    -- with another local of the same type
-    pub new_access : IsTrue (is_local_row own.row) → (other : ℕ) →
-        (other ≢ index) × (t : PrimitiveTypeInfo) × HasVariable context.locals t index × HasVariable context.locals t other → (i : Instruction) →
+    -- with another index
+    pub new_access : IsTrue (is_row_of k own.row) → (other : ℕ) → IsAnother context k index other → (i : Instruction) →
         i ≡ indexed own.row other → (code : List Instruction) → IsBehindOperands operators at unit i code → IsNew context operators unit.start at code
     new_access row other found i i_is code made =
-        let (differs, t, own_there, there) = found in
-        let c = is_behind context operators unit.start at own (list_of unit.gives) begun has
-        (code_of_closed context operators unit.start (at + 1) (list_of unit.gives) is.is.closed) in
-        let n = length c.types - instruction_count context.info own in
-        let same : instruction_types context own (drop n c.types) ≡ instruction_types context i (drop n c.types) =
-        ap (λ (j : Instruction). instruction_types context j (drop n c.types)) own_is
-        ∙ (access_same context own.row index other (drop n c.types) row (own_there ∙ sym there)
-        ∙ ap (λ (j : Instruction). instruction_types context j (drop n c.types)) (sym i_is)) in
-        other_new context operators unit.start at own i (take n c.types) (drop n c.types) c.given.gives made.operands code begun has
-        (λ e. differs (same_index own.row own.row other index (sym i_is ∙ (e ∙ own_is))).1) c.given.typed
-        (ap (option_and_then keep) (sym same) ∙ c.given.typed)
-        (subst (IsCode context operators unit.start at) (sym (take-append-drop n c.types)) c.front) made.stand made.code_is
+        behind_new context operators at unit is own i has (λ e. found.0 (same_index own.row own.row other index (sym i_is ∙ (e ∙ own_is))).1)
+        (λ ts. ap (λ (j : Instruction). instruction_types context j ts) own_is
+        ∙ (alike_same context k own.row index other ts row found.1 ∙ ap (λ (j : Instruction). instruction_types context j ts) (sym i_is))) code made
 
-    -- what the operator is, as what is made says it
-    same_access : (code : List Instruction) (m : MakesLocal context operators at unit code) → (m.row ≡ own.row) × (m.own ≡ index)
-    same_access code m =
-        same_index m.row own.row m.own index (one_there operators at (indexed m.row m.own) own m.has has ∙ own_is)
+    module _ (other : ℕ) (code : List Instruction) (m : MakesIndexed (is_row_of k) (AreAlike context k) operators at unit other code) where
+      -- what the operator is, as what is made says it
+      same_access : (m.row ≡ own.row) × (m.own ≡ index)
+      same_access = same_index m.row own.row m.own index (one_there operators at (indexed m.row m.own) own m.has has ∙ own_is)
 
-    -- with the same local it is the code that stands there
-    other_differs : (code : List Instruction) (m : MakesLocal context operators at unit code) → IsNew context operators unit.start at code →
-        m.other ≡ index → ⊥
-    other_differs code m new e =
-        let (row, there) = same_access code m in
-        let same : indexed m.row m.own ≡ indexed m.row m.other = ap (indexed m.row) (there ∙ sym e) in
-        new.differs (subst (λ (xs : List Instruction). Stand operators unit.start (at + 1) xs)
-        (ap (λ (i : Instruction). m.behind.operands ++ i ∷ []) same ∙ sym m.behind.code_is)
-        (one_behind operators unit.start at m.behind.operands (indexed m.row m.own) begun m.has m.behind.stand))
+      -- with the same index it is the code that stands there
+      other_differs : IsNew context operators unit.start at code → other ≡ index → ⊥
+      other_differs new e =
+          let (row, there) = same_access in
+          own_behind context operators at unit is (indexed m.row m.own) (indexed m.row other) m.has (ap (indexed m.row) (there ∙ sym e)) code
+          m.behind new
 
-    pub no_other_access : ((t : PrimitiveTypeInfo) (n : ℕ) → n < 2 ^ 32 → n ≢ index → HasVariable context.locals t index →
-        HasVariable context.locals t n → ⊥) → (code : List Instruction) → MakesLocal context operators at unit code →
-        IsNew context operators unit.start at code → ⊥
-    no_other_access none code m new =
-        none m.type m.other m.instruction.in_range (other_differs code m new)
-        (subst (HasVariable context.locals m.type) (same_access code m).1 m.own_there) m.other_there
+      pub no_other_access : (IsAnother context k index other → ⊥) → IsNew context operators unit.start at code → ⊥
+      no_other_access none new = none (other_differs new, subst (λ (n : ℕ). AreAlike context k n other) same_access.1 m.alike)
 
-    -- the one that the word names
-    pub named_access : (word : ℕ) (o : Option ℕ) → ((t : PrimitiveTypeInfo) (n : ℕ) → n < 2 ^ 32 → n ≢ index → HasVariable context.locals t index →
-        HasVariable context.locals t n → word ≡ n → o ≡ Some n) → (words : List ℕ) → word ≡ get_or words 0 0 → (other : ℕ) → o ≡ Some other →
-        (i : Instruction) → i ≡ indexed own.row other → (code : List Instruction) → IsBehindOperands operators at unit i code →
-        (others : List Instruction) → MakesLocal context operators at unit others → IsNew context operators unit.start at others →
-        Names context change.Local unit words others → code ≡ others
-    named_access word o named words first other found i i_is code made others m new names =
-        let (front, row, n, is, word_is) = names in
-        let last = last_same front m.behind.operands (indexed row n) (indexed m.row m.other) (sym is ∙ m.behind.code_is) in
-        let which = same_index row m.row n m.other last in
-        let (same_row, there) = same_access others m in
-        let one : Some other ≡ Some m.other = sym found ∙ named m.type m.other m.instruction.in_range (other_differs others m new)
-        (subst (HasVariable context.locals m.type) there m.own_there) m.other_there (first ∙ (word_is ∙ which.1)) in
-        behind_same operators at unit i (indexed m.row m.other) code others
-        (i_is ∙ ap₂ (λ (r k : ℕ). indexed r k) (sym same_row) (same_Some other m.other one)) made m.behind
+      -- it is the only one
+      pub only_access : (i : Instruction) → i ≡ indexed own.row other → (given : List Instruction) → IsBehindOperands operators at unit i given → given ≡ code
+      only_access i i_is given made =
+          behind_same operators at unit i (indexed m.row other) given code
+          (i_is ∙ ap (λ (r : ℕ). indexed r other) (sym same_access.0)) made m.behind

@@ -1,6 +1,7 @@
 -- What the standard asks of an instruction beyond its types: nothing, or it was asked already.
-use Rattle.std.proofs.Common.{◌≡◌, ℕ, zero, suc, ◌+◌, ◌-◌, ◌⊎◌, inl, inr, List, [], ◌∷◌, ◌++◌, get_or, take, drop, Some, refl, sym, ap, ◌∙◌, subst}
+use Rattle.std.proofs.Common.{length, ◌≡◌, ℕ, zero, suc, ◌+◌, ◌-◌, List, [], ◌∷◌, ◌++◌, get_or, take, drop, Some, refl, sym, ap, ◌∙◌, subst}
 use Rattle.std.specs.Prelude.{slice_get, slice_range, IsTrue}
+use Rattle.std.proofs.lemmas.Bool.{eqb-true}
 use Rattle.std.proofs.lemmas.List.{drop-map, take-map}
 use Rattle.std.proofs.lemmas.List.Elements.{All-append, All-nil, All-push, All-weaker}
 use Rattle.std.proofs.lemmas.Option.{same_Some, slice_get-get_or}
@@ -12,10 +13,10 @@ use Rattle.body_splices.specs.OwnBytes.{without_offsets}
 use Rattle.body_changes.specs.declared.change.Change.{Change}
 use Rattle.body_changes.specs.declared.change.Change.TheVariants as change
 use Rattle.body_changes.specs.declared.units.Unit.{Unit}
-use Rattle.body_changes.specs.Beyond.{AsksNoMore, ChangesAskNoMore, StandsSomewhere}
+use Rattle.body_changes.specs.Beyond.{AsksNoMore, ChangesAskNoMore, IsAsked, plain, call, stands, eased}
 use Rattle.body_changes.specs.Drawing.{asks_types_alone, is_leaf_row, is_local_row, AskTypesAlone}
 use Rattle.body_changes.specs.Goals.{indexed}
-use Rattle.body_changes.specs.Kinds.{IsBehindOperands, Makes, Stand}
+use Rattle.body_changes.specs.Kinds.{named_of, accessing, is_global_row, IsBehindOperands, Makes, Stand}
 use Rattle.body_changes.specs.Others.{bare}
 use Rattle.body_changes.specs.Replacing.{HasInstruction}
 use Rattle.body_changes.proofs.ConstantLemmas.{constants_plain, or_second}
@@ -29,6 +30,9 @@ bare_plain i e = subst (λ (j : Instruction). IsTrue (asks_types_alone j)) (sym 
 
 access_plain : (row n : ℕ) → IsTrue (is_local_row row) → IsTrue (asks_types_alone (indexed row n))
 access_plain row n h = or_second (is_leaf_row row) (is_local_row row) h
+
+global_plain : (row n : ℕ) → IsTrue (is_global_row row) → IsTrue (asks_types_alone (indexed row n))
+global_plain row n h = subst (λ (r : ℕ). IsTrue (asks_types_alone (indexed r n))) (sym (eqb-true row 7 h)) refl
 
 -- ---- code that stands in the body
 
@@ -49,23 +53,20 @@ module _ (operators : Operators) where
       got_within (b - a) back k (Instr i) (ap (λ os. slice_get os k) (take-map first (b - a) (drop a operators)) ∙ h) in
       sym (get_behind (without_offsets operators) a k) ∙ (ap (λ os. slice_get os k) (drop-map first a operators) ∙ there)
 
-  abbrev IsAsked : Instruction → Type 0
-  IsAsked i = IsTrue (asks_types_alone i) ⊎ StandsSomewhere operators i
-
   stood : (a b : ℕ) (code : List Instruction) → Stand operators a b code → AsksNoMore operators code
   stood a b code h k d l =
       let (x, is, there) = own_there (slice_range operators a b) code k h l in
       let same : x ≡ get_or code k d = same_Some x (get_or code k d) (sym is ∙ slice_get-get_or code k d l) in
-      inr (a + k, has_within a b k (get_or code k d) (subst (λ (i : Instruction). HasInstruction (slice_range operators a b) k i) same there))
+      stands (a + k, has_within a b k (get_or code k d) (subst (λ (i : Instruction). HasInstruction (slice_range operators a b) k i) same there))
 
   plain_code : (code : List Instruction) → AskTypesAlone code → AsksNoMore operators code
-  plain_code code h = All-weaker (λ (i : Instruction). IsTrue (asks_types_alone i)) IsAsked (λ i plain. inl plain) code h
+  plain_code code h = All-weaker (λ (i : Instruction). IsTrue (asks_types_alone i)) (IsAsked operators) (λ i h. plain h) code h
 
   behind : (at : ℕ) (unit : Unit) (other : Instruction) (code : List Instruction) → IsBehindOperands operators at unit other code →
-      IsTrue (asks_types_alone other) → AsksNoMore operators code
+      IsAsked operators other → AsksNoMore operators code
   behind at unit other code b h =
       subst (AsksNoMore operators) (sym b.code_is)
-      (All-push IsAsked b.operands other (stood unit.start at b.operands b.stand) (inl h))
+      (All-push (IsAsked operators) b.operands other (stood unit.start at b.operands b.stand) h)
 
   -- ---- kind by kind
 
@@ -73,25 +74,40 @@ module _ (operators : Operators) where
       Makes context operators most words kind at unit start code → AsksNoMore operators code
   made context most words change.Constant at unit start code (same, m) =
       plain_code code (constants_plain m.type m.other code m.other_row m.code_is)
-  made context most words change.Operator at unit start code (same, m) = behind at unit m.other code m.behind (bare_plain m.other m.is.is_bare)
+  made context most words change.Operator at unit start code (same, m) = behind at unit m.other code m.behind (plain (bare_plain m.other m.is.is_bare))
   made context most words change.Local at unit start code (same, m) =
-      behind at unit (indexed m.row m.other) code m.behind (access_plain m.row m.other m.is_row)
+      let n = named_of (length context.locals) words in behind at unit (indexed m.row n) code m.behind (plain (access_plain m.row n m.is_row))
   made context most words change.Draw at unit start code (same, m) = plain_code code m.plain
   made context most words change.Copy at unit start code (same, m) = stood m.source.start _ code m.stand
   made context most words change.FirstOperand at unit start code (same, m) = stood unit.start unit.last code m.stand
   made context most words change.LastOperand at unit start code (same, m) = stood unit.last at code m.stand
   made context most words change.ExchangeOperands at unit start code (same, m) =
       subst (AsksNoMore operators) (sym m.code_is)
-      (All-push IsAsked (m.last ++ m.first) m.own
-      (All-append IsAsked m.last m.first (stood unit.last at m.last m.last_stands) (stood unit.start unit.last m.first m.first_stands))
-      (inr (at, m.has)))
-  made context most words change.Delete at unit start code (same, m) = subst (AsksNoMore operators) (sym m.code_is) (All-nil IsAsked)
+      (All-push (IsAsked operators) (m.last ++ m.first) m.own
+      (All-append (IsAsked operators) m.last m.first (stood unit.last at m.last m.last_stands) (stood unit.start unit.last m.first m.first_stands))
+      (stands (at, m.has)))
+  made context most words change.Delete at unit start code (same, m) = subst (AsksNoMore operators) (sym m.code_is) (All-nil (IsAsked operators))
   made context most words change.Double at unit start code (same, m) =
       let own = stood unit.start (at + 1) m.own m.stand in
-      subst (AsksNoMore operators) (sym m.code_is) (All-append IsAsked m.own m.own own own)
+      subst (AsksNoMore operators) (sym m.code_is) (All-append (IsAsked operators) m.own m.own own own)
   made context most words change.ExchangeStatements at unit start code m =
       subst (AsksNoMore operators) (sym m.code_is)
-      (All-append IsAsked m.own m.first (stood unit.start (at + 1) m.own m.own_stands) (stood m.before.start unit.start m.first m.first_stands))
+      (All-append (IsAsked operators) m.own m.first (stood unit.start (at + 1) m.own m.own_stands) (stood m.before.start unit.start m.first m.first_stands))
+  made context most words change.Global at unit start code (same, m) =
+      let n = named_of (length context.info.globals) words in behind at unit (indexed m.row n) code m.behind (plain (global_plain m.row n m.is_row))
+  made context most words change.Call at unit start code (same, m) =
+      let n = named_of (length context.info.functions) words in behind at unit (indexed m.row n) code m.behind (call m.is_row)
+  made context most words change.MemoryArgument at unit start code (same, m) =
+      behind at unit (accessing m.other m.own) code m.behind
+      (eased (record {
+        own = m.own;
+        stands = (at, m.has);
+        argument = m.argument;
+        own_argument = m.own_argument;
+        other = m.other;
+        asks = m.asks;
+        is = refl;
+      }))
 
 pub changes_asked : ChangesAskNoMore
 changes_asked context operators most words kind at start code c = made operators context most words kind at c.unit start code c.makes

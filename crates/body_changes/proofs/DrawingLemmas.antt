@@ -1,5 +1,5 @@
 -- Code as it is drawn, instruction by instruction.
-use Rattle.std.proofs.Common.{◌≡◌, ℕ, ◌+◌, ◌-◌, ◌<◌, ◌≤◌, ◌⊎◌, inl, inr, List, [], ◌∷◌, ◌++◌, length, Some, refl, sym, ap, ap₂, ◌∙◌, subst, append_assoc}
+use Rattle.std.proofs.Common.{get_or, ◌≡◌, ℕ, ◌+◌, ◌-◌, ◌<◌, ◌≤◌, ◌⊎◌, inl, inr, List, [], ◌∷◌, ◌++◌, length, Some, refl, sym, ap, ap₂, ◌∙◌, subst, append_assoc}
 use Rattle.std.proofs.Common.{length-append, arith}
 use Rattle.std.specs.Prelude.{reverse, IsTrue}
 use Rattle.std.specs.List.{All}
@@ -10,7 +10,7 @@ use Rattle.wasm_types.specs.declared.types.PrimitiveTypeInfo.{PrimitiveTypeInfo}
 use Rattle.peephole_machine.specs.Values.{Context}
 use Rattle.body_changes.specs.declared.goal.Goal.{Goal}
 use Rattle.body_changes.specs.declared.goal.Words.{Words}
-use Rattle.body_changes.specs.Drawing.{asks_types_alone, is_drawable, words_of, AreDrawable, AskTypesAlone, IsLeaf}
+use Rattle.body_changes.specs.Drawing.{asks_types_alone, is_drawable, three_words, words_of, AreDrawable, AskTypesAlone, IsLeaf}
 use Rattle.body_changes.specs.Goals.{first_words, types_in, wanted_types, whole_size, AreFor, DrawsOnly, HasDrawn, HasPushed, IsDrawing, IsOpen}
 use Rattle.body_changes.specs.Typed.{types_after, Leaves}
 use Rattle.body_changes.proofs.ConstantLemmas.{drawable_told}
@@ -104,8 +104,12 @@ module _ (context : Context) where
   -- ---- a single instruction
 
   -- the words are those for the instruction
-  words_are_for : (t : PrimitiveTypeInfo) (i : Instruction) (words : List ℕ) → words ≡ words_of context t i → AreFor context t i (first_words words)
-  words_are_for t i words e = subst (λ (ws : List ℕ). AreFor context t i (first_words ws)) (sym e) (record { choice = refl; low = refl; high = refl })
+  pub words_are_for : (t : PrimitiveTypeInfo) (i : Instruction) (words : List ℕ) → three_words words ≡ words_of context t i →
+      AreFor context t i (first_words words)
+  words_are_for t i words e = record { choice = same 0; low = same 1; high = same 2 }
+    where
+      same : (n : ℕ) → get_or (three_words words) n 0 ≡ get_or (words_of context t i) n 0
+      same n = ap (λ (ws : List ℕ). get_or ws n 0) e
 
   no_more : (goals : List Goal) (ts : List PrimitiveTypeInfo) → wanted_types goals ≡ ts → ts ≡ [] → goals ≡ []
   no_more [] ts e f = refl
@@ -121,7 +125,7 @@ module _ (context : Context) where
         let same : goal ≡ first = front_same front alone in
         let chosen = h.drawn i (subst (λ (g : Goal). IsLeaf context g.wanted i) (sym same) is)
         (subst (λ (g : Goal). AreFor context g.wanted i (first_words rest)) (sym same)
-        (words_are_for first.wanted i rest (f.rest_is ∙ named))) in
+        (words_are_for first.wanted i rest (ap three_words f.rest_is ∙ named))) in
         let more : h.pushed.more ≡ [] = no_more h.pushed.more (types_in h.chosen.operands) h.pushed.types (ap types_in chosen.1) in
         inr (record {
           goals_are = h.pushed.grown ∙ ap₂ (λ (xs ys : List Goal). xs ++ ys) none more;
@@ -147,7 +151,7 @@ module _ (context : Context) where
 
   pub only_ends : (first : Goal) (step : ℕ) (words rest : List ℕ) (goals : List Goal) (code turned : List Instruction) → first.size ≤ step →
       turned ≡ reverse code → IsDrawing context first.wanted first.size step goals code → DrawsOnly context first step words rest goals code →
-      (i : Instruction) → IsLeaf context first.wanted i → words ≡ words_of context first.wanted i → turned ≡ i ∷ []
+      (i : Instruction) → IsLeaf context first.wanted i → three_words words ≡ words_of context first.wanted i → turned ≡ i ∷ []
   only_ends first step words rest goals code turned l e drawing d i is named =
       let none = all_drawn first.wanted first.size step goals code l drawing in
       elim (d i is named) [

@@ -19,5 +19,7 @@ pub mod CopyLemmas
 pub mod StatementLemmas
 pub mod PartLemmas
 pub mod OperatorLemmas
+pub mod BehindLemmas
 pub mod AccessLemmas
+pub mod MemoryLemmas
 pub mod BeyondLemmas

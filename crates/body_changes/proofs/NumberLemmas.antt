@@ -20,6 +20,7 @@ use Rattle.body_changes.specs.Kinds.{is_number, IsNew, MakesConstant, Names}
 use Rattle.body_changes.specs.Replacing.{HasInstruction}
 use Rattle.body_changes.specs.Typed.{is_told_apart, Leaves}
 use Rattle.body_changes.specs.Units.{IsUnit}
+use Rattle.body_changes.proofs.DrawingLemmas.{words_are_for}
 use Rattle.body_changes.proofs.ConstantLemmas.{constant_typed}
 use Rattle.body_changes.proofs.EndLemmas.{alone, new_end}
 use Rattle.body_changes.proofs.LeafLemmas.{leaf_cases}
@@ -98,8 +99,7 @@ module _ (context : Context) (operators : Operators) (at : ℕ) (unit : Unit) (t
       let i_made : i ≡ makes.other = one_there (sym c_is ∙ makes.code_is) in
       let row : i.row ≡ constant_row t = ap (λ (j : Instruction). j.row) i_made ∙ (makes.other_row ∙ ap constant_row type_made) in
       let words_are : AreFor context t i ws =
-      subst (λ (w : Words). AreFor context t i w) (sym (first ∙ ap first_words (named ∙ ap (λ x. words_of context x i) (sym type))))
-      (record { choice = refl; low = refl; high = refl }) in
+      subst (λ (w : Words). AreFor context t i w) (sym first) (words_are_for context t i words (named ∙ ap (λ x. words_of context x i) (sym type))) in
       let is_drawn : drawn ≡ i = by_words i ws row leaf_t words_are by_bits in
       let differs : drawn ≡ own → ⊥ =
       λ same. other_instruction i leaf_t.types (subst (IsNew context operators unit.start at) c_is new) (sym is_drawn ∙ same) in

@@ -6,7 +6,7 @@ use Rattle.wasm_code.specs.Instruction.{Instruction}
 use Rattle.peephole_machine.specs.Values.{Context}
 use Rattle.body_changes.specs.declared.kinds.Proposal.{Proposal}
 use Rattle.body_changes.specs.declared.units.Unit.{Unit}
-use Rattle.body_changes.specs.Kinds.{MakesCopy, MakesExchanged, MakesFirst, MakesLast, MakesNothing, MakesTurned, MakesTwice, Stand}
+use Rattle.body_changes.specs.Kinds.{MakesCopy, MakesExchanged, MakesFirst, MakesLast, MakesTurned, MakesTwice, Stand}
 use Rattle.body_changes.specs.Units.{IsUnit}
 use Rattle.body_changes.proofs.OneUnitLemmas.{one_start}
 use Rattle.body_changes.proofs.OwnLemmas.{one_there, same_instructions}
@@ -48,6 +48,15 @@ pub named_of : {Y : Type 0} (items : Y → List Instruction) (K : List Instructi
 named_of items K at None o is there New Named h = tt
 named_of items K at (Some p) None is there New Named h = absurd (false≢true there)
 named_of items K at (Some p) (Some y) is there New Named h = λ start code k new named. is.1 ∙ h code k.1 named
+
+-- of what is made in one way
+pub named_only : {Y : Type 0} (items : Y → List Instruction) (K : List Instruction → Type 0) (at : ℕ) (r : Option Proposal) (o : Option Y) →
+    IfSome r (IsOf items at o) → IfSome r (λ p. IsTrue (is_some o)) → (New : ℕ → List Instruction → Type 0) (Named : List Instruction → Type 0) →
+    IfSome o (λ y. (c : List Instruction) → K c → items y ≡ c) →
+    IfSome r (λ p. (start : ℕ) (code : List Instruction) → (start ≡ at) × K code → New start code → Named code → p.code.items ≡ code)
+named_only items K at None o is there New Named h = tt
+named_only items K at (Some p) None is there New Named h = absurd (false≢true there)
+named_only items K at (Some p) (Some y) is there New Named h = λ start code k new named. is.1 ∙ h code k.1
 
 -- of what has a start of its own
 module _ {E : Type 0} (M : ℕ → List Instruction → Type 0) (unique : (s t : ℕ) (a b : List Instruction) → M s a → M t b → (s ≡ t) × (a ≡ b)) where
@@ -92,9 +101,6 @@ one_exchanged operators at unit a b g h =
     let owns = one_there operators at g.own h.own g.has h.has in
     g.code_is ∙ (ap₂ (λ (x : List Instruction) (i : Instruction). x ++ i ∷ [])
     (ap₂ (λ (x : List Instruction) (y : List Instruction). x ++ y) lasts firsts) owns ∙ sym h.code_is)
-
-pub one_nothing : (unit : Unit) (a b : List Instruction) → MakesNothing unit a → MakesNothing unit b → a ≡ b
-one_nothing unit a b g h = g.code_is ∙ sym h.code_is
 
 pub one_twice : (operators : Operators) (at : ℕ) (unit : Unit) (a b : List Instruction) → MakesTwice operators at unit a → MakesTwice operators at unit b →
     a ≡ b

@@ -1,22 +1,44 @@
--- What the standard asks of an instruction beyond its types: an alignment, the index of a segment, that a global may be written (WebAssembly Core
+-- What the standard asks of an instruction beyond its types: an alignment, an offset, the index of a segment, that a global may be written (WebAssembly Core
 -- Specification 3.0, Validation, Instructions; this project). Validity by types alone is `StaysValid`.
-use Rattle.std.specs.Prelude.{◌⊎◌, ℕ, List, IsTrue}
+use Rattle.std.specs.Prelude.{◌≡◌, ℕ, List, Some, IsTrue}
 use Rattle.std.specs.List.{All}
 use Rattle.wasm_code.specs.Instruction.{Instruction}
+use Rattle.wasm_code.specs.declared.immediate.MemArg.{MemArg}
 use Rattle.wasm_code.specs.declared.operator.Operator.{Operator}
 use Rattle.peephole_machine.specs.Values.{Context}
 use Rattle.body_changes.specs.declared.change.Change.{Change}
 use Rattle.body_changes.specs.Drawing.{asks_types_alone}
-use Rattle.body_changes.specs.Kinds.{IsChange}
+use Rattle.body_changes.specs.Kinds.{accessing, is_call_row, memory_argument, AsksNoGreater, IsChange}
 use Rattle.body_changes.specs.Replacing.{HasInstruction}
 
 -- it is one of the operators
 abbrev pub StandsSomewhere : List (Operator × ℕ) → Instruction → Type 0
 StandsSomewhere operators i = (at : ℕ) × HasInstruction operators at i
 
--- Of each instruction of the code the standard asks nothing beyond its types, or it is one of the operators, of which the rest was asked already.
+-- It is one of the operators with another memory argument. The standard asks that the alignment is at most the width of the access, which holds where it held
+-- of the operator, and that the offset fits the memory's addresses, as one of 32 bits does.
+pub record IsEased (operators : List (Operator × ℕ)) (i : Instruction) : Type 0 where
+  pub own : Instruction
+  pub stands : StandsSomewhere operators own
+  pub argument : MemArg
+  pub own_argument : memory_argument own.imm ≡ Some argument
+  pub other : MemArg
+  pub asks : AsksNoGreater argument other
+  pub is : i ≡ accessing other own
+
+-- The standard asks nothing of it that wasn't asked of the operators.
+pub data IsAsked (operators : List (Operator × ℕ)) (i : Instruction) : Type 0 where
+  -- nothing beyond its types
+  plain : IsTrue (asks_types_alone i) → IsAsked operators i
+  -- nor of a call: that the function is there is part of its types
+  call : IsTrue (is_call_row i.row) → IsAsked operators i
+  -- it is one of the operators, of which the rest was asked already
+  stands : StandsSomewhere operators i → IsAsked operators i
+  eased : IsEased operators i → IsAsked operators i
+
+-- so of each instruction of the code
 abbrev pub AsksNoMore : List (Operator × ℕ) → (code : List Instruction) → Type 0
-AsksNoMore operators code = All (λ (i : Instruction). IsTrue (asks_types_alone i) ⊎ StandsSomewhere operators i) code
+AsksNoMore operators code = All (IsAsked operators) code
 
 -- ---- law
 

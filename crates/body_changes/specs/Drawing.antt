@@ -1,6 +1,6 @@
 -- Code that words draw: of which types, and which words draw which single instruction (this project; constants and variables: WebAssembly Core Specification
 -- 3.0, Structure, Instructions).
-use Rattle.std.specs.Prelude.{◌≡◌, ℕ, ◌+◌, ◌*◌, ◌/◌, ◌%◌, ◌^◌, ◌<◌, ◌==◌, ◌||◌, not, Bool, true, false, if◌then◌else◌, List, [], ◌∷◌, take, count_by, Some}
+use Rattle.std.specs.Prelude.{◌≡◌, ℕ, ◌+◌, ◌*◌, ◌/◌, ◌%◌, ◌^◌, ◌<◌, ◌==◌, ◌||◌, not, Bool, true, false, if◌then◌else◌, List, [], ◌∷◌, take, get_or, count_by, Some}
 use Rattle.std.specs.Prelude.{IsTrue}
 use Rattle.std.specs.List.{All}
 use Rattle.std.specs.Int.{w32, w64, w128, cast_unsigned}
@@ -76,6 +76,10 @@ choice_of context t row _ = 32
 -- the words that draw it: the one that chooses it, and the two halves of its bits
 abbrev pub words_of : Context → PrimitiveTypeInfo → Instruction → List ℕ
 words_of context t i = choice_of context t i.row i.imm ∷ bits_of i.imm % 2 ^ 64 ∷ bits_of i.imm / 2 ^ 64 ∷ []
+
+-- the first three of some words, 0 for one that isn't there: those behind them draw nothing more where these draw a single instruction
+abbrev pub three_words : (words : List ℕ) → List ℕ
+three_words words = get_or words 0 0 ∷ get_or words 1 0 ∷ get_or words 2 0 ∷ []
 
 -- ---- laws
 

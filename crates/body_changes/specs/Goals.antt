@@ -1,6 +1,6 @@
 -- How code is drawn: its last instruction first, each for a value that is still wanted. For private functions (this project).
 use Rattle.std.specs.Prelude.{◌≡◌, ◌⊎◌, ℕ, ◌+◌, ◌*◌, ◌/◌, ◌%◌, ◌^◌, ◌<◌, ◌≤◌, Bool, true, false, List, [], ◌∷◌, ◌++◌, length, map, reverse, get_or, slice_get}
-use Rattle.std.specs.Prelude.{Some, IsTrue}
+use Rattle.std.specs.Prelude.{Some, bit_xor, IsTrue}
 use Rattle.std.specs.List.{All}
 use Rattle.std.specs.Int.{w32, w64, w128, cast_signed}
 use Rattle.wasm_code.specs.Instruction.{Instruction, IsInstruction}
@@ -18,7 +18,7 @@ use Rattle.body_changes.specs.declared.goal.Operands.{Operands}
 use Rattle.body_changes.specs.declared.goal.Operands.TheVariants as operands
 use Rattle.body_changes.specs.declared.goal.Words.{Words}
 use Rattle.body_changes.specs.declared.source.Scope.{Scope}
-use Rattle.body_changes.specs.Drawing.{asks_types_alone, is_drawable, AreDrawable, AskTypesAlone, IsLeaf, bits_of, choice_of, words_of}
+use Rattle.body_changes.specs.Drawing.{asks_types_alone, is_drawable, AreDrawable, AskTypesAlone, IsLeaf, bits_of, choice_of, three_words, words_of}
 use Rattle.body_changes.specs.Typed.{types_after}
 
 -- what code may name in the scope
@@ -72,6 +72,23 @@ constant_imm t low high = imm.Heap (Abstract heap.Extern)
 -- the constant with these bits
 abbrev pub constant_by : PrimitiveTypeInfo → (low high : ℕ) → Instruction
 constant_by t low high = record { row = constant_row t; imm = constant_imm t low high }
+
+-- how many bits the type's numbers have
+abbrev pub width_of : PrimitiveTypeInfo → ℕ
+width_of primitive.I32 = 32
+width_of primitive.F32 = 32
+width_of primitive.V128 = 128
+width_of t = 64
+
+-- the bits with one flipped, the one with the word's number modulo the width
+abbrev pub flipped_bits : (bits width word : ℕ) → ℕ
+flipped_bits bits width word = bit_xor bits (2 ^ (word % width))
+
+-- the type's constant with one bit flipped
+abbrev pub flipped : PrimitiveTypeInfo → Instruction → (word : ℕ) → Instruction
+flipped t own word =
+    let bits = flipped_bits (bits_of own.imm) (width_of t) word in
+    constant_by t (bits % 2 ^ 64) (bits / 2 ^ 64)
 
 -- The instruction takes nothing and gives a value of the type, and the standard asks nothing else of it.
 pub record Gives (context : Context) (t : PrimitiveTypeInfo) (i : Instruction) : Type 0 where
@@ -178,5 +195,5 @@ pub record IsOnly (i : Instruction) (goals : List Goal) (code : List Instruction
 -- Where the words draw a single instruction, it is that one, or nothing was drawn yet.
 abbrev pub DrawsOnly : Context → Goal → (step : ℕ) → (words rest : List ℕ) → List Goal → List Instruction → Type 0
 DrawsOnly context goal step words rest goals code =
-    (i : Instruction) → IsLeaf context goal.wanted i → words ≡ words_of context goal.wanted i →
+    (i : Instruction) → IsLeaf context goal.wanted i → three_words words ≡ words_of context goal.wanted i →
     IsFirst goal step words rest goals code ⊎ IsOnly i goals code

@@ -1,7 +1,12 @@
 -- What each change makes of the code that ends with an operator and needs nothing from what stands before it, its unit (this project).
-use Rattle.std.specs.Prelude.{◌≡◌, ◌+◌, ◌%◌, ◌≤◌, ⊤, ℕ, Bool, true, false, List, [], ◌∷◌, ◌++◌, length, get_or, Option, Some, None, IsTrue, slice_range}
+use Rattle.std.specs.Prelude.{◌≡◌, ◌+◌, ◌%◌, ◌^◌, ◌<◌, ◌≤◌, ◌==◌, ⊤, ℕ, Bool, true, false, List, [], ◌∷◌, ◌++◌, length, get_or, min, Option, Some, None, IsTrue}
+use Rattle.std.specs.Prelude.{slice_get, slice_range}
 use Rattle.wasm_code.specs.Instruction.{Instruction, IsInstruction}
+use Rattle.wasm_code.specs.declared.immediate.Imm.{Imm}
+use Rattle.wasm_code.specs.declared.immediate.Imm.TheVariants as imm
+use Rattle.wasm_code.specs.declared.immediate.MemArg.{MemArg}
 use Rattle.wasm_code.specs.declared.operator.Operator.{Operator}
+use Rattle.wasm_types.specs.Module.{function_type}
 use Rattle.wasm_types.specs.declared.types.PrimitiveTypeInfo.{PrimitiveTypeInfo}
 use Rattle.wasm_types.specs.declared.types.PrimitiveTypeInfo.TheVariants as primitive
 use Rattle.peephole_machine.specs.Values.{Context}
@@ -10,8 +15,8 @@ use Rattle.body_changes.specs.declared.change.Change.TheVariants as change
 use Rattle.body_changes.specs.declared.units.Takes.{Takes}
 use Rattle.body_changes.specs.declared.units.Takes.TheVariants as takes
 use Rattle.body_changes.specs.declared.units.Unit.{Unit}
-use Rattle.body_changes.specs.Drawing.{is_local_row, words_of, AskTypesAlone, IsLeaf}
-use Rattle.body_changes.specs.Goals.{constant_row, indexed, HasVariable}
+use Rattle.body_changes.specs.Drawing.{is_local_row, three_words, words_of, AskTypesAlone, IsLeaf}
+use Rattle.body_changes.specs.Goals.{constant_row, indexed}
 use Rattle.body_changes.specs.Others.{IsOther}
 use Rattle.body_changes.specs.Replacing.{AreTheseInstructions, CanReplace, HasInstruction}
 use Rattle.body_changes.specs.Units.{IsUnit}
@@ -81,18 +86,81 @@ pub record MakesOperator (context : Context) (operators : List (Operator × ℕ)
   pub is : IsOther context types own other
   pub behind : IsBehindOperands operators at unit other code
 
--- An access to a local becomes one to another of its type.
-pub record MakesLocal (context : Context) (operators : List (Operator × ℕ)) (at : ℕ) (unit : Unit) (code : List Instruction) : Type 0 where
+-- the one that the first word names of so many, as far as an index of 32 bits does
+abbrev pub named_of : (count : ℕ) → (words : List ℕ) → ℕ
+named_of count words = get_or words 0 0 % min count (2 ^ 32)
+
+-- An instruction with an index, of one of these rows, becomes the same one with that other index, of what is alike.
+pub record MakesIndexed (is_one : (row : ℕ) → Bool) (AreAlike : (own other : ℕ) → Type 0) (operators : List (Operator × ℕ)) (at : ℕ) (unit : Unit)
+    (other : ℕ) (code : List Instruction) : Type 0 where
   pub row : ℕ
-  pub is_row : IsTrue (is_local_row row)
+  pub is_row : IsTrue (is_one row)
   pub own : ℕ
   pub has : HasInstruction operators at (indexed row own)
-  pub other : ℕ
+  pub alike : AreAlike own other
   pub instruction : IsInstruction (indexed row other)
-  pub type : PrimitiveTypeInfo
-  pub own_there : HasVariable context.locals type own
-  pub other_there : HasVariable context.locals type other
   pub behind : IsBehindOperands operators at unit (indexed row other) code
+
+-- both are there, and have one type
+abbrev pub HaveOneType : {T : Type 0} → (type_with : (index : ℕ) → Option T) → (own other : ℕ) → Type 0
+HaveOneType {T} type_with own other = (t : T) × (type_with own ≡ Some t) × (type_with other ≡ Some t)
+
+-- An access to a local becomes one to the local that the words name, which has its type.
+abbrev pub MakesLocal : Context → List (Operator × ℕ) → (words : List ℕ) → (at : ℕ) → Unit → List Instruction → Type 0
+MakesLocal context operators words at unit code =
+    MakesIndexed is_local_row (HaveOneType (slice_get context.locals)) operators at unit (named_of (length context.locals) words) code
+
+-- global.get
+abbrev pub is_global_row : ℕ → Bool
+is_global_row n = n == 7
+
+-- A global that is read becomes the one that they name, which has its type.
+abbrev pub MakesGlobal : Context → List (Operator × ℕ) → (words : List ℕ) → (at : ℕ) → Unit → List Instruction → Type 0
+MakesGlobal context operators words at unit code =
+    MakesIndexed is_global_row (HaveOneType (slice_get context.info.globals)) operators at unit (named_of (length context.info.globals) words) code
+
+-- call
+abbrev pub is_call_row : ℕ → Bool
+is_call_row n = n == 1
+
+-- A function that is called becomes the one that they name, which has its type.
+abbrev pub MakesCall : Context → List (Operator × ℕ) → (words : List ℕ) → (at : ℕ) → Unit → List Instruction → Type 0
+MakesCall context operators words at unit code =
+    MakesIndexed is_call_row (HaveOneType (function_type context.info)) operators at unit (named_of (length context.info.functions) words) code
+
+-- ---- the memory argument
+
+-- that of a load or a store
+abbrev pub memory_argument : Imm → Option MemArg
+memory_argument (imm.Mem m) = Some m
+memory_argument (imm.MemLane m lane) = Some m
+memory_argument i = None
+
+-- the immediate with that one, beside its own lane
+abbrev pub with_argument : MemArg → Imm → Imm
+with_argument m (imm.Mem own) = imm.Mem m
+with_argument m (imm.MemLane own lane) = imm.MemLane m lane
+with_argument m i = i
+
+-- the instruction with it
+abbrev pub accessing : MemArg → Instruction → Instruction
+accessing m i = record { row = i.row; imm = with_argument m i.imm }
+
+-- On the same memory: the alignment is no greater, and the offset has 32 bits, so that it fits the addresses of any memory.
+pub record AsksNoGreater (own other : MemArg) : Type 0 where
+  pub memory : other.memory ≡ own.memory
+  pub align : other.align ≤ own.align
+  pub offset : other.offset < 2 ^ 32
+
+-- A load or a store gets another offset and alignment.
+pub record MakesMemoryArgument (operators : List (Operator × ℕ)) (at : ℕ) (unit : Unit) (code : List Instruction) : Type 0 where
+  pub own : Instruction
+  pub has : HasInstruction operators at own
+  pub argument : MemArg
+  pub own_argument : memory_argument own.imm ≡ Some argument
+  pub other : MemArg
+  pub asks : AsksNoGreater argument other
+  pub behind : IsBehindOperands operators at unit (accessing other own) code
 
 -- ---- operands
 
@@ -164,12 +232,12 @@ pub record MakesTurned (context : Context) (operators : List (Operator × ℕ)) 
 abbrev pub copied : List (Operator × ℕ) → (words : List ℕ) → ℕ
 copied operators words = get_or words 0 0 % length operators
 
--- What the change makes of the unit of the operator at `at`: the code that stands in the place of the operators from `start` up to that one. `words` say what
--- is copied.
+-- What the change makes of the unit of the operator at `at`: the code that stands in the place of the operators from `start` up to that one. `words` say which
+-- operator's unit is copied, and which local, global or function takes another one's place.
 abbrev pub Makes : Context → List (Operator × ℕ) → (most : ℕ) → (words : List ℕ) → Change → (at : ℕ) → Unit → (start : ℕ) → List Instruction → Type 0
 Makes context operators most words change.Constant at unit start code = (start ≡ unit.start) × MakesConstant operators at unit code
 Makes context operators most words change.Operator at unit start code = (start ≡ unit.start) × MakesOperator context operators at unit code
-Makes context operators most words change.Local at unit start code = (start ≡ unit.start) × MakesLocal context operators at unit code
+Makes context operators most words change.Local at unit start code = (start ≡ unit.start) × MakesLocal context operators words at unit code
 Makes context operators most words change.Draw at unit start code = (start ≡ unit.start) × MakesDrawn most unit code
 Makes context operators most words change.Copy at unit start code = (start ≡ unit.start) × MakesCopy context operators (copied operators words) unit code
 Makes context operators most words change.FirstOperand at unit start code = (start ≡ unit.start) × MakesFirst operators unit code
@@ -178,6 +246,9 @@ Makes context operators most words change.ExchangeOperands at unit start code = 
 Makes context operators most words change.Delete at unit start code = (start ≡ unit.start) × MakesNothing unit code
 Makes context operators most words change.Double at unit start code = (start ≡ unit.start) × MakesTwice operators at unit code
 Makes context operators most words change.ExchangeStatements at unit start code = MakesTurned context operators at unit start code
+Makes context operators most words change.Global at unit start code = (start ≡ unit.start) × MakesGlobal context operators words at unit code
+Makes context operators most words change.Call at unit start code = (start ≡ unit.start) × MakesCall context operators words at unit code
+Makes context operators most words change.MemoryArgument at unit start code = (start ≡ unit.start) × MakesMemoryArgument operators at unit code
 
 -- The code may stand in the place of the operators from `start` up to the one before `end`, and isn't what stands there.
 pub record IsNewWithin (context : Context) (operators : List (Operator × ℕ)) (start end : ℕ) (code : List Instruction) : Type 0 where
@@ -198,14 +269,19 @@ pub record IsChange (context : Context) (operators : List (Operator × ℕ)) (mo
 
 -- ---- the words for the code, where the change and the operator leave a choice
 
--- These words draw it: a constant's own bits, a single instruction's words, the number of an operator's row, the index of a local. Other changes leave no
--- choice.
+-- behind the word 4, the next two are the offset and the alignment of the last one
+abbrev pub NamesArgument : (words : List ℕ) → List Instruction → Type 0
+NamesArgument words code =
+    (front : List Instruction) × (i : Instruction) × (m : MemArg) × (code ≡ front ++ i ∷ []) × (memory_argument i.imm ≡ Some m)
+    × (get_or words 0 0 ≡ 4) × (get_or words 1 0 ≡ m.offset) × (get_or words 2 0 ≡ m.align)
+
+-- These words draw it: a constant's own bits, a single instruction's words, the number of an operator's row, an offset and an alignment. Other changes
+-- leave no choice.
 abbrev pub Names : Context → Change → Unit → (words : List ℕ) → List Instruction → Type 0
 Names context change.Constant unit words code =
-    (t : PrimitiveTypeInfo) × (i : Instruction) × (unit.gives ≡ Some t) × IsLeaf context t i × (words ≡ words_of context t i) × (code ≡ i ∷ [])
+    (t : PrimitiveTypeInfo) × (i : Instruction) × (unit.gives ≡ Some t) × IsLeaf context t i × (three_words words ≡ words_of context t i) × (code ≡ i ∷ [])
 Names context change.Draw unit words code =
-    (t : PrimitiveTypeInfo) × (i : Instruction) × (unit.gives ≡ Some t) × IsLeaf context t i × (words ≡ words_of context t i) × (code ≡ i ∷ [])
+    (t : PrimitiveTypeInfo) × (i : Instruction) × (unit.gives ≡ Some t) × IsLeaf context t i × (three_words words ≡ words_of context t i) × (code ≡ i ∷ [])
 Names context change.Operator unit words code = (front : List Instruction) × (i : Instruction) × (code ≡ front ++ i ∷ []) × (get_or words 0 0 ≡ i.row)
-Names context change.Local unit words code =
-    (front : List Instruction) × (row n : ℕ) × (code ≡ front ++ indexed row n ∷ []) × (get_or words 0 0 ≡ n)
+Names context change.MemoryArgument unit words code = NamesArgument words code
 Names context change unit words code = ⊤

@@ -1,11 +1,15 @@
 -- What is proposed for an operator's unit. For private functions (this project).
-use Rattle.std.specs.Prelude.{◌≡◌, ◌+◌, ◌<◌, ℕ, List, length, None}
+use Rattle.std.specs.Prelude.{◌≡◌, ◌≢◌, ◌+◌, ◌<◌, ℕ, Bool, List, length, None, slice_get}
 use Rattle.wasm_code.specs.Instruction.{Instruction}
 use Rattle.wasm_code.specs.declared.operator.Operator.{Operator}
+use Rattle.wasm_types.specs.Module.{function_type}
 use Rattle.peephole_machine.specs.Values.{Context}
 use Rattle.body_changes.specs.declared.change.Change.{Change}
 use Rattle.body_changes.specs.declared.kinds.Place.{Place}
-use Rattle.body_changes.specs.Kinds.{IsNew, Makes, Names, Stand}
+use Rattle.body_changes.specs.declared.kinds.accesses.Indexed.{Indexed}
+use Rattle.body_changes.specs.declared.kinds.accesses.Indexed.TheVariants as indexed
+use Rattle.body_changes.specs.Drawing.{is_local_row}
+use Rattle.body_changes.specs.Kinds.{is_call_row, is_global_row, named_of, HaveOneType, IsNew, Makes, MakesIndexed, Names, Stand}
 use Rattle.body_changes.specs.Replacing.{context_of}
 use Rattle.body_changes.specs.declared.units.Unit.{Unit}
 use Rattle.body_changes.specs.Units.{AreUnits, IsUnit}
@@ -50,3 +54,36 @@ pub record IsStatementBefore (place : Place) (before : Unit) : Type 0 where
   pub right_before : last + 1 ≡ place.unit.start
   pub is : IsUnit (context_at place) (operators_of place) last before
   pub gives : before.gives ≡ None
+
+-- ---- what an index names
+
+-- the rows whose index names such a thing, which may be another one
+abbrev pub is_row_of : Indexed → (row : ℕ) → Bool
+is_row_of indexed.Local = is_local_row
+is_row_of indexed.Global = is_global_row
+is_row_of indexed.Function = is_call_row
+
+-- how many there are
+abbrev pub count_in : Context → Indexed → ℕ
+count_in context indexed.Local = length context.locals
+count_in context indexed.Global = length context.info.globals
+count_in context indexed.Function = length context.info.functions
+
+-- both are there, and of one type
+abbrev pub AreAlike : Context → Indexed → (own other : ℕ) → Type 0
+AreAlike context indexed.Local = HaveOneType (slice_get context.locals)
+AreAlike context indexed.Global = HaveOneType (slice_get context.info.globals)
+AreAlike context indexed.Function = HaveOneType (function_type context.info)
+
+-- the one that the words name
+abbrev pub named_in : Context → Indexed → (words : List ℕ) → ℕ
+named_in context kind words = named_of (count_in context kind) words
+
+-- it is another one
+abbrev pub IsAnother : Context → Indexed → (own other : ℕ) → Type 0
+IsAnother context kind own other = (other ≢ own) × AreAlike context kind own other
+
+-- what `MakesLocal`, `MakesGlobal` and `MakesCall` say
+abbrev pub MakesOther : Place → Indexed → (words : List ℕ) → List Instruction → Type 0
+MakesOther place kind words code =
+    MakesIndexed (is_row_of kind) (AreAlike (context_at place) kind) (operators_of place) place.at place.unit (named_in (context_at place) kind words) code

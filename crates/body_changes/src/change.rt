@@ -26,10 +26,16 @@ pub enum Change {
     Double,
     /// It changes places with the statement right before it.
     ExchangeStatements,
+    /// A global that is read becomes another one of its type.
+    Global,
+    /// A function that is called becomes another one of its type.
+    Call,
+    /// A load or a store gets another offset and alignment.
+    MemoryArgument,
 }
 
 /// All of them.
-pub const CHANGES: [Change; 11] = [
+pub const CHANGES: [Change; 14] = [
     Change::Constant,
     Change::Operator,
     Change::Local,
@@ -41,6 +47,9 @@ pub const CHANGES: [Change; 11] = [
     Change::Delete,
     Change::Double,
     Change::ExchangeStatements,
+    Change::Global,
+    Change::Call,
+    Change::MemoryArgument,
 ];
 
 impl Change {
@@ -63,6 +72,9 @@ impl Change {
             Change::Delete => "delete",
             Change::Double => "double",
             Change::ExchangeStatements => "exchange_statements",
+            Change::Global => "global",
+            Change::Call => "call",
+            Change::MemoryArgument => "memory_argument",
         }
     }
 
@@ -83,6 +95,9 @@ impl Change {
             "delete" => Some(Change::Delete),
             "double" => Some(Change::Double),
             "exchange_statements" => Some(Change::ExchangeStatements),
+            "global" => Some(Change::Global),
+            "call" => Some(Change::Call),
+            "memory_argument" => Some(Change::MemoryArgument),
             _ => None,
         }
     }

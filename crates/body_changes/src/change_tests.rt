@@ -12,7 +12,7 @@ use wasm_types::PrimitiveTypeInfo;
 type Made = Option<(usize, usize, Code)>;
 
 /// A body, the words, and what the only change that is asked for makes.
-type Row = (&'static [u8], &'static [u64], Made);
+pub(crate) type Row = (&'static [u8], &'static [u64], Made);
 
 /// The change, and what it makes.
 type Found = Option<(Change, usize, usize, Code)>;
@@ -29,7 +29,7 @@ const ZERO: (u16, Imm) = (36, Imm::I32(0));
 
 const FIVE: (u16, Imm) = (36, Imm::I32(5));
 
-const SEVEN: (u16, Imm) = (36, Imm::I32(7));
+pub(crate) const SEVEN: (u16, Imm) = (36, Imm::I32(7));
 
 const NINE: (u16, Imm) = (36, Imm::I32(9));
 
@@ -50,7 +50,7 @@ const EQUAL: (u16, Imm) = (41, Imm::Nothing);
 const SPLAT: (u16, Imm) = (204, Imm::Nothing);
 
 /// `local.get 0; i32.const 7; i32.add; drop; end`
-const SUM: &[u8] = b"\x20\0\x41\x07\x6a\x1a\x0b";
+pub(crate) const SUM: &[u8] = b"\x20\0\x41\x07\x6a\x1a\x0b";
 
 /// `i32.const 7; local.set 2; i64.const 5; local.set 1; end`
 const SETS: &[u8] = b"\x41\x07\x21\x02\x42\x05\x21\x01\x0b";
@@ -120,6 +120,31 @@ const ROWS: [(Change, &'static [Row]); 11] = [
             // By its kind: two to the fifth, and 1 below zero.
             (SUM, &[0, 1, 16, 5], Some((1, 1, &[(36, Imm::I32(32))]))),
             (SUM, &[0, 1, 8, 64], Some((1, 1, &[(36, Imm::I32(-1))]))),
+            // One bit is flipped: the lowest one, the one with the number 3 modulo 32, and the sign.
+            (SUM, &[0, 1, 40, 0], Some((1, 1, &[(36, Imm::I32(6))]))),
+            (SUM, &[0, 1, 40, 35], Some((1, 1, &[(36, Imm::I32(15))]))),
+            (
+                SUM,
+                &[0, 1, 88, 31],
+                Some((1, 1, &[(36, Imm::I32(-0x7fff_fff9))])),
+            ),
+            (
+                SETS,
+                &[0, 2, 40, 63],
+                Some((2, 2, &[(37, Imm::I64(-0x7fff_ffff_ffff_fffb))])),
+            ),
+            (
+                WIDE,
+                &[0, 0, 40, 63],
+                Some((0, 0, &[(38, Imm::F32(0xbf80_0000))])),
+            ),
+            (WIDE, &[0, 2, 40, 1], Some((2, 2, &[(201, Imm::V128(3))]))),
+            (
+                WIDE,
+                &[0, 2, 40, 64],
+                Some((2, 2, &[(201, Imm::V128(0x1_0000_0000_0000_0001))])),
+            ),
+            (VALUE, &[0, 0, 40, 0], Some((0, 0, &[ONE]))),
             // It is there already.
             (SUM, &[0, 1, 32, 7, 0], Some((1, 1, &[ZERO]))),
             (VALUE, &[0, 0, 32, 0, 0], Some((0, 0, &[ONE]))),
@@ -139,16 +164,17 @@ const ROWS: [(Change, &'static [Row]); 11] = [
         &[
             (SUM, &[0, 0, 3], Some((0, 0, &[LAST]))),
             // The one named has another type.
-            (SUM, &[0, 0, 1], Some((0, 0, &[THIRD]))),
-            // It is the own one, with the number 0 modulo 4.
-            (SUM, &[0, 0, 4], Some((0, 0, &[THIRD]))),
+            (SUM, &[0, 0, 1], None),
+            // It is the own one, with the number 0 modulo 4, and another one, 2.
+            (SUM, &[0, 0, 4], None),
+            (SUM, &[0, 0, 6], Some((0, 0, &[THIRD]))),
             (SETS, &[0, 1, 0], Some((1, 0, &[SEVEN, (5, Imm::Index(0))]))),
             (TEE, &[0, 1, 2], Some((1, 0, &[FIRST, (6, Imm::Index(2))]))),
-            // The one named has another type, and the next one is the own one.
-            (SETS, &[0, 1, 1], Some((1, 0, &[SEVEN, (5, Imm::Index(3))]))),
-            // None from the own one on.
-            (TEE, &[0, 1, 3], Some((1, 0, &[FIRST, (6, Imm::Index(0))]))),
-            // No other local has the type of local 1.
+            // It has another type than the one, and is the other.
+            (SETS, &[0, 1, 1], None),
+            // It is the operator's own one, and has the type of the one before.
+            (TEE, &[0, 1, 3], Some((0, 0, &[LAST]))),
+            // It has the type of the one before.
             (SETS, &[0, 3, 3], Some((1, 0, &[SEVEN, (5, Imm::Index(3))]))),
             (TESTED, &[], None),
         ],
@@ -355,7 +381,7 @@ const CASES: [Case; 13] = [
         &[1, 0],
         Some((Change::Delete, 3, 0, &[])),
     ),
-    // Modulo 11: 8, by a word of 64 bits.
+    // Modulo 14: 8, by a word of 64 bits.
     (
         SUM,
         &CHANGES,
@@ -393,7 +419,7 @@ const CASES: [Case; 13] = [
     (SUM, &[], &[1, 1, 32, 9], None),
 ];
 
-const NAMES: [(&'static str, Option<Change>); 15] = [
+const NAMES: [(&'static str, Option<Change>); 18] = [
     ("constant", Some(Change::Constant)),
     ("operator", Some(Change::Operator)),
     ("local", Some(Change::Local)),
@@ -405,6 +431,9 @@ const NAMES: [(&'static str, Option<Change>); 15] = [
     ("delete", Some(Change::Delete)),
     ("double", Some(Change::Double)),
     ("exchange_statements", Some(Change::ExchangeStatements)),
+    ("global", Some(Change::Global)),
+    ("call", Some(Change::Call)),
+    ("memory_argument", Some(Change::MemoryArgument)),
     ("", None),
     ("Delete", None),
     ("delet", None),
@@ -444,7 +473,7 @@ fn holds(
 }
 
 /// Whether the change, the only one that is asked for, makes that.
-fn makes(alloc: Global, change: Change, row: Row) -> Result<bool, Fail> {
+pub(crate) fn makes(alloc: Global, change: Change, row: Row) -> Result<bool, Fail> {
     let (bytes, words, made) = row;
     let wanted = match made {
         Some((at, start, code)) => Some((change, at, start, code)),

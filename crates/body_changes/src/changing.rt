@@ -1,10 +1,10 @@
 //! Which change of a body words choose.
-ghost use Rattle.std.specs.Prelude.{◌≡◌, ◌<◌, ◌≤◌, ◌%◌, Some, length, slice_get, IfNone, IfOk, IfSome};
+ghost use Rattle.std.specs.Prelude.{◌≡◌, ◌<◌, ◌≤◌, Some, length, slice_get, IfNone, IfOk, IfSome};
 ghost use Rattle.body_changes.specs.Body.{context_in_body, operators_in, ChangesIn, ChangesSome, IsBody, IsFound, IsNumbered};
 ghost use Rattle.body_changes.specs.Chosen.{ChangesNone, Chooses, IsFirstFrom, NoneWithin};
 
 use crate::change::Change;
-use crate::drawing::{word_at, words_from};
+use crate::drawing::{named, word_at, words_from};
 use crate::kinds::{Place, Proposal};
 use crate::proposing::made_of;
 use crate::source::Source;
@@ -111,15 +111,6 @@ fn changed_from(
     changed_within(alloc, body, change, 0..from, words)
 }
 
-// The number that a word names, modulo the count.
-fn named(word: u64, count: usize) -> usize
-    requires { 0 < count }
-    ensures is { result ≡ word % count }
-    ensures below { result < count }
-{
-    (word % count as u64) as usize
-}
-
 // The change with that number.
 fn change_with(changes: &[Change], number: usize) -> Change
     requires { number < length changes.now }
@@ -157,14 +148,16 @@ fn any_within(
 
 /// What one of the changes makes of the body, as the words choose: the first word names a change, modulo their number, and it is that
 /// one or else the first one behind it, and then from the first one on, that makes anything; the second word names an operator in the
-/// same way; and those behind them name the code, where the change and the operator leave a choice: as `code_of_words` has them for a
-/// constant and what is drawn, the row of another operator, the index of a local, and the operator whose unit is copied.
+/// same way; and those behind them name the code: as `code_of_words` has them for a constant and what is drawn, the row of another
+/// operator, an offset and an alignment behind the word 4, and modulo their number the local, the global or the function that takes
+/// another one's place, and the operator whose unit is copied. Of a constant the word 40 flips the bit with the number that the next
+/// word is.
 ///
 /// What a change makes is other code than stands there, and may stand there (see `replace_code`). None only where no change makes
-/// anything of any operator.
+/// anything of any operator by these words.
 ///
-/// It takes time linear in the body for each change that is tried, and by the number of rows for another operator. The only error: an
-/// allocation was refused.
+/// It takes time linear in the body for each change that is tried, by the number of rows for another operator, and for another
+/// function by the length of its type. The only error: an allocation was refused.
 pub fn change_of_words(
     alloc: Global,
     body: &Body<'_>,

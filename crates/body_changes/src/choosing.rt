@@ -1,7 +1,6 @@
 //! The instruction that words choose for a value that is wanted.
 ghost use Rattle.std.specs.Prelude.{◌≡◌, IfSome, IfOk, IsTrue, Some};
 ghost use Rattle.wasm_code.specs.Instruction.{IsInstruction};
-ghost use Rattle.wasm_types.specs.Module.{Module};
 ghost use Rattle.peephole_machine.specs.Row.{instruction_types};
 ghost use Rattle.body_changes.specs.Drawing.{asks_types_alone, AreDrawable};
 ghost use Rattle.body_changes.specs.Goals.{context_for, types_in, Fits, IsDrawnBy, IsOpen};

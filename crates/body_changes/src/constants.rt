@@ -52,8 +52,8 @@ const EDGES_64: [u64; 12] = [
     0x7FF4_0000_0000_0000,
 ];
 
-// A whole number that a word names by its kind: near zero, near a power of two, the complement of that, or the word itself.
-fn whole(kind: u64, word: u64) -> u64
+/// A whole number that a word names by its kind: near zero, near a power of two, the complement of that, or the word itself.
+pub(crate) fn whole(kind: u64, word: u64) -> u64
     ensures { kind ≡ 4 → result ≡ word }
 {
     let near = (word >> 6) % 4;
@@ -67,7 +67,8 @@ fn whole(kind: u64, word: u64) -> u64
     }
 }
 
-fn low_half(word: u64) -> u32
+/// The lower half of its bits.
+pub(crate) fn low_half(word: u64) -> u32
     ensures { result ≡ word % 2 ^ 32 }
 {
     (word % 0x1_0000_0000) as u32

@@ -1,7 +1,7 @@
 //! Code that words draw.
-ghost use Rattle.std.specs.Prelude.{◌≡◌, ◌<◌, ◌≤◌, [], ◌∷◌, length, drop, get_or, reverse, IfOk, OnOk, IsTrue};
+ghost use Rattle.std.specs.Prelude.{◌≡◌, ◌<◌, ◌≤◌, ◌%◌, [], ◌∷◌, length, drop, get_or, reverse, IfOk, OnOk, IsTrue};
 ghost use Rattle.wasm_code.specs.Instruction.{Instruction};
-ghost use Rattle.body_changes.specs.Drawing.{is_drawable, words_of, AreDrawable, AskTypesAlone, IsLeaf};
+ghost use Rattle.body_changes.specs.Drawing.{is_drawable, three_words, words_of, AreDrawable, AskTypesAlone, IsLeaf};
 ghost use Rattle.body_changes.specs.Goals.{context_for, types_in, first_words, HasDrawn, HasPushed, IsOpen};
 ghost use Rattle.body_changes.specs.Typed.{Leaves};
 
@@ -12,10 +12,11 @@ use std::alloc::{AllocError, Global};
 use wasm_code::Instr;
 use wasm_types::PrimitiveTypeInfo;
 
-// A number below the count.
-fn part(word: u64, count: usize) -> usize
+/// The number that a word names, modulo the count.
+pub(crate) fn named(word: u64, count: usize) -> usize
     requires { 0 < count }
-    ensures { result < count }
+    ensures is { result ≡ word % count }
+    ensures below { result < count }
 {
     (word % count as u64) as usize
 }
@@ -43,7 +44,7 @@ fn push_operands(
             Ok(())
         }
         Operands::Two(a, b) => {
-            let first = 1 + part(word, room - 1);
+            let first = 1 + named(word, room - 1);
             goals.push(Goal {
                 wanted: a,
                 size: first,
@@ -55,8 +56,8 @@ fn push_operands(
             Ok(())
         }
         Operands::Three(a, b, c) => {
-            let first = 1 + part(word, room - 2);
-            let second = 1 + part(word >> 32, room - first - 1);
+            let first = 1 + named(word, room - 2);
+            let second = 1 + named(word >> 32, room - first - 1);
             goals.push(Goal {
                 wanted: a,
                 size: first,
@@ -154,7 +155,7 @@ pub fn code_of_words(
     // Each single instruction is what its words draw.
     ensures drawn { IfOk result (λ code. (i : Instruction)
         → IsLeaf (context_for scope.now) wanted i
-        → words.now ≡ words_of (context_for scope.now) wanted i → code.items ≡ i ∷ []) }
+        → three_words words.now ≡ words_of (context_for scope.now) wanted i → code.items ≡ i ∷ []) }
 {
     let mut goals = Vec::new(alloc);
     goals.push(Goal { wanted, size })?;

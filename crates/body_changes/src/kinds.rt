@@ -4,11 +4,12 @@ pub(crate) mod accesses;
 pub(crate) mod constants;
 pub(crate) mod copies;
 pub(crate) mod drawn;
+pub(crate) mod memory_arguments;
 pub(crate) mod operands;
 pub(crate) mod operators;
 pub(crate) mod statements;
 
-use crate::source::{Scope, Source};
+use crate::source::Source;
 use crate::units::Unit;
 use wasm_code::Instr;
 

@@ -1,6 +1,8 @@
 //! Instructions of a body replaced by others that leave the same types: the body stays valid, and computes something else.
 #![tactic(auto)]
 
+#[cfg(test)]
+mod access_tests;
 mod change;
 #[cfg(test)]
 mod change_tests;

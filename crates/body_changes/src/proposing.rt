@@ -6,10 +6,11 @@ ghost use Rattle.body_changes.specs.Proposals.{IsNewFrom, IsPlace, MakesAt, Name
 ghost use Rattle.body_changes.specs.Replacing.{context_of};
 
 use crate::change::Change;
-use crate::kinds::accesses::other_access;
+use crate::kinds::accesses::{Indexed, other_access};
 use crate::kinds::constants::other_constant;
 use crate::kinds::copies::copied;
 use crate::kinds::drawn::drawn;
+use crate::kinds::memory_arguments::other_memory;
 use crate::kinds::operands::{exchanged, first_operand, last_operand};
 use crate::kinds::operators::other_behind;
 use crate::kinds::statements::{deleted, doubled, turned};
@@ -62,7 +63,7 @@ fn propose(
     match change {
         Change::Constant => Ok(in_place(place, other_constant(alloc, place, words)?)),
         Change::Operator => Ok(in_place(place, other_behind(alloc, place, words)?)),
-        Change::Local => Ok(in_place(place, other_access(alloc, place, words)?)),
+        Change::Local => Ok(in_place(place, other_access(alloc, place, Indexed::Local, words)?)),
         Change::Draw => Ok(in_place(place, drawn(alloc, place, most, words)?)),
         Change::Copy => Ok(in_place(place, copied(alloc, place, words)?)),
         Change::FirstOperand => Ok(in_place(place, first_operand(alloc, place)?)),
@@ -71,6 +72,9 @@ fn propose(
         Change::Delete => Ok(in_place(place, deleted(alloc, place))),
         Change::Double => Ok(in_place(place, doubled(alloc, place)?)),
         Change::ExchangeStatements => turned(alloc, place),
+        Change::Global => Ok(in_place(place, other_access(alloc, place, Indexed::Global, words)?)),
+        Change::Call => Ok(in_place(place, other_access(alloc, place, Indexed::Function, words)?)),
+        Change::MemoryArgument => Ok(in_place(place, other_memory(alloc, place, words)?)),
     }
 }
 

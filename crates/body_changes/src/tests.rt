@@ -10,7 +10,7 @@ use PrimitiveTypeInfo::{Empty, I32, I64};
 use std::alloc::{AllocError, Global};
 use std::test::Fail;
 use wasm_code::{Function, Imm, Instr, OperatorAndByteOffset, read_code};
-use wasm_types::{ModuleInfo, PrimitiveTypeInfo};
+use wasm_types::{FuncInfo, MemoryType, ModuleInfo, PrimitiveTypeInfo, TypeInfo};
 
 /// Instructions: their rows and immediates.
 pub(crate) type Code = &'static [(u16, Imm)];
@@ -103,11 +103,35 @@ pub(crate) fn instrs(alloc: Global, code: Code) -> Result<Vec<Instr>, Fail> {
     Ok(instrs)
 }
 
-/// A module with a global of type i32.
+/// The type of a function.
+fn function_type(
+    alloc: Global,
+    takes: &[PrimitiveTypeInfo],
+    gives: &[PrimitiveTypeInfo],
+) -> Result<TypeInfo, AllocError> {
+    let mut params = Vec::new(alloc);
+    params.extend_from_slice(takes)?;
+    let mut returns = Vec::new(alloc);
+    returns.extend_from_slice(gives)?;
+    Ok(TypeInfo::Func(FuncInfo { params, returns }))
+}
+
+/// A module with four globals, two memories, of 32 and of 64 bits, and seven functions. Functions 0 and 2 take and give an i32, by types in two places; 1 and 4 nothing, by one
+/// type; 3 takes an i64 and gives an i32; the type of 5 is no function's, and that of 6 isn't there.
 pub(crate) fn module(alloc: Global) -> Result<ModuleInfo<'static>, AllocError> {
     let mut info = ModuleInfo::new(alloc, BODY);
     info.one_reference = true;
-    info.global_types.push(I32)?;
+    info.global_types.extend_from_slice(&[I32, I64, I32, I32])?;
+    for memory64 in [false, true] {
+        let shared = false;
+        info.memory_types.push(MemoryType { memory64, shared })?;
+    }
+    info.types_map.push(function_type(alloc, &[I32], &[I32])?)?;
+    info.types_map.push(function_type(alloc, &[I32], &[I32])?)?;
+    info.types_map.push(function_type(alloc, &[], &[])?)?;
+    info.types_map.push(TypeInfo::Other)?;
+    info.types_map.push(function_type(alloc, &[I64], &[I32])?)?;
+    info.function_map.extend_from_slice(&[0, 2, 1, 4, 2, 3, 9])?;
     Ok(info)
 }
 

@@ -86,8 +86,8 @@ fn local_of(scope: &Scope<'_>, wanted: PrimitiveTypeInfo, number: u64) -> Option
     }
 }
 
-// The types of the module's globals.
-fn globals_of<'a>(info: &'a ModuleInfo<'_>) -> &'a [PrimitiveTypeInfo]
+/// The types of the module's globals.
+pub(crate) fn globals_of<'a>(info: &'a ModuleInfo<'_>) -> &'a [PrimitiveTypeInfo]
     ensures { result.now ≡ info.now.globals }
 {
     &info.global_types

@@ -9,12 +9,11 @@ use Rattle.module_rewrites.specs.Mutated.{IsChosen}
 use Rattle.module_changes.specs.Changed.{DoesNotFit, HasNoChange, MakesChange}
 use Rattle.module_rewrites.specs.declared.attempt.Reason.{Reason}
 use Rattle.module_rewrites.specs.declared.attempt.Reason.TheVariants as reasons
-use Rattle.module_changes.specs.Chosen.{draws, AllVain, AreVain, ChoosesBy, IsVain, TimesVain}
+use Rattle.module_changes.specs.Chosen.{draws, AreUnchanged, ChoosesBy, ChoosesLarge, TimesLarge}
 use Rattle.module_changes.specs.Scope.{Scope, words_count}
 use Rattle.module_changes.specs.Words.{words_of}
 use Rattle.module_changes.specs.declared.entry.Attempt.{Attempt}
 use Rattle.module_changes.specs.declared.entry.Attempt.TheVariants.{Made, TooLarge, Unchanged}
-use Rattle.module_changes.specs.declared.entry.MadeChange.{MadeChange}
 use Rattle.module_changes.specs.declared.entry.Reading.{Reading}
 use Rattle.module_changes.specs.declared.refusal.Refusal.{Refusal}
 use Rattle.module_changes.specs.declared.refusal.Refusal.TheVariants as refusals
@@ -36,47 +35,38 @@ IsTried scope bytes info layout words n TooLarge = DoesNotFit scope bytes info l
 
 -- ---- several entries
 
--- The change is of the first entry from `from` on, before `to`, where an attempt isn't in vain.
-pub record IsFirstWithin (scope : Scope) (bytes : List ℕ) (info : Module) (layout : Layout) (words : List ℕ) (from to : ℕ) (made : MadeChange)
-    (new : List ℕ) : Type 0 where
+-- Of the first entry from `from` on, before `to`, whose function the words change, that is so.
+pub record IsFirstWithin (scope : Scope) (bytes : List ℕ) (info : Module) (layout : Layout) (words : List ℕ) (from to : ℕ) (Is : ℕ → Type 0) : Type 0 where
   pub n : ℕ
   pub behind : from ≤ n
   pub before : n < to
   pub chosen : IsChosen scope.function (layout.imported_functions + n)
-  pub vain : AreVain (IsVain scope bytes info layout words) from n
-  pub makes : MakesChange scope bytes info layout words n made new
-
--- in the functions of these that may be changed no change makes anything
-abbrev pub HaveNoChange : Scope → (bytes : List ℕ) → Module → Layout → (words : List ℕ) → (from to : ℕ) → Type 0
-HaveNoChange scope bytes info layout words from to =
-    (n : ℕ) → from ≤ n → n < to → IsChosen scope.function (layout.imported_functions + n) → HasNoChange scope bytes info layout words n
+  pub unchanged : AreUnchanged scope bytes info layout words from n
+  pub is : Is n
 
 -- what attempts at these came to
 abbrev pub AreTried : Scope → (bytes : List ℕ) → Module → Layout → (words : List ℕ) → (from to : ℕ) → Attempt → Type 0
-AreTried scope bytes info layout words from to (Made made new) = IsFirstWithin scope bytes info layout words from to made new.items
-AreTried scope bytes info layout words from to Unchanged = HaveNoChange scope bytes info layout words from to
-AreTried scope bytes info layout words from to TooLarge = AreVain (IsVain scope bytes info layout words) from to
+AreTried scope bytes info layout words from to (Made made new) =
+    IsFirstWithin scope bytes info layout words from to (λ n. MakesChange scope bytes info layout words n made new.items)
+AreTried scope bytes info layout words from to Unchanged = AreUnchanged scope bytes info layout words from to
+AreTried scope bytes info layout words from to TooLarge =
+    IsFirstWithin scope bytes info layout words from to (DoesNotFit scope bytes info layout words)
 
 -- what those at all entries did, by words of which the first one names an entry
 abbrev pub AllTried : Scope → (bytes : List ℕ) → Module → Layout → (words : List ℕ) → Attempt → Type 0
 AllTried scope bytes info layout words (Made made new) = ChoosesBy scope bytes info layout words made new.items
-AllTried scope bytes info layout words Unchanged = HaveNoChange scope bytes info layout (drop 1 words) 0 (length layout.entries)
-AllTried scope bytes info layout words TooLarge = AllVain scope bytes info layout words
-
--- what both come to, where the first one made nothing
-abbrev pub both_of : (behind before : Attempt) → Attempt
-both_of behind Unchanged = behind
-both_of behind TooLarge = TooLarge
-both_of behind (Made made new) = Made made new
+AllTried scope bytes info layout words Unchanged = AreUnchanged scope bytes info layout (drop 1 words) 0 (length layout.entries)
+AllTried scope bytes info layout words TooLarge = ChoosesLarge scope bytes info layout words
 
 -- ---- drawn words
 
--- why none is made of the module: no change makes anything by words behind those that make nothing that fits, as many as are drawn choose none that fits, or for want of memory
+-- why none is made of the module: no change makes anything by words behind those that choose what doesn't fit, as many as are drawn choose that, or for want
+-- of memory
 abbrev pub GivesNone : Scope → (bytes : List ℕ) → Module → Layout → Stream → Refusal → Type 0
 GivesNone scope bytes info layout s refusals.NoChange =
-    (count : ℕ) × (count < draws) × (before : Stream) × TimesVain scope bytes info layout count s before
-    × HaveNoChange scope bytes info layout (drop 1 (words_of before (words_count scope))) 0 (length layout.entries)
-GivesNone scope bytes info layout s refusals.TooLarge = (after : Stream) × TimesVain scope bytes info layout draws s after
+    (count : ℕ) × (count < draws) × (before : Stream) × TimesLarge scope bytes info layout count s before
+    × AreUnchanged scope bytes info layout (drop 1 (words_of before (words_count scope))) 0 (length layout.entries)
+GivesNone scope bytes info layout s refusals.TooLarge = (after : Stream) × TimesLarge scope bytes info layout draws s after
 GivesNone scope bytes info layout s refusals.Memory = ⊤
 GivesNone scope bytes info layout s refusal = ⊥
 

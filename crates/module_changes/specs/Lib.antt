@@ -5,3 +5,4 @@ pub mod Chosen
 pub mod Times
 pub mod Valid
 pub mod Entry
+pub mod Watched

@@ -18,7 +18,7 @@ ChoosesEach scope bytes s (m ∷ ms) new after =
     (next : List ℕ) × (left : Stream) × ChoosesOne scope bytes s m next left × ChoosesEach scope next left ms new after
 
 -- Why nothing of the module is changed, or nothing more: the bytes are none that can be read, it has no function of its own with the index that is named, by
--- the words that were drawn no change makes anything, all that they choose doesn't fit, or for want of memory.
+-- the words that were drawn no change makes anything, what they choose doesn't fit, each time, or for want of memory.
 abbrev pub IsRefusal : Scope → (bytes : List ℕ) → Stream → Refusal → Type 0
 IsRefusal scope bytes s (Read e) = IsModuleFault bytes e.kind e.offset
 IsRefusal scope bytes s (NoFunction function) = RefusesIndexOf scope.function bytes (reasons.NoFunction function)

@@ -14,7 +14,7 @@ use rand_core::Rng;
 use std::alloc::Global;
 use wasm_module::read_module;
 
-// How often words are drawn where what they make doesn't fit.
+// How often words are drawn where what they choose doesn't fit.
 const DRAWS: usize = 16;
 
 /// A module with a change.

@@ -1,7 +1,7 @@
 //! The module changed by words: which function they change.
 ghost use Rattle.std.specs.Prelude.{◌≡◌, ◌↔◌, ◌<◌, ◌≤◌, ◌+◌, drop, get_or, IfErr, IfOk, IsTrue, length};
 ghost use Rattle.module_rewrites.specs.Mutated.{IsChosen};
-ghost use Rattle.module_changes.specs.Entry.{both_of, AllTried, AreTried, IsReading};
+ghost use Rattle.module_changes.specs.Entry.{AllTried, AreTried, IsReading};
 ghost use Rattle.module_changes.specs.declared.refusal.Refusal.TheVariants.{Memory};
 
 use crate::entry::{Attempt, Reading, change_entry};
@@ -24,7 +24,7 @@ fn is_chosen(only: Option<usize>, layout: &Layout, n: usize) -> bool
     }
 }
 
-// The module with the change that the words choose in the first of these entries where they choose one that fits.
+// The module with the change that the words choose in the first of these entries where they choose one, if it fits.
 fn change_within(
     alloc: Global,
     reading: &Reading<'_>,
@@ -39,21 +39,15 @@ fn change_within(
         reading.now.layout.now words.now range.start range.end) }
     ensures memory { IfErr result (λ e. e ≡ Memory) }
 {
-    let mut large = false;
     for n in range.start..range.end {
         if is_chosen(scope.function(), reading.layout, n) {
             match change_entry(alloc, reading, scope, words, n)? {
-                Attempt::Made(made, new) => return Ok(Attempt::Made(made, new)),
-                Attempt::TooLarge => large = true,
                 Attempt::Unchanged => {}
+                attempt => return Ok(attempt),
             }
         }
     }
-    if large {
-        Ok(Attempt::TooLarge)
-    } else {
-        Ok(Attempt::Unchanged)
-    }
+    Ok(Attempt::Unchanged)
 }
 
 // The first word, or 0.
@@ -70,19 +64,8 @@ fn other_words(words: &[u64]) -> &[u64]
     if words.is_empty() { words } else { &words[1..] }
 }
 
-// What both attempts come to, where the first one made nothing.
-fn both(behind: Attempt, before: Attempt) -> Attempt
-    ensures { result ≡ both_of behind before }
-{
-    match before {
-        Attempt::Unchanged => behind,
-        Attempt::TooLarge => Attempt::TooLarge,
-        Attempt::Made(made, new) => Attempt::Made(made, new),
-    }
-}
-
 /// The module with the change that the words choose: the first one names a code entry by its size, and that is changed, or else the first
-/// one behind it, and then from the first one on, whose function may be changed and in which the words behind it choose a change that
+/// one behind it, and then from the first one on, whose function may be changed and in which the words behind it choose a change; if that
 /// fits.
 pub(crate) fn change_by_words(
     alloc: Global,
@@ -105,10 +88,8 @@ pub(crate) fn change_by_words(
     }
     let from = entry_of_word(layout, first_word(words));
     let rest = other_words(words);
-    let behind = change_within(alloc, reading, scope, rest, from..count)?;
-    if let Attempt::Made(made, new) = behind {
-        return Ok(Attempt::Made(made, new));
+    match change_within(alloc, reading, scope, rest, from..count)? {
+        Attempt::Unchanged => change_within(alloc, reading, scope, rest, 0..from),
+        attempt => Ok(attempt),
     }
-    let before = change_within(alloc, reading, scope, rest, 0..from)?;
-    Ok(both(behind, before))
 }

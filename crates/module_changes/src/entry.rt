@@ -6,7 +6,6 @@ ghost use Rattle.body_changes.specs.Replacing.{context_of};
 ghost use Rattle.body_splices.specs.OwnBytes.{IsBodyIn};
 ghost use Rattle.body_changes.specs.Chosen.{ChangesNone};
 ghost use Rattle.wasm_module.specs.Rewritten.{IsRewritten};
-ghost use Rattle.wasm_module.specs.Module.{IsModule};
 ghost use Rattle.module_rewrites.specs.Function.{IsFunction};
 ghost use Rattle.module_rewrites.specs.Mutated.{IsBehindLocals};
 ghost use Rattle.module_changes.specs.Changed.{WritesCode};

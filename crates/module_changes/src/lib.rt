@@ -9,9 +9,11 @@ pub mod laws;
 mod refusal;
 mod scope;
 mod times;
+mod watch;
 mod words;
 
 pub use entry::MadeChange;
 pub use refusal::Refusal;
 pub use scope::Scope;
 pub use times::{ChangedModule, change_module};
+pub use watch::{Unwatched, Watch};

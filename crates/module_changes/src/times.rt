@@ -1,15 +1,17 @@
 //! A module changed several times, one change after another.
-ghost use Rattle.std.specs.Prelude.{◌≡◌, ◌<◌, ◌≤◌, IfErr, IfOk, length};
+ghost use Rattle.std.specs.Prelude.{◌≡◌, ◌<◌, ◌≤◌, ◌++◌, ◌∷◌, [], Some, IfErr, IfOk, OnErr, OnOk, length};
 ghost use Rattle.module_changes.specs.Times.{ChangesTimes, ChoosesEach, IsRefusal};
 ghost use Rattle.module_changes.specs.Valid.{StaysValidModule};
+ghost use Rattle.module_changes.specs.Watched.{SeesAll};
 
-use crate::attempt::change_once;
+use crate::attempt::{Step, change_once};
 use crate::entry::MadeChange;
 use crate::laws::changed_modules_stay_valid;
 use crate::refusal::Refusal;
 use crate::scope::Scope;
+use crate::watch::Watch;
 use rand_core::Rng;
-use std::alloc::Global;
+use std::alloc::{AllocError, Global};
 
 /// A module that was changed once or more.
 #[derive(Drop)]
@@ -22,6 +24,38 @@ pub struct ChangedModule {
     pub stopped: Option<Refusal>,
 }
 
+// One change more: it is put into the list, and then shown.
+fn add_made<W: Watch>(
+    alloc: Global,
+    made: &mut Vec<MadeChange>,
+    old: &[u8],
+    step: &Step,
+    watch: &mut W,
+) -> Result<(), AllocError>
+    ensures added { OnOk result (made.new.items ≡ made.old.items ++ step.now.made ∷ []) }
+    ensures restored { OnErr result (made.new.items ≡ made.old.items) }
+    ensures seen { OnOk result (W.saw watch.old old.now step.now.bytes.items step.now.made
+        watch.new) }
+    ensures unseen { OnErr result (watch.new ≡ watch.old) }
+{
+    made.push(step.made)?;
+    watch.see(alloc, old, &step.bytes, step.made);
+    Ok(())
+}
+
+// The module as the changes so far left it, and why no further one was made.
+fn stopped(module: ChangedModule, refusal: Refusal) -> ChangedModule
+    ensures made { result.made ≡ module.made }
+    ensures bytes { result.bytes ≡ module.bytes }
+    ensures stopped { result.stopped ≡ Some refusal }
+{
+    ChangedModule {
+        bytes: module.bytes,
+        made: module.made,
+        stopped: Some(refusal),
+    }
+}
+
 /// The module changed `count` times, with the generator going on from change to change: each of the module that the last one left. Fewer
 /// times only where a further change is refused: `stopped` says why. Or why nothing of it is changed. Conditions: `count` is not 0, and
 /// code that is drawn may have 1 to 1,000 instructions.
@@ -32,21 +66,24 @@ pub struct ChangedModule {
 ///
 /// A change takes 3 words, and 3 for each instruction that may be drawn. The first one, modulo the number of bytes that all code entries
 /// contain, names one of these bytes, and so the function whose entry contains it; the next one the change, the one behind it the
-/// operator, and the others the code, as `change_of_words` has them. Where nothing can be changed there that fits, the functions behind
-/// it are tried by the same words, and then those before it. Where changes are made and none fits, words are drawn again, at most 16
-/// times in all. So equal modules, generators, scopes and counts give equal bytes.
+/// operator, and the others the code, as `change_of_words` has them. Where no change makes anything there, the functions behind it are
+/// tried by the same words, and then those before it. Where the change that is made doesn't fit, words are drawn again, at most 16 times
+/// in all. So equal modules, generators, scopes and counts give equal bytes.
 ///
-/// It takes time linear in the module for each change, and by the functions that are tried.
+/// Each change is shown to the watcher once it stands in `made`; one for which no memory was left there is not shown.
+///
+/// It takes time linear in the module for each change, each time that words are drawn.
 ///
 /// `Read` as `read_module` refuses; `NoFunction` and `UnknownImport` as `chosen_entries` does; `NoChange` only where no change makes
 /// anything by the words that were drawn, in any function that may be changed and can be read: no change but copies, whatever the words;
-/// `TooLarge` only where those that were chosen don't fit; `Memory` for want of memory.
-pub fn change_module<R: Rng>(
+/// `TooLarge` only where sixteen times the words choose one that doesn't fit; `Memory` for want of memory.
+pub fn change_module<R: Rng, W: Watch>(
     alloc: Global,
     bytes: &[u8],
     generator: &mut R,
     scope: &Scope<'_>,
     count: usize,
+    watch: &mut W,
 ) -> Result<ChangedModule, Refusal>
     requires some { 0 < count }
     requires most { (0 < scope.now.most) × (scope.now.most ≤ 1000) }
@@ -59,30 +96,30 @@ pub fn change_module<R: Rng>(
     ensures goes_on { IfOk result (λ m. length m.made.items ≡ count → ChoosesEach scope.now
         bytes.now (R.stream generator.old) m.made.items m.bytes.items (R.stream generator.new)) }
     ensures fails { IfErr result (IsRefusal scope.now bytes.now (R.stream generator.old)) }
+    // Each change that is made is seen, once and in order, between the bytes before it and those with it.
+    ensures seen { IfOk result (λ m. SeesAll W.saw scope.now bytes.now (R.stream generator.old)
+        m.made.items m.bytes.items watch.old watch.new) }
+    // Nothing is seen where none is made.
+    ensures unseen { OnErr result (watch.new ≡ watch.old) }
 {
     changed_modules_stay_valid();
     let first = change_once(alloc, bytes, generator, scope)?;
     let mut made = Vec::new(alloc);
-    made.push(first.made)?;
+    add_made(alloc, &mut made, bytes, &first, watch)?;
     let mut module = ChangedModule {
         bytes: first.bytes,
         made,
         stopped: None,
     };
     'changes: for _ in 1..count {
-        match change_once(alloc, &module.bytes, generator, scope) {
-            Ok(next) => {
-                if module.made.push(next.made).is_err() {
-                    module.stopped = Some(Refusal::Memory);
-                    return Ok(module);
-                }
-                module.bytes = next.bytes;
-            }
-            Err(refusal) => {
-                module.stopped = Some(refusal);
-                return Ok(module);
-            }
+        let next = match change_once(alloc, &module.bytes, generator, scope) {
+            Ok(next) => next,
+            Err(refusal) => return Ok(stopped(module, refusal)),
+        };
+        if add_made(alloc, &mut module.made, &module.bytes, &next, watch).is_err() {
+            return Ok(stopped(module, Refusal::Memory));
         }
+        module.bytes = next.bytes;
     }
     Ok(module)
 }

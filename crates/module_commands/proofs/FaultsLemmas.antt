@@ -1,5 +1,5 @@
 -- What is told of functions that can be read, and of those that can't; why no list is written.
-use Rattle.std.proofs.Common.{◌≡◌, ℕ, suc, ◌+◌, ◌<◌, List, [], ◌∷◌, ◌++◌, length, take, get_or, Option, refl, sym, ap, ◌∙◌, subst, append_assoc, append-nil, arith}
+use Rattle.std.proofs.Common.{◌≡◌, ℕ, suc, ◌+◌, ◌<◌, List, [], ◌∷◌, ◌++◌, length, take, get_or, Option, inr, refl, sym, ap, ◌∙◌, subst, append_assoc, append-nil, arith}
 use Rattle.std.specs.Prelude.{◌^◌}
 use Rattle.std.proofs.lemmas.List.{take_more}
 use Rattle.std.specs.Io.KnownBytes.{Appends}
@@ -7,6 +7,10 @@ use Rattle.wasm_code.specs.declared.operator.Operator.{Operator}
 use Rattle.wasm_types.specs.Module.{Module}
 use Rattle.wasm_types.specs.declared.types.PrimitiveTypeInfo.{PrimitiveTypeInfo}
 use Rattle.wasm_module.specs.Module.{Layout, IsModule}
+use Rattle.module_changes.specs.Scope.{Scope}
+use Rattle.module_changes.specs.Times.{IsRefusal}
+use Rattle.module_changes.specs.declared.refusal.Refusal.{Refusal}
+use Rattle.module_changes.specs.declared.refusal.Refusal.TheVariants as refusals
 use Rattle.module_rewrites.specs.Attempt.{IsKnownFault, RefusesIndex}
 use Rattle.module_rewrites.specs.Function.{IsFunction}
 use Rattle.module_rewrites.specs.declared.attempt.Reason.{Reason}
@@ -14,16 +18,19 @@ use Rattle.module_rewrites.specs.declared.attempt.Reason.TheVariants.{NoRule, No
 use Rattle.module_rewrites.specs.declared.function.FunctionError.{FunctionError}
 use Rattle.module_rewrites.specs.declared.times.MadeRewrite.{MadeRewrite}
 use Rattle.module_commands.specs.Blocks.{TellsBlock, TellsBlocks, TellsFault}
-use Rattle.module_commands.specs.Failures.{FailsAtTask, FailsToDo, FailsToList, FailsToRead, FailsToReport, IsNoOther, IsReasonToListNone}
+use Rattle.module_rewrites.specs.Seeded.{seeded}
+use Rattle.module_commands.specs.Changing.{failure_by}
+use Rattle.module_commands.specs.Scope.{change_scope_of}
+use Rattle.module_commands.specs.Failures.{FailsAtTask, FailsToChange, FailsToDo, FailsToInform, FailsToList, FailsToRead, FailsToReport, IsNoOther, IsReasonToListNone}
 use Rattle.module_commands.specs.Lines.{rewrite_line}
 use Rattle.module_commands.specs.Lists.{InTurn}
 use Rattle.module_commands.specs.Reports.{TellsIfUnread, TellsUnreadable, made_lines}
 use Rattle.module_commands.specs.declared.failure.Failure.{Failure}
-use Rattle.module_commands.specs.declared.failure.Failure.TheVariants.{Nothing, Input, TooLong, Component, TextFormat, SharedMemory, Output, Memory}
+use Rattle.module_commands.specs.declared.failure.Failure.TheVariants.{Nothing, Unchanged, Input, TooLong, Component, TextFormat, SharedMemory, Output, Memory}
 use Rattle.module_commands.specs.declared.form.Form.{Form}
 use Rattle.module_commands.specs.declared.options.Options.{Options}
 use Rattle.module_commands.specs.declared.options.Task.{Task}
-use Rattle.module_commands.specs.declared.options.Task.TheVariants.{Rewrite, List as Lists, Blocks, Rules}
+use Rattle.module_commands.specs.declared.options.Task.TheVariants.{Rewrite, Change, List as Lists, Blocks, Rules, Changes}
 use Rattle.module_commands.proofs.TurnLemmas.{appends_more}
 
 abbrev Types : Type 0
@@ -91,6 +98,7 @@ read_fails only bytes (Nothing (Unreadable e)) h = absurd h
 read_fails only bytes (Nothing (NoFunction f)) h = absurd h
 read_fails only bytes (Nothing (UnknownImport e)) h = absurd h
 read_fails only bytes (Nothing (Refused e)) h = h
+read_fails only bytes (Unchanged refusal) h = absurd h
 read_fails only bytes Input h = absurd h
 read_fails only bytes TooLong h = absurd h
 read_fails only bytes Component h = absurd h
@@ -115,28 +123,38 @@ index_fails only bytes info layout e reason is h because = subst (FailsToList on
 pub task_fails : (task : Task) (options : Options) (bytes : List ℕ) (e : Failure) → IsNoOther bytes → FailsAtTask task options bytes e →
     FailsToDo task options bytes e
 task_fails task options bytes (Nothing reason) none h = (none, h)
+task_fails task options bytes (Unchanged refusal) none h = (none, h)
 task_fails task options bytes Input none h = tt
 task_fails Rewrite options bytes TooLong none h = absurd h
+task_fails Change options bytes TooLong none h = absurd h
 task_fails Lists options bytes TooLong none h = absurd h
 task_fails Blocks options bytes TooLong none h = absurd h
 task_fails (Rules form) options bytes TooLong none h = absurd h
+task_fails Changes options bytes TooLong none h = absurd h
 task_fails Rewrite options bytes Component none h = absurd h
+task_fails Change options bytes Component none h = absurd h
 task_fails Lists options bytes Component none h = absurd h
 task_fails Blocks options bytes Component none h = absurd h
 task_fails (Rules form) options bytes Component none h = absurd h
+task_fails Changes options bytes Component none h = absurd h
 task_fails Rewrite options bytes TextFormat none h = absurd h
+task_fails Change options bytes TextFormat none h = absurd h
 task_fails Lists options bytes TextFormat none h = absurd h
 task_fails Blocks options bytes TextFormat none h = absurd h
 task_fails (Rules form) options bytes TextFormat none h = absurd h
+task_fails Changes options bytes TextFormat none h = absurd h
 task_fails Rewrite options bytes SharedMemory none h = absurd h
+task_fails Change options bytes SharedMemory none h = absurd h
 task_fails Lists options bytes SharedMemory none h = absurd h
 task_fails Blocks options bytes SharedMemory none h = absurd h
 task_fails (Rules form) options bytes SharedMemory none h = absurd h
+task_fails Changes options bytes SharedMemory none h = absurd h
 task_fails task options bytes Output none h = h
 task_fails task options bytes Memory none h = h
 
 pub report_fails : (only : Option ℕ) (bytes : List ℕ) (e : Failure) → FailsToReport e → FailsToList only bytes e
 report_fails only bytes (Nothing reason) h = absurd h
+report_fails only bytes (Unchanged refusal) h = absurd h
 report_fails only bytes Input h = absurd h
 report_fails only bytes TooLong h = absurd h
 report_fails only bytes Component h = absurd h
@@ -144,3 +162,29 @@ report_fails only bytes TextFormat h = absurd h
 report_fails only bytes SharedMemory h = absurd h
 report_fails only bytes Output h = tt
 report_fails only bytes Memory h = tt
+
+-- the module isn't told of before it is changed
+pub informing_fails : (options : Options) (bytes : List ℕ) (e : Failure) → FailsToInform bytes e → FailsToChange options bytes e
+informing_fails options bytes (Nothing reason) h = inr h
+informing_fails options bytes (Unchanged refusal) h = absurd h
+informing_fails options bytes Input h = absurd h
+informing_fails options bytes TooLong h = absurd h
+informing_fails options bytes Component h = absurd h
+informing_fails options bytes TextFormat h = absurd h
+informing_fails options bytes SharedMemory h = absurd h
+informing_fails options bytes Output h = tt
+informing_fails options bytes Memory h = tt
+
+-- nothing of the module is changed
+pub changing_fails : (options : Options) (scope : Scope) (bytes : List ℕ) (refusal : Refusal) (failure : Failure) → scope ≡ change_scope_of options →
+    failure ≡ failure_by refusal → IsRefusal scope bytes (seeded options.seed) refusal → FailsToChange options bytes failure
+changing_fails options scope bytes refusal failure is failure_is h =
+    subst (FailsToChange options bytes) (sym failure_is) (by refusal (subst (λ (s : Scope). IsRefusal s bytes (seeded options.seed) refusal) is h))
+  where
+    by : (r : Refusal) → IsRefusal (change_scope_of options) bytes (seeded options.seed) r → FailsToChange options bytes (failure_by r)
+    by (refusals.Read e) h = (λ same. absurd cc, h)
+    by (refusals.NoFunction f) h = (λ same. absurd cc, h)
+    by (refusals.UnknownImport e) h = (λ same. absurd cc, h)
+    by refusals.NoChange h = (λ same. absurd cc, h)
+    by refusals.TooLarge h = (λ same. absurd cc, h)
+    by refusals.Memory h = tt

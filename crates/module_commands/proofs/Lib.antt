@@ -11,3 +11,5 @@ pub mod FamiliesLemmas
 pub mod ReachLemmas
 pub mod ShownLemmas
 pub mod OutcomeLemmas
+pub mod LinesLemmas
+pub mod ChangeShownLemmas

@@ -1,14 +1,14 @@
 -- What the getters of clap's matches read.
-use Rattle.std.proofs.Common.{◌≡◌, ◌≢◌, ◌⊎◌, ◌<◌, ◌≤◌, ℕ, Bool, true, false, List, [], ◌∷◌, ◌++◌, ◌+◌, map, take, length, get_or, Option, Some, None, Result, Ok, Err, refl, sym, ap, ap₂, ◌∙◌, subst, inl, inr, arith}
+use Rattle.std.proofs.Common.{◌≡◌, ◌≢◌, ◌⊎◌, ◌<◌, ℕ, Bool, true, false, List, [], ◌∷◌, ◌++◌, ◌+◌, map, take, length, get_or, Option, Some, None, Result, Ok, Err, refl, sym, ap, ap₂, ◌∙◌, subst, inl, inr}
 use Rattle.std.specs.Prelude.{◌^◌, ◌↔◌, IfSome, IsTrue, codes, option_and_then, option_map, slice_get, unwrap_or}
 use Rattle.std.specs.Borrow.{Bor}
 use Rattle.std.specs.Option.{option_map_or}
 use Rattle.std.specs.Str.{bytes_eq}
 use Rattle.std.specs.Str.Parse.{ParsesBool, ParsesUnsigned, false_text, true_text}
-use Rattle.std.proofs.lemmas.Bool.{both_ways, cases_eq, false≢true, true≢false}
+use Rattle.std.proofs.lemmas.Bool.{both_ways, true≢false}
 use Rattle.std.proofs.lemmas.List.{get_or-map, length-map, map-append, map_more, take_more}
 use Rattle.std.proofs.lemmas.List.Folds.{list_any_at}
-use Rattle.std.proofs.lemmas.Option.{same_Some, slice_get-get_or, slice_get-map, slice_get_cases}
+use Rattle.std.proofs.lemmas.Option.{slice_get-get_or, slice_get-map}
 use Rattle.std.proofs.lemmas.Slice.Eq.{bytes_eq-Decides}
 use Rattle.clap.specs.Faults.{fault_of, is_simple_and_free}
 use Rattle.clap.specs.Kinds.{HasKind, IsAmong}
@@ -22,28 +22,14 @@ use Rattle.clap.specs.declared.parser.matches.MatchedArg.{MatchedArg}
 use Rattle.clap.specs.declared.error.Error.{Error}
 use Rattle.clap.specs.declared.error.kind.ErrorKind.{ErrorKind}
 use Rattle.clap.specs.declared.parser.matches.ArgMatches.{ArgMatches}
-use Rattle.peephole_machine.specs.declared.integer.IntegerType.{IntegerType}
-use Rattle.peephole_machine.specs.declared.integer.IntegerType.TheVariants as integer
 use Rattle.module_rewrites.specs.declared.dose.Dose.{Dose}
 use Rattle.module_rewrites.specs.declared.dose.Dose.TheVariants.{Times}
-use Rattle.rewrite_rules.specs.Applying.{IsFormed}
-use Rattle.rewrite_rules.specs.Growing.{GrowsAs, shown}
-use Rattle.rewrite_rules.specs.Growth.{shrinks}
-use Rattle.rewrite_rules.specs.Laws.{TableIsRight}
-use Rattle.rewrite_rules.specs.Names.{rule_of}
-use Rattle.rewrite_rules.specs.Rule.{rule_name, rule_number}
-use Rattle.rewrite_rules.specs.Table.{ROWS, line_of, widths_in}
-use Rattle.rewrite_rules.specs.declared.growth.Growth.{Growth}
-use Rattle.rewrite_rules.specs.declared.growth.Growth.TheVariants.{Shrinks, Keeps, Grows}
+use Rattle.rewrite_rules.specs.Rule.{rule_name}
 use Rattle.rewrite_rules.specs.declared.rule.Rule.{Rule}
-use Rattle.rewrite_rules.specs.declared.table.Own as beside
-use Rattle.rewrite_rules.specs.declared.table.Row.{Row as TableRow}
-use Rattle.rewrite_rules.specs.declared.table.Widths.{Widths}
-use Rattle.rewrite_rules.specs.declared.table.Widths.TheVariants.{Both, Only, Any, Own}
-use Rattle.body_rewrites.specs.Listing.{AreThose, IsOfRule}
+use Rattle.body_rewrites.specs.Listing.{AreThose}
 use Rattle.body_rewrites.specs.ThoseLemmas.{those_with, those_without}
 use Rattle.module_commands.specs.Arguments.{command_line}
-use Rattle.module_commands.specs.Options.{AreMisused, AreNamed, AreOptions, AreRefused, AreRules, IsNumberOf, IsWanted, NamesNone, SayOptions, WritesSeed, first_of, is_named, kind_for, names_or_none, IsDoseOf, IsPercentageOf, WritesDose, WritesPercentage}
+use Rattle.module_commands.specs.Options.{spelled, AreMisused, AreNamed, AreOptions, AreRefused, AreRules, IsNumberOf, IsWanted, NamesNone, SayOptions, WritesSeed, first_of, is_named, kind_for, names_or_none, IsDoseOf, IsPercentageOf, WritesDose, WritesPercentage}
 use Rattle.module_commands.specs.Options.WritesDose.{as_number, as_percentage, as_each}
 use Rattle.module_commands.specs.Options.WritesSeed.{in_hexadecimal}
 use Rattle.module_commands.specs.Options.AreRefused.{by_matches, by_memory, by_words}
@@ -221,3 +207,16 @@ pub dose_otherwise : (text : Text) (e : Text) (found : Option Dose) → bytes_eq
     ParsesUnsigned {E = Text} 64 10 text (Err e) → IsPercentageOf text found → IsDoseOf text found
 dose_otherwise text e (Some dose) other fails is = as_percentage is
 dose_otherwise text e None other fails is = writes_none text e other fails is
+
+-- one word more as clap reads it
+pub spelled_more : {S : Type 0} (text : S → Text) (words : List S) (i : ℕ) (d x : S) (ws next : List (Bor Text)) (w : Bor Text) → i < length words →
+    x ≡ get_or words i d → texts ws ≡ map spelled (map text (take i words)) → w.now ≡ spelled (text x) → next ≡ ws ++ w ∷ [] →
+    texts next ≡ map spelled (map text (take (i + 1) words))
+spelled_more {S} text words i d x ws next w l x_is h named is =
+    ap texts is ∙ (map-append (λ (s : Bor Text). s.now) ws (w ∷ [])
+    ∙ (ap₂ (λ (front : List Text) (word : Text). front ++ word ∷ []) h (named ∙ ap (λ (y : S). spelled (text y)) x_is)
+    ∙ sym (ap (map spelled) (map_more text words i d l) ∙ map-append spelled (map text (take i words)) (text (get_or words i d) ∷ []))))
+
+-- why they say no options
+pub refused_as : (app : App) (ws vs : List Text) (kind : ErrorKind) → ws ≡ vs → AreRefused app ws kind → AreRefused app vs kind
+refused_as app ws vs kind e h = subst (λ (xs : List Text). AreRefused app xs kind) e h

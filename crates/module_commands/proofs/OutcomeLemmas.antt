@@ -1,5 +1,5 @@
 -- What is written of a module, rewritten or as it is.
-use Rattle.std.proofs.Common.{◌≡◌, ℕ, List, [], Bool, true, false, Option, None, inl, inr, refl, sym, subst}
+use Rattle.std.proofs.Common.{◌≡◌, ℕ, List, [], Bool, true, false, Option, inl, inr, refl, sym, subst}
 use Rattle.module_rewrites.specs.Attempt.{IsForSize, IsReason}
 use Rattle.module_rewrites.specs.Chosen.{GivesUp}
 use Rattle.module_rewrites.specs.ChosenTimes.{ChoosesTimes}

@@ -46,6 +46,13 @@ rules_rule = record (texted (codes "list-rules")) {
   missing = codes "text" ∷ [];
 }
 
+-- by which change the module is changed: a text, `any` where none is given
+abbrev pub change_rule : Rule
+change_rule = record (texted (codes "change")) {
+  range = Some (record { start_inclusive = 0; end_inclusive = 1 });
+  missing = codes "any" ∷ [];
+}
+
 -- an option `--name` that has one of these names at each use
 abbrev pub naming : (name : Text) → (names : Bor (List (Bor Text))) → Rule
 naming name names = record (valued name (Names names)) { action = Some Append }
@@ -55,7 +62,8 @@ abbrev pub arguments : (names : Bor (List (Bor Text))) → List Rule
 arguments names =
     input_rule ∷ output_rule ∷ seed_rule ∷ count_rule ∷ valued (codes "function") number ∷ naming (codes "rule") names
     ∷ naming (codes "not-rule") names ∷ flag (codes "shrink") ∷ flag (codes "exact") ∷ valued (codes "max-size") number
-    ∷ flag (codes "list") ∷ flag (codes "blocks") ∷ rules_rule ∷ flag (codes "stats") ∷ flag (codes "reach") ∷ flag (codes "json") ∷ flag (codes "show")
+    ∷ flag (codes "list") ∷ flag (codes "blocks") ∷ rules_rule ∷ change_rule ∷ flag (codes "list-changes")
+    ∷ flag (codes "stats") ∷ flag (codes "reach") ∷ flag (codes "json") ∷ flag (codes "show")
     ∷ flag (codes "strip-debug") ∷ flag (codes "quiet") ∷ []
 
 -- The command line, where the rules have these names.

@@ -1,23 +1,26 @@
 -- Why a run has no success (this project).
-use Rattle.std.specs.Prelude.{◌≡◌, ℕ, ◌<◌, nat_le, ◌&&◌, Bool, true, false, List, length, Option, IfSome}
+use Rattle.std.specs.Prelude.{◌≡◌, ◌≢◌, ◌⊎◌, ℕ, ◌<◌, nat_le, ◌&&◌, Bool, true, false, List, length, Option, IfSome}
 use Rattle.std.specs.List.{list_any}
 use Rattle.wasm_types.specs.Module.{Module}
 use Rattle.wasm_types.specs.declared.types.MemoryType.{MemoryType}
 use Rattle.wasm_module.specs.Fault.{IsModuleFault}
 use Rattle.wasm_module.specs.Module.{Layout, IsModule}
+use Rattle.module_changes.specs.Times.{IsRefusal}
+use Rattle.module_changes.specs.declared.refusal.Refusal.TheVariants as refusals
 use Rattle.module_rewrites.specs.Attempt.{IsForSize, IsReason, RefusesIndexOf}
 use Rattle.module_rewrites.specs.Chosen.{GivesUp}
+use Rattle.module_rewrites.specs.Dose.{IsOfReading}
 use Rattle.module_rewrites.specs.Seeded.{seeded}
 use Rattle.module_rewrites.specs.declared.attempt.Reason.{Reason}
 use Rattle.module_rewrites.specs.declared.attempt.Reason.TheVariants.{NoRule, NoOwnFunction, Unreadable, NoFunction, UnknownImport, Refused}
 use Rattle.module_rewrites.specs.declared.mutation.MutationError.TheVariants.{Read, NotSmaller}
 use Rattle.module_commands.specs.Front.{is_component, is_text}
-use Rattle.module_commands.specs.Scope.{scope_of}
+use Rattle.module_commands.specs.Scope.{change_scope_of, scope_of}
 use Rattle.module_commands.specs.declared.failure.Failure.{Failure}
-use Rattle.module_commands.specs.declared.failure.Failure.TheVariants.{Nothing, Input, TooLong, Component, TextFormat, SharedMemory, Output, Memory}
+use Rattle.module_commands.specs.declared.failure.Failure.TheVariants.{Nothing, Unchanged, Input, TooLong, Component, TextFormat, SharedMemory, Output, Memory}
 use Rattle.module_commands.specs.declared.options.Options.{Options}
 use Rattle.module_commands.specs.declared.options.Task.{Task}
-use Rattle.module_commands.specs.declared.options.Task.TheVariants.{Rewrite, List as Lists, Blocks, Rules}
+use Rattle.module_commands.specs.declared.options.Task.TheVariants.{Rewrite, Change, List as Lists, Blocks, Rules, Changes}
 
 -- threads share one of the memories
 abbrev pub is_any_shared : List MemoryType → Bool
@@ -76,6 +79,18 @@ abbrev pub FailsToRewrite : Options → (bytes : List ℕ) → Failure → Type 
 FailsToRewrite options bytes (Nothing reason) = IsReasonFor options bytes reason
 FailsToRewrite options bytes e = FailsToReport e
 
+-- how many changes are wanted of the module isn't known, or what is told of it before, since it can't be read
+abbrev pub IsReasonToChangeNone : Options → (bytes : List ℕ) → Reason → Type 0
+IsReasonToChangeNone options bytes reason = (IsReason (scope_of options) bytes reason × IsOfReading reason) ⊎ FailsToRead bytes (Nothing reason)
+
+-- The module isn't written changed: for such a reason, for the one why none of the changes is made, as the seed chooses them, or as reporting or writing
+-- fails.
+abbrev pub FailsToChange : Options → (bytes : List ℕ) → Failure → Type 0
+FailsToChange options bytes (Nothing reason) = IsReasonToChangeNone options bytes reason
+FailsToChange options bytes (Unchanged refusal) =
+    (refusal ≢ refusals.Memory) × IsRefusal (change_scope_of options) bytes (seeded options.seed) refusal
+FailsToChange options bytes e = FailsToReport e
+
 -- why nothing is listed: no function is looked at, or the module can't be read
 abbrev pub IsReasonToListNone : (only : Option ℕ) → (bytes : List ℕ) → Reason → Type 0
 IsReasonToListNone only bytes NoRule = ⊥
@@ -93,9 +108,11 @@ FailsToList only bytes e = FailsToReport e
 -- what a run was asked for isn't done with the bytes that were read
 abbrev pub FailsAtTask : Task → Options → (bytes : List ℕ) → Failure → Type 0
 FailsAtTask Rewrite options bytes e = FailsToRewrite options bytes e
+FailsAtTask Change options bytes e = FailsToChange options bytes e
 FailsAtTask Lists options bytes e = FailsToList options.function bytes e
 FailsAtTask Blocks options bytes e = FailsToList options.function bytes e
 FailsAtTask (Rules form) options bytes e = FailsToReport e
+FailsAtTask Changes options bytes e = FailsToReport e
 
 -- Threads share a memory of the module with these bytes, what runs which is to be exact.
 pub record SharesMemory (bytes : List ℕ) : Type 0 where
@@ -134,7 +151,14 @@ IsNoOther bytes = (is_component bytes ≡ false) × (is_text bytes ≡ false)
 -- the task is one with a module
 abbrev pub TakesModule : Task → Type 0
 TakesModule (Rules form) = ⊥
+TakesModule Changes = ⊥
 TakesModule task = Unit {0}
+
+-- it writes a module
+abbrev pub WritesModule : Task → Type 0
+WritesModule Rewrite = Unit {0}
+WritesModule Change = Unit {0}
+WritesModule task = ⊥
 
 -- A run fails: as the input isn't read, since it is a component or a text, as what runs it is to be exact and threads share a memory of it, or as its task fails;
 -- for a reason of the module only where it is neither.
@@ -145,4 +169,5 @@ FailsToDo task options bytes Component = is_component bytes ≡ true
 FailsToDo task options bytes TextFormat = is_text bytes ≡ true
 FailsToDo task options bytes SharedMemory = (options.exact ≡ true) × SharesMemory bytes
 FailsToDo task options bytes (Nothing reason) = IsNoOther bytes × FailsAtTask task options bytes (Nothing reason)
+FailsToDo task options bytes (Unchanged refusal) = IsNoOther bytes × FailsAtTask task options bytes (Unchanged refusal)
 FailsToDo task options bytes e = FailsAtTask task options bytes e

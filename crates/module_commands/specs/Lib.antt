@@ -1,5 +1,7 @@
 pub mod Arguments
 pub mod Blocks
+pub mod Changes
+pub mod Changing
 pub mod Ending
 pub mod Failures
 pub mod Families

@@ -1,5 +1,5 @@
 -- The options that the matches of a command line are (this project).
-use Rattle.std.specs.Prelude.{◌≡◌, ◌≢◌, ◌<◌, ◌^◌, ◌&&◌, ◌||◌, ℕ, Bool, true, false, List, [], ◌++◌, map, slice_get, codes, Option, Some, None, is_some, option_and_then, option_map, string_bytes, unwrap_or, not, IfSome, if◌then◌else◌}
+use Rattle.std.specs.Prelude.{◌≡◌, ◌≢◌, ◌⊎◌, ◌∷◌, ◌<◌, ◌^◌, ◌&&◌, ◌||◌, ℕ, Bool, true, false, List, [], ◌++◌, map, slice_get, codes, Option, Some, None, is_some, option_and_then, option_map, string_bytes, unwrap_or, not, IfSome, if◌then◌else◌}
 use Rattle.std.specs.List.{list_any}
 use Rattle.std.specs.Option.{option_map_or}
 use Rattle.std.specs.Str.{bytes_eq}
@@ -10,6 +10,9 @@ use Rattle.clap.specs.Kinds.{IsAmong}
 use Rattle.clap.specs.Faults.{fault_of}
 use Rattle.clap.specs.declared.error.kind.ErrorKind.{ErrorKind}
 use Rattle.clap.specs.declared.error.kind.ErrorKind.TheVariants.{ArgumentConflict, InvalidValue, MissingRequiredArgument, OutOfMemory, ValueValidation}
+use Rattle.body_changes.specs.Change.{change_name}
+use Rattle.body_changes.specs.declared.change.Change.{Change}
+use Rattle.body_changes.specs.declared.change.TheConstants.{CHANGES}
 use Rattle.rewrite_rules.specs.Rule.{AreAllRules, rule_name}
 use Rattle.rewrite_rules.specs.declared.rule.Rule.{Rule}
 use Rattle.body_rewrites.specs.Listing.{AreThose}
@@ -19,10 +22,10 @@ use Rattle.module_rewrites.specs.declared.dose.Dose.TheVariants.{Times, Percent}
 use Rattle.module_commands.specs.Front.{begins_with}
 use Rattle.module_commands.specs.declared.options.Flags.{Flags}
 use Rattle.module_commands.specs.declared.options.Misuse.{Misuse}
-use Rattle.module_commands.specs.declared.options.Misuse.TheVariants.{Conflict, Ignored, NothingToTell, Plus, NoSeed, NoCount, NoForm, UnknownRule, Memory}
+use Rattle.module_commands.specs.declared.options.Misuse.TheVariants.{Conflict, Ignored, NothingToTell, Plus, NoSeed, NoCount, NoForm, UnknownRule, UnknownChange, Memory}
 use Rattle.module_commands.specs.declared.options.Options.{Options}
 use Rattle.module_commands.specs.declared.options.Task.{Task}
-use Rattle.module_commands.specs.declared.options.Task.TheVariants.{Rewrite, List as Lists, Blocks, Rules}
+use Rattle.module_commands.specs.declared.options.Task.TheVariants.{Rewrite, Change as Changed, List as Lists, Blocks, Rules, Changes}
 use Rattle.rule_listing.specs.declared.form.Form.{Form}
 use Rattle.rule_listing.specs.declared.form.Form.TheVariants.{Text as AsText, Json, Markdown}
 
@@ -46,6 +49,8 @@ flags_of rows = record {
   list = is_set (codes "list") rows;
   blocks = is_set (codes "blocks") rows;
   rules = is_given (codes "list-rules") rows;
+  change = is_given (codes "change") rows;
+  changes = is_set (codes "list-changes") rows;
   stats = is_set (codes "stats") rows;
   reach = is_set (codes "reach") rows;
   json = is_set (codes "json") rows;
@@ -54,9 +59,10 @@ flags_of rows = record {
   quiet = is_set (codes "quiet") rows;
 }
 
--- what the program does with a module: where neither list nor blocks are asked for, it rewrites
+-- what the program does, but for the list of the rules: where neither a list nor changes are asked for, it rewrites
 abbrev pub module_task : Flags → Task
-module_task flags = if flags.list then Lists else if flags.blocks then Blocks else Rewrite
+module_task flags =
+    if flags.list then Lists else if flags.blocks then Blocks else if flags.changes then Changes else if flags.change then Changed else Rewrite
 
 -- the form with that name
 abbrev pub form_named : Text → Option Form
@@ -69,15 +75,16 @@ abbrev pub task_of : Flags → (form : Option Text) → Option Task
 task_of flags None = Some (module_task flags)
 task_of flags (Some name) = option_map Rules (form_named name)
 
--- they ask for two tasks, or for something of a module that is written where none is
+-- they ask for two tasks, for something of a module that is written where none is, or for the rules' reach where it is changed
 abbrev pub exclude : Flags → Bool
 exclude flags =
-    (flags.list && flags.blocks) || (flags.rules && (flags.list || flags.blocks))
-    || ((flags.stats || flags.reach || flags.show || flags.strip_debug) && (flags.list || flags.blocks || flags.rules))
+    (flags.list && flags.blocks) || (flags.rules && flags.changes) || ((flags.rules || flags.changes) && (flags.list || flags.blocks))
+    || (flags.change && (flags.list || flags.blocks || flags.rules || flags.changes || flags.reach))
+    || ((flags.stats || flags.reach || flags.show || flags.strip_debug) && (flags.list || flags.blocks || flags.rules || flags.changes))
 
 -- they ask for JSON, and for nothing that is written in it
 abbrev pub tell_nothing : Flags → Bool
-tell_nothing flags = flags.json && not (flags.rules || flags.list || flags.blocks || flags.stats || flags.reach)
+tell_nothing flags = flags.json && not (flags.rules || flags.changes || flags.list || flags.blocks || flags.stats || flags.reach)
 
 -- a report is asked for
 abbrev pub reports : Flags → Bool
@@ -121,16 +128,17 @@ abbrev pub choose_rules : List Row → Bool
 choose_rules rows =
     is_given (codes "rule") rows || is_given (codes "not-rule") rows || is_set (codes "shrink") rows || is_set (codes "exact") rows
 
--- what is of one module, or says how what is told of it is written, is given: the module, a function of it, or that it is told as JSON
-abbrev pub choose_module : Flags → List Row → Bool
-choose_module flags rows = is_given (codes "input") rows || is_given (codes "function") rows || flags.json
+-- what is of one module is given: the module, or a function of it
+abbrev pub choose_module : List Row → Bool
+choose_module rows = is_given (codes "input") rows || is_given (codes "function") rows
 
--- an option is given that the task ignores: one that chooses a rewrite where rewrites, blocks or rules are listed, or rules where blocks or rules are, or
--- that is of one module where rules are
+-- an option is given that the task ignores: one that chooses a rewrite where anything is listed, or rules where neither rewrites are made nor listed, one that
+-- is of one module where rules or changes are listed, or JSON where rules are, whose form is asked for otherwise
 abbrev pub ignore : Flags → List Row → Bool
 ignore flags rows =
-    ((flags.list || flags.blocks || flags.rules) && choose rows) || ((flags.blocks || flags.rules) && choose_rules rows)
-    || (flags.rules && choose_module flags rows)
+    ((flags.list || flags.blocks || flags.rules || flags.changes) && choose rows)
+    || ((flags.blocks || flags.rules || flags.changes || flags.change) && choose_rules rows)
+    || ((flags.rules || flags.changes) && choose_module rows) || (flags.rules && flags.json)
 
 -- the text writes that number in decimal digits, or behind `0x` in hexadecimal ones
 pub data WritesSeed (text : Text) (n : ℕ) : Type 0 where
@@ -173,6 +181,20 @@ pub record AreRules (named others : Option (List Text)) (rules : List Rule) : Ty
   pub given : List Rule
   pub are_named : AreNamed named given
   pub are : AreThose (IsWanted (names_or_none others)) given rules
+
+-- The name stands for these changes: for one that has it, or `any` for all.
+abbrev pub StandsForChanges : (name : Text) → List Change → Type 0
+StandsForChanges name changes =
+    ((name ≡ codes "any") × (changes ≡ CHANGES)) ⊎ ((change : Change) × (name ≡ change_name change) × (changes ≡ change ∷ []))
+
+-- those that the name stands for that is given, or all
+abbrev pub AreChanges : Option Text → List Change → Type 0
+AreChanges None changes = changes ≡ CHANGES
+AreChanges (Some name) changes = StandsForChanges name changes
+
+-- it stands for none
+abbrev pub NamesNoChange : (name : Text) → Type 0
+NamesNoChange name = (changes : List Change) → ¬ (StandsForChanges name changes)
 
 -- one of the names is no rule's
 pub record NamesNone (names : List Text) : Type 0 where
@@ -233,6 +255,7 @@ pub record AreOptions (rows : List Row) (options : Options) : Type 0 where
   pub dose : IsDose (is_set (codes "shrink") rows) (first_of (codes "count") rows) options.dose
   pub function : IsNumberOf (one_of (codes "function") rows) options.function
   pub rules : AreRules (all_of (codes "rule") rows) (all_of (codes "not-rule") rows) options.rules.items
+  pub changes : AreChanges (first_of (codes "change") rows) options.changes.items
   pub max_size : IsNumberOr 18446744073709551615 (one_of (codes "max-size") rows) options.max_size
   pub shrink : options.shrink ≡ is_set (codes "shrink") rows
   pub exact : options.exact ≡ is_set (codes "exact") rows
@@ -253,6 +276,7 @@ AreMisused rows NoSeed = IfSome (first_of (codes "seed") rows) (λ text. IsSeedO
 AreMisused rows NoCount = IfSome (first_of (codes "count") rows) IsNoDose
 AreMisused rows NoForm = IfSome (first_of (codes "list-rules") rows) (λ name. form_named name ≡ None)
 AreMisused rows UnknownRule = IfSome (all_of (codes "rule") rows) NamesNone
+AreMisused rows UnknownChange = IfSome (first_of (codes "change") rows) NamesNoChange
 AreMisused rows Memory = Unit {0}
 
 -- how that is told
@@ -265,7 +289,12 @@ kind_for NoSeed = ValueValidation
 kind_for NoCount = ValueValidation
 kind_for NoForm = InvalidValue
 kind_for UnknownRule = InvalidValue
+kind_for UnknownChange = InvalidValue
 kind_for Memory = OutOfMemory
+
+-- The word as clap reads it: `--change` without a name is asked for by its own name, `any`, so that the word behind it is none.
+abbrev pub spelled : (word : Text) → Text
+spelled word = if bytes_eq word (codes "--change") then codes "--change=any" else word
 
 -- clap takes the words, and the options are those of their matches
 pub record SayOptions (app : App) (words : List Text) (options : Options) : Type 0 where

@@ -2,7 +2,7 @@
 ghost use Rattle.std.specs.Prelude.{◌≡◌, codes, false, IfOk};
 ghost use Rattle.clap.specs.Simple.{app_of};
 ghost use Rattle.clap.specs.Walk.{rule_of};
-ghost use Rattle.module_commands.specs.Arguments.{command_line, count_rule, flag, input_rule, naming, number, output_rule, rules_rule, seed_rule, valued};
+ghost use Rattle.module_commands.specs.Arguments.{change_rule, command_line, count_rule, flag, input_rule, naming, number, output_rule, rules_rule, seed_rule, valued};
 
 use clap::{Arg, ArgAction, Command, value_parser};
 use std::alloc::{AllocError, Global};
@@ -32,7 +32,7 @@ fn seed_argument<'a>(alloc: Global) -> Arg<'a>
     ensures local { result.global ≡ false }
 {
     Arg::new(alloc, "seed").long("seed").value_name("N").help(
-        "The seed of the generator that draws the places and rules, also as 0x and hexadecimal digits [default: 0]",
+        "The seed of the generator that draws the places, and rules or changes, also as 0x and hexadecimal digits [default: 0]",
     )
 }
 
@@ -41,7 +41,7 @@ fn count_argument<'a>(alloc: Global) -> Arg<'a>
     ensures local { result.global ≡ false }
 {
     Arg::new(alloc, "count").long("count").value_name("K").help(
-        "How many rewrites are made, one after another: a number, a percentage of the operators as 20%, or each, which is 100%; fewer where no rule applies any more [default: 1; with --shrink until none that is drawn makes the module smaller]",
+        "How many rewrites or changes are made, one after another: a number, a percentage of the operators as 20%, or each, which is 100%; fewer where none can be made any more [default: 1; with --shrink until none that is drawn makes the module smaller]",
     )
 }
 
@@ -91,7 +91,21 @@ fn size_argument<'a>(alloc: Global) -> Arg<'a>
         .long("max-size")
         .value_name("BYTES")
         .value_parser(value_parser!(usize))
-        .help("The most bytes that the rewritten module may have")
+        .help("The most bytes that the new module may have")
+}
+
+fn change_argument<'a>(alloc: Global) -> Arg<'a>
+    ensures rule { rule_of result ≡ change_rule }
+    ensures local { result.global ≡ false }
+{
+    Arg::new(alloc, "change")
+        .long("change")
+        .value_name("NAME")
+        .num_args(0..=1)
+        .default_missing_value("any")
+        .help(
+            "Changes the module instead, so that it stays valid and computes something else, by the change of that name, as in --change=delete [default: any]",
+        )
 }
 
 // A flag with the name.
@@ -163,6 +177,17 @@ fn rules_argument<'a>(alloc: Global) -> Arg<'a>
         )
 }
 
+fn changes_argument<'a>(alloc: Global) -> Arg<'a>
+    ensures rule { rule_of result ≡ flag (codes "list-changes") }
+    ensures local { result.global ≡ false }
+{
+    flag_argument(
+        alloc,
+        "list-changes",
+        "Reads no module, and writes a line for each change",
+    )
+}
+
 fn stats_argument<'a>(alloc: Global) -> Arg<'a>
     ensures rule { rule_of result ≡ flag (codes "stats") }
     ensures local { result.global ≡ false }
@@ -170,7 +195,7 @@ fn stats_argument<'a>(alloc: Global) -> Arg<'a>
     flag_argument(
         alloc,
         "stats",
-        "Reports functions, rewrites and sizes on standard error, and why there are no more rewrites",
+        "Reports functions, rewrites or changes and sizes on standard error, and why there are no more",
     )
 }
 
@@ -203,7 +228,7 @@ fn show_argument<'a>(alloc: Global) -> Arg<'a>
     flag_argument(
         alloc,
         "show",
-        "Shows each rewrite that is made on standard error: the function, the block, and the tree before and after",
+        "Shows each rewrite or change that is made on standard error: the function, the block, and the tree before and after",
     )
 }
 
@@ -234,13 +259,14 @@ const AFTER_HELP: &str = "\
 Exit status:
   0   what was asked for is written
   1   the module is refused, or input, output or memory fails
-  2   no rule applies, or the module has no function of its own
+  2   no rule applies, nothing can be changed, or the module has no function of its own
   3   none of the functions can be read, or there is none with that index
   64  the options can't be read
 
 Examples:
   teddertempo module.wasm -o rewritten.wasm --seed 7 --count 20
-  teddertempo --list --rule fold < module.wasm";
+  teddertempo --list --rule fold < module.wasm
+  teddertempo --change module.wasm -o changed.wasm --seed 7 --count 3 --show";
 
 /// The command line, with the names of the rules.
 pub fn command<'a>(alloc: Global, names: &'a [&'a str]) -> Result<Command<'a>, AllocError>
@@ -249,7 +275,7 @@ pub fn command<'a>(alloc: Global, names: &'a [&'a str]) -> Result<Command<'a>, A
     Command::new(alloc, "teddertempo")
         .version("0.3.0")
         .about(
-            "Rewrites instructions of a WebAssembly module without changing what the module computes",
+            "Rewrites instructions of a WebAssembly module without changing what it computes, or changes it so that it stays valid",
         )
         .after_help(AFTER_HELP)
         .arg(input_argument(alloc))?
@@ -265,6 +291,8 @@ pub fn command<'a>(alloc: Global, names: &'a [&'a str]) -> Result<Command<'a>, A
         .arg(list_argument(alloc))?
         .arg(blocks_argument(alloc))?
         .arg(rules_argument(alloc))?
+        .arg(change_argument(alloc))?
+        .arg(changes_argument(alloc))?
         .arg(stats_argument(alloc))?
         .arg(reach_argument(alloc))?
         .arg(json_argument(alloc))?

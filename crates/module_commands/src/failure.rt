@@ -1,8 +1,9 @@
 //! Why a run has no success, and its exit status.
 ghost use Rattle.std.specs.Prelude.{◌≡◌};
-ghost use Rattle.module_commands.specs.Status.{status_for, status_of};
+ghost use Rattle.module_commands.specs.Status.{status_for, status_for_change, status_of};
 
-use crate::messages::write_reason;
+use crate::messages::{write_reason, write_refusal};
+use module_changes::Refusal;
 use module_rewrites::Reason;
 use std::alloc::AllocError;
 use std::error::Error;
@@ -13,6 +14,8 @@ use std::{fmt, io};
 pub enum Failure {
     /// Nothing of the module is rewritten or listed, for this reason.
     Nothing(Reason),
+    /// Nothing of the module is changed, for this reason.
+    Unchanged(Refusal),
     /// The input can't be read.
     Input,
     /// The input is longer than `LIMIT`.
@@ -40,14 +43,26 @@ fn status_for(reason: &Reason) -> u8
     }
 }
 
+// The exit status where nothing is changed.
+fn status_for_change(refusal: &Refusal) -> u8
+    ensures { result ≡ status_for_change refusal.now }
+{
+    match refusal {
+        Refusal::NoChange => 2,
+        Refusal::NoFunction(_) | Refusal::UnknownImport(_) => 3,
+        Refusal::Read(_) | Refusal::TooLarge | Refusal::Memory => 1,
+    }
+}
+
 impl Failure {
-    /// The exit status: 2 where no rule applies, or the module has no function of its own; 3 where none of the functions that are
+    /// The exit status: 2 where no rule applies, nothing can be changed, or the module has no function of its own; 3 where none of the functions that are
     /// looked at can be read, or there is none with the index that is named; else 1.
     pub fn status(&self) -> u8
         ensures { result ≡ status_of self.now }
     {
         match self {
             Failure::Nothing(reason) => status_for(reason),
+            Failure::Unchanged(refusal) => status_for_change(refusal),
             _ => 1,
         }
     }
@@ -57,6 +72,7 @@ impl fmt::Display for Failure {
     fn fmt<W: fmt::Write>(&self, f: &mut fmt::Formatter<W>) -> fmt::Result {
         match self {
             Failure::Nothing(reason) => write_reason(f, reason),
+            Failure::Unchanged(refusal) => write_refusal(f, refusal),
             Failure::Input => write!(f, "the input can't be read"),
             Failure::TooLong => write!(f, "the input has more than 1 GiB"),
             Failure::Component => write!(

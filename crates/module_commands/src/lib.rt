@@ -3,6 +3,9 @@
 
 mod arguments;
 mod blocks;
+mod change_report;
+mod changes;
+mod changing;
 mod ending;
 mod failure;
 mod families;
@@ -19,12 +22,14 @@ mod nearest;
 mod objects;
 mod options;
 mod reach;
+mod reporting;
 mod rules;
 mod running;
 mod sharing;
 mod showing;
 mod stats;
 mod words;
+mod writing;
 
 pub use ending::Ending;
 pub use failure::Failure;

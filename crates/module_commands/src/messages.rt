@@ -1,5 +1,6 @@
 //! What is told of a module's faults.
 
+use module_changes::Refusal;
 use module_rewrites::{BodyError, FunctionError, MutationError, Reason};
 use std::fmt;
 use wasm_module::{ModuleError, ModuleFault};
@@ -74,5 +75,14 @@ pub fn write_reason<W: fmt::Write>(f: &mut fmt::Formatter<W>, reason: &Reason) -
         }
         Reason::Refused(MutationError::Read(e)) => write_fault(f, e),
         _ => write!(f, "{reason}"),
+    }
+}
+
+/// Writes why nothing is changed, and of a fault of the module what is wrong.
+pub fn write_refusal<W: fmt::Write>(f: &mut fmt::Formatter<W>, refusal: &Refusal) -> fmt::Result {
+    match refusal {
+        Refusal::UnknownImport(e) => write_reason(f, &Reason::UnknownImport(*e)),
+        Refusal::Read(e) => write_fault(f, e),
+        _ => write!(f, "{refusal}"),
     }
 }

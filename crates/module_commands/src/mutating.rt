@@ -23,9 +23,9 @@ use rand_core::SeedableRng;
 use std::alloc::Global;
 use wasm_sections::{read_sections, without_debug};
 
-// The module without its custom sections that name places in the code. A module that rewrites made is one, so that it isn't read for
-// want of memory alone. It does what the module does.
-fn stripped(alloc: Global, bytes: &[u8]) -> Result<Vec<u8>, Failure>
+/// The module without its custom sections that name places in the code. A module that rewrites or changes made is one, so that it isn't
+/// read for want of memory alone. It does what the module does.
+pub fn stripped(alloc: Global, bytes: &[u8]) -> Result<Vec<u8>, Failure>
     ensures stripped { IfOk result (λ new. IsWrittenAs true bytes.now new.items) }
     ensures does { IfOk result (λ new. (exact : Bool) → DoesAsBefore exact bytes.now new.items) }
     ensures memory { IfErr result (λ e. e ≡ Memory) }

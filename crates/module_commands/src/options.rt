@@ -2,22 +2,43 @@
 ghost use Rattle.module_rewrites.specs.Dose.{IsOneOrMore};
 
 use crate::form::Form;
+use body_changes::Change;
+use module_changes::Scope as ChangeScope;
 use module_rewrites::{Dose, Scope};
 use rewrite_rules::Rule;
 use rule_listing::Form as RulesForm;
 use std::alloc::{AllocError, AllocFailed};
 
-/// What a run does: with a module, but for the list of the rules.
+/// What a run does: with a module, but for the lists of the rules and of the changes.
 #[derive(Clone, Copy, Debug, PartialEq, Eq)]
 pub enum Task {
     /// Writes it rewritten.
     Rewrite,
+    /// Writes it changed: valid where it was, and it computes something else.
+    Change,
     /// Lists the rewrites that there are.
     List,
     /// Lists the blocks of its functions.
     Blocks,
     /// Lists the rules, in the form. No module is read.
     Rules(RulesForm),
+    /// Lists the changes. No module is read.
+    Changes,
+}
+
+impl Task {
+    ghost use Rattle.std.specs.Prelude.{◌↔◌, IsTrue};
+    ghost use Rattle.module_commands.specs.Failures.{WritesModule};
+
+    /// Whether it writes a module.
+    pub fn writes_module(self) -> bool
+        ensures { IsTrue result ↔ WritesModule self }
+    {
+        match self {
+            Task::Rewrite | Task::Change => true,
+            Task::List | Task::Blocks | Task::Rules(_) | Task::Changes => false,
+        }
+    }
 }
 
 /// What a run is asked for.
@@ -31,28 +52,30 @@ pub struct Options {
     pub output: Option<String>,
     /// What the generator is made from.
     pub seed: u64,
-    /// How many rewrites are made, one after another.
+    /// How many rewrites or changes are made, one after another.
     pub dose: Dose,
     /// The only function that is looked at, by its index among all functions, imported ones first.
     pub function: Option<usize>,
     /// The rules that rewrite.
     pub rules: Vec<Rule>,
-    /// The most bytes that a rewritten module may have.
+    /// The changes that change it.
+    pub changes: Vec<Change>,
+    /// The most bytes that the new module may have.
     pub max_size: usize,
     /// Whether each rewrite makes the module smaller: it leaves no more operators, and fewer bytes, or as many that come earlier in the
     /// dictionary. A module of which none does is written as it is.
     pub shrink: bool,
     /// Whether what runs the module does on floats, vectors and memories what the standard says, so that rules on these are applied.
     pub exact: bool,
-    /// Whether the functions, the rewrites and the sizes are reported.
+    /// Whether the functions, the rewrites or changes and the sizes are reported.
     pub stats: bool,
     /// Whether the report tells how much the rules reach.
     pub reach: bool,
     /// Whether what is listed or reported is written as JSON.
     pub json: bool,
-    /// Whether each rewrite that is made is shown.
+    /// Whether each rewrite or change that is made is shown.
     pub show: bool,
-    /// Whether custom sections that name places in the code are dropped once the module is rewritten.
+    /// Whether custom sections that name places in the code are dropped once the module is new.
     pub strip_debug: bool,
     /// Whether nothing is told that isn't asked for, but why the run fails.
     pub quiet: bool,
@@ -62,7 +85,7 @@ pub struct Options {
 impl Options {
     ghost use Rattle.std.specs.Prelude.{◌≡◌};
     ghost use Rattle.module_commands.specs.Form.{form_of};
-    ghost use Rattle.module_commands.specs.Scope.{scope_of};
+    ghost use Rattle.module_commands.specs.Scope.{change_scope_of, scope_of};
 
     /// What of a module may be rewritten.
     pub fn scope<'a>(&'a self) -> Scope<'a>
@@ -74,6 +97,18 @@ impl Options {
             max_size: self.max_size,
             shrinking: self.shrink,
             exact: self.exact,
+        }
+    }
+
+    /// What of a module may be changed, and how: drawn code has eight instructions at most.
+    pub fn change_scope<'a>(&'a self) -> ChangeScope<'a>
+        ensures { result ≡ change_scope_of self.now }
+    {
+        ChangeScope {
+            changes: &self.changes,
+            function: self.function,
+            most: 8,
+            max_size: self.max_size,
         }
     }
 
@@ -104,6 +139,8 @@ pub enum Misuse {
     NoForm,
     /// A name is no rule's.
     UnknownRule,
+    /// The name is no change's.
+    UnknownChange,
     /// No memory is left.
     Memory,
 }
@@ -136,6 +173,8 @@ pub struct Flags {
     pub list: bool,
     pub blocks: bool,
     pub rules: bool,
+    pub change: bool,
+    pub changes: bool,
     pub stats: bool,
     pub reach: bool,
     pub json: bool,

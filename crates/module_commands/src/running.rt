@@ -1,99 +1,39 @@
-//! A run: a module in, or none where rules are listed, and out goes what the options ask for.
+//! A run: a module in, or none where rules or changes are listed, and out goes what the options ask for.
 ghost use Rattle.std.specs.Prelude.{◌≡◌, ◌≢◌, ℕ, List, true, false, OnOk, IfErr, IfOk, IfSome, IsErrOf, IsTrue};
 ghost use Rattle.std.specs.Io.KnownBytes.{Appends, Consumes, IsAtEnd};
 ghost use Rattle.module_commands.specs.Blocks.{WritesBlocks};
-ghost use Rattle.module_commands.specs.Failures.{FailsToDo, FailsToInform, FailsToReport, FailsToRewrite, FailsToTakeModule, IsNoOther, IsOfInput, SharesMemory, TakesModule};
+ghost use Rattle.module_commands.specs.Changes.{WritesChanges};
+ghost use Rattle.module_commands.specs.Changing.{TellsChanged, WritesChanged};
+ghost use Rattle.module_commands.specs.Failures.{FailsToDo, FailsToReport, FailsToRewrite, FailsToTakeModule, IsNoOther, IsOfInput, SharesMemory, TakesModule, WritesModule};
 ghost use Rattle.module_commands.specs.declared.failure.Failure.TheVariants.{Output};
 ghost use Rattle.module_commands.specs.Form.{form_of};
 ghost use Rattle.module_commands.specs.Lists.{WritesList};
-ghost use Rattle.module_commands.specs.Reports.{ReportsModule, ReportsMutated, TellsReach};
+ghost use Rattle.module_commands.specs.Reports.{ReportsMutated};
 ghost use Rattle.module_commands.specs.Rules.{WritesRules};
 ghost use Rattle.module_commands.specs.Scope.{scope_of};
 ghost use Rattle.module_commands.specs.Shown.{ShowsMutated};
 ghost use Rattle.module_commands.specs.Writes.{WritesMutated};
 ghost use Rattle.rule_listing.specs.declared.form.Form.{Form as RulesForm};
-ghost use Rattle.wasm_module.specs.Module.{IsModule};
 
 use crate::blocks::list_blocks;
+use crate::changes::list_changes;
+use crate::changing::write_changed;
 use crate::ending::{Ending, ending_of};
 use crate::failure::Failure;
 use crate::front::{is_component, is_text};
-use crate::functions::module_of;
 use crate::input::read_input;
 use crate::listing::list_rewrites;
 use crate::mutating::rewritten;
 use crate::options::{Options, Task};
-use crate::reach::reach_of;
+use crate::reporting::report_module;
 use crate::rules::list_rules;
 use crate::sharing::check_exact;
-use crate::stats::{report_functions, report_reach, rewrites_report};
+use crate::stats::rewrites_report;
+use crate::writing::{show, write_bytes};
 use device_tally::Tally;
 use module_rewrites::Watch;
 use std::alloc::Global;
 use std::io::{Read, Write};
-use wasm_module::Module;
-
-// Reports how much of the module the rules reach, where that is asked for.
-fn report_reach_asked<E: Write>(
-    alloc: Global,
-    bytes: &[u8],
-    wasm: &Module<'_>,
-    options: &Options,
-    notes: &mut E,
-) -> Result<(), Failure>
-    requires { IsModule bytes.now wasm.now.info wasm.now.layout }
-    ensures reports { OnOk result ((text : List ℕ)
-        × Appends (E.contents notes.old) (E.contents notes.new) text
-        × TellsReach options.now.reach (form_of options.now) (scope_of options.now) bytes.now
-        wasm.now.info wasm.now.layout text) }
-    ensures fails { IfErr result FailsToReport }
-{
-    if !options.reach {
-        return Ok(());
-    }
-    let reach = reach_of(alloc, bytes, &wasm.info, &wasm.layout, &options.scope())?;
-    report_reach(alloc, notes, options.form(), reach)
-}
-
-// Reports on the functions of the module, and on how much of it the rules reach where that is asked for.
-fn report_module<E: Write>(
-    alloc: Global,
-    bytes: &[u8],
-    options: &Options,
-    notes: &mut E,
-) -> Result<(), Failure>
-    ensures reports { OnOk result (ReportsModule options.now bytes.now
-        (E.contents notes.old) (E.contents notes.new)) }
-    ensures fails { IfErr result (FailsToInform bytes.now) }
-{
-    let module = module_of(alloc, bytes, options.exact)?;
-    report_functions(alloc, bytes, &module, options.form(), notes)?;
-    report_reach_asked(alloc, bytes, &module, options, notes)
-}
-
-// Writes all of the bytes.
-fn write_bytes<W: Write>(output: &mut W, bytes: &[u8]) -> Result<(), Failure>
-    ensures written { OnOk result (Appends (W.contents output.old) (W.contents output.new)
-        bytes.now) }
-    ensures fails { IfErr result (λ e. e ≡ Output) }
-{
-    output.write_all(bytes)?;
-    output.flush()?;
-    Ok(())
-}
-
-// Writes what is shown of rewrites, where they are to be shown.
-fn show<E: Write>(notes: &mut E, wanted: bool, shown: &[u8]) -> Result<(), Failure>
-    ensures shown { wanted ≡ true → OnOk result (Appends (E.contents notes.old)
-        (E.contents notes.new) shown.now) }
-    ensures quiet { wanted ≡ false → notes.new ≡ notes.old }
-    ensures fails { IfErr result (λ e. e ≡ Output) }
-{
-    if wanted {
-        notes.write_all(shown)?;
-    }
-    Ok(())
-}
 
 // Writes the module rewritten, and what is shown of the rewrites.
 fn write_rewritten<W: Write, E: Write, P: Watch + Drop>(
@@ -201,7 +141,7 @@ fn take_module<R: Read>(
     Ok(bytes)
 }
 
-/// Reads all of the input, unless rules are listed, and does what the options ask for: what it writes goes to the output, and what it
+/// Reads all of the input, unless rules or changes are listed, and does what the options ask for: what it writes goes to the output, and what it
 /// reports and shows to the notes. What it lists and reports has the form that they ask for. Each rewrite is shown to `watch`, too.
 /// Fails as the task fails, and as the input can't be read or the output written.
 pub fn run<R: Read, W: Write, E: Write, P: Watch + Drop>(
@@ -218,6 +158,11 @@ pub fn run<R: Read, W: Write, E: Write, P: Watch + Drop>(
     ensures written { options.now.task ≡ Task.Rewrite → IfOk result (λ ending.
         IfSome (R.remaining input.old.device) (λ bytes. WritesMutated options.now bytes ending
         (W.contents output.old) (W.contents output.new))) }
+    // What is written is the input changed as the seed chooses, and stays valid. Where the options say so, such custom sections are
+    // dropped.
+    ensures changed { options.now.task ≡ Task.Change → IfOk result (λ ending.
+        IfSome (R.remaining input.old.device) (λ bytes. WritesChanged options.now bytes ending
+        (W.contents output.old) (W.contents output.new))) }
     // A list has a line for each rewrite that there is in the functions that are looked at, and no other.
     ensures listed { options.now.task ≡ Task.List → OnOk result
         (IfSome (R.remaining input.old.device) (λ bytes. WritesList (form_of options.now)
@@ -229,11 +174,13 @@ pub fn run<R: Read, W: Write, E: Write, P: Watch + Drop>(
     // The rules are all of them, each with its lines, in the form that is asked for.
     ensures rules { (form : RulesForm) → options.now.task ≡ Task.Rules form
         → OnOk result (WritesRules form (W.contents output.old) (W.contents output.new)) }
-    // No input is read for them.
-    ensures unread { (form : RulesForm) → options.now.task ≡ Task.Rules form
-        → input.new ≡ input.old }
-    // A list, the blocks, and the rules, are whole.
-    ensures whole { options.now.task ≢ Task.Rewrite → IfOk result (λ ending.
+    // The changes have a line each.
+    ensures changes { options.now.task ≡ Task.Changes → OnOk result
+        (WritesChanges (form_of options.now) (W.contents output.old) (W.contents output.new)) }
+    // No input is read for these two.
+    ensures unread { ¬ (TakesModule options.now.task) → input.new ≡ input.old }
+    // A list, the blocks, the rules, and the changes, are whole.
+    ensures whole { ¬ (WritesModule options.now.task) → IfOk result (λ ending.
         ending ≡ Ending.Whole) }
     // Where the options ask for it, the notes tell of functions, of rewrites, and of the rules' reach.
     ensures reported { options.now.task ≡ Task.Rewrite → IsTrue options.now.stats
@@ -245,6 +192,11 @@ pub fn run<R: Read, W: Write, E: Write, P: Watch + Drop>(
         → IfOk result (λ ending. IfSome (R.remaining input.old.device) (λ bytes.
         ShowsMutated options.now bytes ending (W.contents output.old) (W.contents output.new)
         (E.contents notes.old) (E.contents notes.new))) }
+    // Of changes, too: of the module before, of each change, and of the sizes, as far as the options ask for it.
+    ensures told { options.now.task ≡ Task.Change → IfOk result (λ ending.
+        IfSome (R.remaining input.old.device) (λ bytes. TellsChanged options.now bytes ending
+        (W.contents output.old) (W.contents output.new) (E.contents notes.old)
+        (E.contents notes.new))) }
     ensures quiet { options.now.stats ≡ false → options.now.show ≡ false
         → notes.new ≡ notes.old }
     // Where what runs the module is to be exact, threads share none of its memories.
@@ -257,23 +209,28 @@ pub fn run<R: Read, W: Write, E: Write, P: Watch + Drop>(
     ensures untouched { IfErr result (λ e. IsOfInput e
         → (output.new ≡ output.old) × (notes.new ≡ notes.old)) }
     // Why it fails: with `NoRule`, only where no rule applies in a function that can be read; with `Unreadable`, only where none can;
+    // with `NoChange`, only where no change makes anything by the words that the seed gives;
     // for a reason of the module, only where the input is neither a component nor a text, each of which is told so.
     ensures fails { IfErr result (λ e. IfSome (R.remaining input.old.device) (λ bytes. FailsToDo
         options.now.task options.now bytes e)) }
     // Nothing is written then, unless the output, or the notes, can't be written.
-    ensures kept { options.now.task ≡ Task.Rewrite → IfErr result (λ e. e ≢ Output
+    ensures kept { WritesModule options.now.task → IfErr result (λ e. e ≢ Output
         → W.contents output.new ≡ W.contents output.old) }
-    // The rules fail alone as the output can't be written, or for want of memory, and then nothing of them is written.
-    ensures rules_fail { (form : RulesForm) → options.now.task ≡ Task.Rules form
-        → IfErr result FailsToReport }
-    ensures rules_kept { (form : RulesForm) → options.now.task ≡ Task.Rules form
-        → IfErr result (λ e. e ≢ Output → W.contents output.new ≡ W.contents output.old) }
+    // The rules, and the changes, fail alone as the output can't be written, or for want of memory, and then nothing is written.
+    ensures lists_fail { ¬ (TakesModule options.now.task) → IfErr result FailsToReport }
+    ensures lists_kept { ¬ (TakesModule options.now.task) → IfErr result (λ e. e ≢ Output
+        → W.contents output.new ≡ W.contents output.old) }
 {
     match options.task {
         Task::Rules(form) => list_rules(alloc, form, output),
+        Task::Changes => list_changes(alloc, options.form(), output),
         Task::Rewrite => {
             let bytes = take_module(alloc, options.exact, input)?;
             rewrite(alloc, options, &bytes, output, notes, watch)
+        }
+        Task::Change => {
+            let bytes = take_module(alloc, options.exact, input)?;
+            write_changed(alloc, options, &bytes, output, notes)
         }
         Task::List => {
             let bytes = take_module(alloc, options.exact, input)?;

@@ -274,8 +274,8 @@ fn write_stop<W: Write>(alloc: Global, notes: &mut W, form: Form, name: &str) ->
     }
 }
 
-// The same, where there is something to tell.
-fn write_stopped<W: Write>(
+/// The same, where there is something to tell.
+pub fn write_stopped<W: Write>(
     alloc: Global,
     notes: &mut W,
     form: Form,
@@ -308,8 +308,8 @@ fn bytes_value(alloc: Global, before: usize, behind: usize) -> Result<Value, All
     json!(in alloc; {"bytes": before, "new": behind})
 }
 
-// Writes the line of the sizes.
-fn write_sizes<W: Write>(
+/// Writes the line of the sizes.
+pub fn write_sizes<W: Write>(
     alloc: Global,
     notes: &mut W,
     form: Form,

@@ -13,6 +13,7 @@ use crate::arguments::command;
 use crate::front::begins_with;
 use crate::nearest::{sentence_on, unknown_name};
 use crate::options::{Flags, Misuse, Options, Task};
+use body_changes::{CHANGES, Change};
 use clap::error::ErrorKind;
 use clap::{ArgMatches, Command, Error};
 use module_rewrites::Dose;
@@ -35,6 +36,8 @@ fn flags_of(matches: &ArgMatches<'_>) -> Flags
         list: is_set(matches, "list"),
         blocks: is_set(matches, "blocks"),
         rules: is_given(matches, "list-rules"),
+        change: is_given(matches, "change"),
+        changes: is_set(matches, "list-changes"),
         stats: is_set(matches, "stats"),
         reach: is_set(matches, "reach"),
         json: is_set(matches, "json"),
@@ -44,7 +47,7 @@ fn flags_of(matches: &ArgMatches<'_>) -> Flags
     }
 }
 
-// What the program does with a module.
+// What the program does, but for the list of the rules.
 fn module_task(flags: Flags) -> Task
     ensures { result ≡ options.module_task flags }
 {
@@ -52,25 +55,36 @@ fn module_task(flags: Flags) -> Task
         Task::List
     } else if flags.blocks {
         Task::Blocks
+    } else if flags.changes {
+        Task::Changes
+    } else if flags.change {
+        Task::Change
     } else {
         Task::Rewrite
     }
 }
 
-// Whether the flags ask for two tasks, or for something of a module that is written where none is.
+// Whether the flags ask for two tasks, for something of a module that is written where none is, or for the rules' reach where it is
+// changed.
 fn exclude(flags: Flags) -> bool
     ensures { result ≡ options.exclude flags }
 {
-    let other = flags.list || flags.blocks;
+    let lists = flags.list || flags.blocks;
+    let unread = flags.rules || flags.changes;
     let of_module = flags.stats || flags.reach || flags.show || flags.strip_debug;
-    (flags.list && flags.blocks) || (flags.rules && other) || (of_module && (other || flags.rules))
+    (flags.list && flags.blocks)
+        || (flags.rules && flags.changes)
+        || (unread && lists)
+        || (flags.change && (lists || unread || flags.reach))
+        || (of_module && (lists || unread))
 }
 
 // Whether the flags ask for JSON, and for nothing that is written in it.
 fn tell_nothing(flags: Flags) -> bool
     ensures { result ≡ options.tell_nothing flags }
 {
-    let told = flags.rules || flags.list || flags.blocks || flags.stats || flags.reach;
+    let listed = flags.rules || flags.changes || flags.list || flags.blocks;
+    let told = listed || flags.stats || flags.reach;
     flags.json && !told
 }
 
@@ -117,13 +131,13 @@ fn choose_rules(matches: &ArgMatches<'_>) -> bool
     rule || other || shrink || exact
 }
 
-// Whether what is of one module, or says how what is told of it is written, is given.
-fn choose_module(flags: Flags, matches: &ArgMatches<'_>) -> bool
-    ensures { result ≡ options.choose_module flags (rows_of (found_of matches.now)) }
+// Whether what is of one module is given.
+fn choose_module(matches: &ArgMatches<'_>) -> bool
+    ensures { result ≡ options.choose_module (rows_of (found_of matches.now)) }
 {
     let input = is_given(matches, "input");
     let function = is_given(matches, "function");
-    input || function || flags.json
+    input || function
 }
 
 // Whether an option is given that the task ignores.
@@ -132,10 +146,13 @@ fn ignore(flags: Flags, matches: &ArgMatches<'_>) -> bool
 {
     let chooses = choose(matches);
     let chooses_rules = choose_rules(matches);
-    let chooses_module = choose_module(flags, matches);
-    ((flags.list || flags.blocks || flags.rules) && chooses)
-        || ((flags.blocks || flags.rules) && chooses_rules)
-        || (flags.rules && chooses_module)
+    let chooses_module = choose_module(matches);
+    let unread = flags.rules || flags.changes;
+    let ruleless = flags.blocks || unread || flags.change;
+    ((flags.list || flags.blocks || unread) && chooses)
+        || (ruleless && chooses_rules)
+        || (unread && chooses_module)
+        || (flags.rules && flags.json)
 }
 
 // The form with that name.
@@ -328,6 +345,33 @@ fn wanted_rules(alloc: Global, matches: &ArgMatches<'_>) -> Result<Vec<Rule>, Mi
     }
 }
 
+// The change of that name.
+fn change_of(alloc: Global, name: &str) -> Result<Vec<Change>, Misuse>
+    ensures changes { IfOk result (λ changes. options.AreChanges (Some name.now) changes.items) }
+    ensures unknown { IfErr result (λ e. e ≡ Misuse.Memory ⊎ (e ≡ Misuse.UnknownChange
+        × options.NamesNoChange name.now)) }
+{
+    if name == "any" {
+        return Ok(Vec::from_slice(alloc, &CHANGES)?);
+    }
+    let Some(change) = Change::from_name(name) else {
+        return Err(Misuse::UnknownChange);
+    };
+    Ok(Vec::from_slice(alloc, &[change])?)
+}
+
+// The changes that the name stands for that is given, or all.
+fn changes_of(alloc: Global, matches: &ArgMatches<'_>) -> Result<Vec<Change>, Misuse>
+    ensures changes { IfOk result (λ changes. options.AreChanges
+        (options.first_of (codes "change") (rows_of (found_of matches.now))) changes.items) }
+    ensures unknown { IfErr result (options.AreMisused (rows_of (found_of matches.now))) }
+{
+    match text_of(matches, "change") {
+        Some(name) => change_of(alloc, name),
+        None => Ok(Vec::from_slice(alloc, &CHANGES)?),
+    }
+}
+
 // How many rewrites are made where no count is given.
 fn default_dose(shrink: bool) -> Dose
     ensures { result ≡ options.default_dose shrink }
@@ -422,6 +466,7 @@ pub fn options_from(alloc: Global, matches: &ArgMatches<'_>) -> Result<Options, 
         dose,
         function: size_of(matches, "function"),
         rules: wanted_rules(alloc, matches)?,
+        changes: changes_of(alloc, matches)?,
         max_size: size_of(matches, "max-size").unwrap_or(usize::MAX),
         shrink: is_set(matches, "shrink"),
         exact: is_set(matches, "exact"),
@@ -447,6 +492,7 @@ fn kind_for(misuse: Misuse) -> ErrorKind
         Misuse::NoCount => ErrorKind::ValueValidation,
         Misuse::NoForm => ErrorKind::InvalidValue,
         Misuse::UnknownRule => ErrorKind::InvalidValue,
+        Misuse::UnknownChange => ErrorKind::InvalidValue,
         Misuse::Memory => ErrorKind::OutOfMemory,
     }
 }
@@ -455,12 +501,13 @@ fn kind_for(misuse: Misuse) -> ErrorKind
 fn text_for(misuse: Misuse) -> &'static str {
     match misuse {
         Misuse::Conflict => {
-            "--list, --blocks and --list-rules exclude each other, and with them --stats, --reach, --show and --strip-debug"
+            "--change, --list, --blocks, --list-rules and --list-changes exclude each other; the lists exclude --stats, --reach, --show and --strip-debug, and --change excludes --reach"
         }
         Misuse::Ignored => {
-            "--list, --blocks and --list-rules ignore --seed, --count and --max-size, the last two --rule, --not-rule, --shrink and --exact, and --list-rules a module, --function and --json: leave them out"
+            "lists ignore --seed, --count and --max-size; all but --list, and --change, ignore --rule, --not-rule, --shrink and --exact; --list-rules and --list-changes ignore a module and --function, and --list-rules --json: leave them out"
         }
-        Misuse::NothingToTell => "--json goes with --list, --blocks, --stats or --reach",
+        Misuse::NothingToTell =>
+            "--json goes with --list, --blocks, --list-changes, --stats or --reach",
         Misuse::Plus => "a plus stands before a number: leave it out",
         Misuse::NoSeed =>
             "--seed is no number below 2^64 in decimal digits, or behind 0x in hexadecimal ones",
@@ -469,8 +516,33 @@ fn text_for(misuse: Misuse) -> &'static str {
         Misuse::NoForm =>
             "--list-rules has the forms text, json and markdown, as in --list-rules=json",
         Misuse::UnknownRule => "--rule names no rule",
+        Misuse::UnknownChange =>
+            "--change names no change, as in --change=delete: --list-changes names them all",
         Misuse::Memory => "no memory is left",
     }
+}
+
+// The word as clap reads it: `--change` without a name is asked for by its own name, so that the word behind it is none.
+fn spelled(word: &str) -> &str
+    ensures { result.now ≡ options.spelled word.now }
+{
+    if word == "--change" {
+        "--change=any"
+    } else {
+        word
+    }
+}
+
+// The words as clap reads them.
+fn spelled_words<'a, S: AsStr>(alloc: Global, words: &'a [S]) -> Result<Vec<&'a str>, AllocError>
+    ensures { IfOk result (λ list.
+        texts list.items ≡ map options.spelled (map S.text words.entry.now)) }
+{
+    let mut list = Vec::new(alloc);
+    for word in words {
+        list.push(spelled(word.as_str()))?;
+    }
+    Ok(list)
 }
 
 // An error of clap, told anew where a name is no rule's.
@@ -499,19 +571,23 @@ fn told_anew<S: AsStr>(
 ///
 /// An error where they say none, with clap's text: an unknown rule is told with the nearest three names; and for `--help` and
 /// `--version`, with what is to be printed. A count that is none, or 0, is an error too, and so are flags that exclude each other, options that
-/// the task ignores, a plus before a number, and `--json` where nothing is written in it.
+/// the task ignores, a plus before a number, and `--json` where nothing is written in it. `--change` has its name behind `=` alone: the
+/// word behind it is none.
 pub fn options_of<'a, S: AsStr>(
     alloc: Global,
     names: &'a [&'a str],
     words: &'a [S],
 ) -> Result<Options, Error>
     ensures options { IfOk result
-        (options.SayOptions (command_line names.entry) (map S.text words.entry.now)) }
+        (options.SayOptions (command_line names.entry)
+        (map options.spelled (map S.text words.entry.now))) }
     ensures refused { IfErr result (λ e.
-        options.AreRefused (command_line names.entry) (map S.text words.entry.now) (kind_of e)) }
+        options.AreRefused (command_line names.entry)
+        (map options.spelled (map S.text words.entry.now)) (kind_of e)) }
 {
+    let spelled = spelled_words(alloc, words)?;
     let mut command = command(alloc, names)?;
-    let matches = match command.try_get_matches_from_mut(words) {
+    let matches = match command.try_get_matches_from_mut(&spelled) {
         Ok(matches) => matches,
         Err(error) => return Err(told_anew(alloc, &mut command, names, words, error)?),
     };

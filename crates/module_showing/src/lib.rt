@@ -1,7 +1,8 @@
-//! Rewrites of modules for people: which operators of which function were rewritten by which rule, as they were and as they are, drawn
-//! as trees.
+//! Rewrites and changes of modules for people: which operators of which function were rewritten by which rule, or changed how, as they
+//! were and as they are, drawn as trees.
 #![tactic(auto)]
 
+mod changed;
 mod drawing;
 mod error;
 mod floats;
@@ -14,5 +15,6 @@ mod tests;
 mod text_tests;
 mod texts;
 
+pub use changed::write_shown_change;
 pub use error::ShowError;
 pub use shown::write_shown;

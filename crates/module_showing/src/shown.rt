@@ -131,16 +131,15 @@ fn add_sides(
     Ok(())
 }
 
-// What is shown behind the first line.
-fn lines_of(
+/// What is shown behind the first line, of the operator `at` of the function with the index.
+pub(crate) fn lines_of(
     alloc: Global,
     old: &[u8],
     new: &[u8],
-    made: &MadeRewrite,
+    index: usize,
+    at: usize,
 ) -> Result<String, ShowError> {
     let mut text = String::new(alloc);
-    let index = made.function;
-    let at = made.rewrite.operator;
     let Some(module) = module_of(alloc, old)? else {
         return Ok(text);
     };
@@ -195,8 +194,8 @@ fn write_first<W: Write>(output: &mut W, made: &MadeRewrite) -> Result<(), ShowE
     Ok(())
 }
 
-// Writes the text.
-fn write_text<W: Write>(output: &mut W, text: &str) -> Result<(), ShowError>
+/// Writes the text.
+pub(crate) fn write_text<W: Write>(output: &mut W, text: &str) -> Result<(), ShowError>
     ensures text { OnOk result (Appends (W.contents output.old) (W.contents output.new)
         text.now) }
     ensures fails { IfErr result (λ e. e ≡ Output) }
@@ -227,7 +226,7 @@ pub fn write_shown<W: Write>(
     // Nothing is written where no memory was left.
     ensures unwritten { IfErr result (λ e. e ≡ Memory → output.new ≡ output.old) }
 {
-    let lines = lines_of(alloc, old, new, made)?;
+    let lines = lines_of(alloc, old, new, made.function, made.rewrite.operator)?;
     write_first(output, made)?;
     write_text(output, lines.as_str())
 }

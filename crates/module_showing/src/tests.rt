@@ -1,7 +1,9 @@
-//! Rewrites of small modules, shown.
+//! Rewrites and changes of small modules, shown.
 
-use crate::{ShowError, write_shown};
+use crate::{ShowError, write_shown, write_shown_change};
+use body_changes::Change;
 use body_rewrites::Rewrite;
+use module_changes::MadeChange;
 use module_rewrites::MadeRewrite;
 use peephole_machine::IntegerType;
 use rewrite_rules::{Rule, row_count};
@@ -19,6 +21,20 @@ const TURNED: &[u8] = b"\0asm\x01\0\0\0\x01\x07\x01\x60\x02\x7f\x7f\x01\x7f\x03\
 
 /// What is shown of these.
 const SUM_TURNED: &str = "function 0 operator 2 rule commute
+  name \"su\\nm\"
+  block 0..3
+  before
+    i32.add
+    ├──local.get 0
+    └──local.get 1
+  after
+    i32.add
+    ├──local.get 1
+    └──local.get 0
+";
+
+/// What is shown of a change that makes the same.
+const SUM_EXCHANGED: &str = "function 0 operator 2 change exchange_operands
   name \"su\\nm\"
   block 0..3
   before
@@ -208,6 +224,20 @@ fn shown(
 fn shows_operands_that_change_places(rt: HostRuntime) -> Result<(), Fail> {
     let text = shown(rt.alloc(), SUM, TURNED, 0, rewrite("commute", 2))?;
     assert!(rt; text.as_slice() == SUM_TURNED.as_bytes());
+    Ok(())
+}
+
+#[test]
+fn shows_a_change(rt: HostRuntime) -> Result<(), Fail> {
+    let made = MadeChange {
+        function: 0,
+        change: Change::ExchangeOperands,
+        operator: 2,
+        start: 0,
+    };
+    let mut output = Vec::new(rt.alloc());
+    write_shown_change(rt.alloc(), &mut output, SUM, TURNED, &made)?;
+    assert!(rt; output.as_slice() == SUM_EXCHANGED.as_bytes());
     Ok(())
 }
 

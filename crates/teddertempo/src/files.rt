@@ -36,7 +36,7 @@ fn run_watched<R: Read, W: Write + Drop>(
 // What comes of it that the output had this error, if any: where nobody reads on a list, that is its end.
 fn unwritten(task: Task, error: Option<io::Error>) -> Result<Ending, Trouble> {
     match error {
-        Some(error) if task != Task::Rewrite && error.kind() == ErrorKind::BrokenPipe => {
+        Some(error) if !task.writes_module() && error.kind() == ErrorKind::BrokenPipe => {
             Ok(Ending::Whole)
         }
         Some(error) => Err(Trouble::Output(error)),
@@ -96,7 +96,7 @@ fn run_to_standard_output<R: Read>(
     input: &mut Tally<R>,
 ) -> Result<Ending, Trouble> {
     let output = rt.stdout();
-    if options.task == Task::Rewrite && output.is_terminal() {
+    if options.task.writes_module() && output.is_terminal() {
         return Err(Trouble::Terminal);
     }
     run_to(rt, options, input, output)

@@ -1,9 +1,9 @@
-//! Rewrites instructions of a WebAssembly module without changing what it computes: a module comes in from a file or on standard
-//! input, and a rewritten one goes to a file or to standard output. `--list` and `--blocks` write lines about the module instead;
-//! `--list-rules` reads none, and writes the rules.
+//! Rewrites instructions of a WebAssembly module without changing what it computes, or with `--change` changes it so that it stays
+//! valid: a module comes in from a file or on standard input, and the new one goes to a file or to standard output. `--list` and
+//! `--blocks` write lines about the module instead; `--list-rules` and `--list-changes` read none, and write the rules or the changes.
 //!
 //! Exit status: 0 on success, and for `--help` and `--version`; 1 where the module is refused, the input can't be read, the output
-//! can't be written, or no memory is left; 2 where no rule applies, or the module has no function of its own; 3 where no function can
+//! can't be written, or no memory is left; 2 where no rule applies, nothing can be changed, or the module has no function of its own; 3 where no function can
 //! be read, or `--function` names none of the module's own, or one whose index isn't known; 64 where the options can't be read, or a
 //! module would go to a terminal.
 #![tactic(auto)]
@@ -102,7 +102,7 @@ fn tell_ending(rt: &impl Eprint, options: &Options, ending: Ending) {
         Ending::OutOfMemory => {
             let name = name_of(&options.input, "standard input");
             let _ = eprintln!(rt;
-                "teddertempo: {name}: no memory is left for more rewrites: there are fewer than asked for"
+                "teddertempo: {name}: no memory is left for more: there are fewer rewrites or changes than asked for"
             );
         }
     }

@@ -1,5 +1,6 @@
 //! Options, as they are read.
 
+use body_changes::Change;
 use clap::error::ErrorKind;
 use module_commands::{Options, options_of};
 use module_rewrites::Dose;
@@ -7,8 +8,8 @@ use rewrite_rules::{Rule, all_rules, rule_names};
 use std::alloc::{AllocError, Global};
 use std::test::Fail;
 
-/// Words of the command line, and the task, the seed, the count, the function, the names of the flags that hold, and the rules: all,
-/// or the number, the first and the last; or the kind of the error.
+/// Words of the command line, and the task, the seed, the count, the function, the names of the flags that hold, the change if it is one,
+/// and the rules: all, or the number, the first and the last; or the kind of the error.
 const OPTIONS: &str = "
 | Rewrite 0 1 None all
 --seed=7 --count 3 --function 2 --rule fold --rule commute --stats | Rewrite 7 3 Some(2) stats 2 fold commute
@@ -110,6 +111,36 @@ a.wasm --list-rules | ArgumentConflict
 --seed 0x10000000000000000 | ValueValidation
 --seed 0x | ValueValidation
 --seed 1f | ValueValidation
+--change | Change 0 1 None all
+--change=any | Change 0 1 None all
+--change=delete --count 3 --seed 7 --function 2 | Change 7 3 Some(2) delete all
+--change a.wasm -o b.wasm | Change 0 1 None all
+--change delete | Change 0 1 None all
+--change --stats --json --show --strip-debug | Change 0 1 None stats json show strip-debug all
+--count 20% --max-size 9 --change=constant | Change 0 20% None constant all
+--change=melt | InvalidValue
+--change --change | ArgumentConflict
+--change --list | ArgumentConflict
+--change --blocks | ArgumentConflict
+--change --list-rules | ArgumentConflict
+--change --list-changes | ArgumentConflict
+--change --reach | ArgumentConflict
+--change --rule fold | ArgumentConflict
+--change --not-rule fold | ArgumentConflict
+--change --shrink | ArgumentConflict
+--change --exact | ArgumentConflict
+--change --json | MissingRequiredArgument
+--list-changes | Changes 0 1 None all
+--list-changes --json -o changes.json --quiet | Changes 0 1 None json quiet all
+--list-changes a.wasm | ArgumentConflict
+--list-changes --list | ArgumentConflict
+--list-changes --list-rules | ArgumentConflict
+--list-changes --stats | ArgumentConflict
+--list-changes --show | ArgumentConflict
+--list-changes --seed 1 | ArgumentConflict
+--list-changes --function 0 | ArgumentConflict
+--list-changes --rule fold | ArgumentConflict
+--list-changes --shrink | ArgumentConflict
 a.wasm -o b.wasm | Rewrite 0 1 None all
 - --output=- | Rewrite 0 1 None all
 a.wasm b.wasm | UnknownArgument
@@ -161,6 +192,14 @@ fn flags_text(alloc: Global, options: &Options) -> Result<String, AllocError> {
     format!(in alloc; "{shrink}{exact}{stats}{reach}{json}{show}{strip}{quiet}")
 }
 
+/// The name of the change, where it is one alone.
+fn change_text(alloc: Global, changes: &[Change]) -> Result<String, AllocError> {
+    match changes {
+        [change] => format!(in alloc; "{} ", change.name()),
+        _ => format!(in alloc; ""),
+    }
+}
+
 /// A dose as the command line has it.
 fn dose_text(alloc: Global, dose: Dose) -> Result<String, AllocError> {
     match dose {
@@ -178,9 +217,10 @@ fn reads_options(rt: HostRuntime) -> Result<(), Fail> {
             Ok(found) => {
                 let flags = flags_text(alloc, &found)?;
                 let rules = rules_text(alloc, &found.rules)?;
+                let change = change_text(alloc, &found.changes)?;
                 let dose = dose_text(alloc, found.dose)?;
                 format!(in alloc;
-                    "{:?} {} {} {:?} {flags}{rules}",
+                    "{:?} {} {} {:?} {flags}{change}{rules}",
                     found.task, found.seed, dose, found.function
                 )?
             }

@@ -64,6 +64,13 @@ const DOUBLES: &[u8] = b"\0asm\x01\0\0\0\x01\x05\x01\x60\x01\x7f\0\x03\x02\x01\0
 const DOUBLES_SHORT: &[u8] = b"\0asm\x01\0\0\0\x01\x05\x01\x60\x01\x7f\0\x03\x02\x01\0\
     \x0a\x11\x01\x0f\0\x20\0\x20\0\x6a\x20\0\x45\x41\x02\x6c\x46\x1a\x0b";
 
+/// A function that drops 5.
+const DROPPED: &[u8] = b"\0asm\x01\0\0\0\x01\x04\x01\x60\0\0\x03\x02\x01\0\
+    \x0a\x07\x01\x05\0\x41\x05\x1a\x0b";
+
+/// The same without that.
+const NOTHING: &[u8] = b"\0asm\x01\0\0\0\x01\x04\x01\x60\0\0\x03\x02\x01\0\x0a\x04\x01\x02\0\x0b";
+
 /// The front of a component.
 const COMPONENT: &[u8] = b"\0asm\x0d\0\x01\0";
 
@@ -122,6 +129,8 @@ pub(crate) fn module_of(name: &str) -> Option<&'static [u8]> {
         "NEGATED" => Some(NEGATED),
         "FLOAT" => Some(FLOAT),
         "FAMILIES" => Some(FAMILIES),
+        "DROPPED" => Some(DROPPED),
+        "NOTHING" => Some(NOTHING),
         "NO_ATOMIC" => Some(NO_ATOMIC),
         "CATCHING" => Some(CATCHING),
         "TAIL_CALL" => Some(TAIL_CALL),

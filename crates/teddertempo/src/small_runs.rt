@@ -5,6 +5,7 @@ use crate::refused_modules::SUM;
 use crate::small_modules::module_of;
 use device_tally::Tally;
 use failing_devices::{FailingReader, FailingWriter};
+use module_changes::Refusal;
 use module_commands::{Ending, Failure, run};
 use module_rewrites::{Reason, Unwatched};
 use std::alloc::Global;
@@ -356,6 +357,97 @@ const RUNS: &str = r#"
 
 --rule add_zero --max-size 30 | SAME | Err(Nothing(Refused(TooLong)))
 
+--change=exchange_operands | SUM | Ok(Whole)
+> TURNED
+
+--change=exchange_operands --count 2 --seed 9 | SUM | Ok(Whole)
+> SUM
+
+--change=exchange_operands --count each --stats | SUM | Ok(Whole)
+> SUM
+! functions  1          unreadable 0
+! function 0      operator 2      change exchange_operands
+! function 0      operator 2      change exchange_operands
+! function 0      operator 2      change exchange_operands
+! function 0      operator 2      change exchange_operands
+! bytes      32         new 32
+
+--change=exchange_operands --show | SUM | Ok(Whole)
+> TURNED
+! function 0 operator 2 change exchange_operands
+!   block 0..3
+!   before
+!     i32.add
+!     ├──local.get 0
+!     └──local.get 1
+!   after
+!     i32.add
+!     ├──local.get 1
+!     └──local.get 0
+
+--change=exchange_operands --show --stats --json | SUM | Ok(Whole)
+> TURNED
+! {"functions":1,"unreadable":0}
+! function 0 operator 2 change exchange_operands
+!   block 0..3
+!   before
+!     i32.add
+!     ├──local.get 0
+!     └──local.get 1
+!   after
+!     i32.add
+!     ├──local.get 1
+!     └──local.get 0
+! {"change":"exchange_operands","function":0,"operator":2}
+! {"bytes":32,"new":32}
+
+--change=exchange_operands --strip-debug | DEBUG | Ok(Whole)
+> TURNED
+
+--change=delete --count 3 --stats | DROPPED | Ok(Whole)
+> NOTHING
+! functions  1          unreadable 0
+! function 0      operator 1      change delete
+! stopped NoChange
+! bytes      27         new 24
+
+--change=delete --count 3 --stats --json | DROPPED | Ok(Whole)
+> NOTHING
+! {"functions":1,"unreadable":0}
+! {"change":"delete","function":0,"operator":1}
+! {"stopped":"NoChange"}
+! {"bytes":27,"new":24}
+
+--change=delete | SUM | Err(Unchanged(NoChange))
+
+--change | EMPTY | Err(Unchanged(NoChange))
+
+--change --function 1 | SUM | Err(Unchanged(NoFunction(1)))
+
+--change --function 1 --count each | SUM | Err(Nothing(NoFunction(1)))
+
+--change --function 0 | REFERENCE | Err(Unchanged(UnknownImport(ModuleError { kind: UnknownForm, offset: 20 })))
+
+--change=double --max-size 27 | DROPPED | Err(Unchanged(TooLarge))
+
+--change | COMPONENT | Err(Component)
+
+--list-changes | SUM | Ok(Whole)
+> constant: a constant becomes another one of its type
+> operator: an operator becomes another one of the same types
+> local: an access to a local becomes one to another of its type
+> draw: a value is drawn anew, by at most eight instructions
+> copy: code becomes a copy of other code of the function that leaves the same types
+> first_operand: the first of two operands stands for the whole
+> last_operand: the last operand stands for the whole
+> exchange_operands: two operands of one type change places
+> delete: a statement is gone
+> double: a statement stands there twice
+> exchange_statements: two statements change places
+> global: a global that is read becomes another one of its type
+> call: a function that is called becomes another one of its type
+> memory_argument: a load or a store gets another offset, and an alignment that is no greater
+
 --rule commute --strip-debug --stats | DEBUG | Ok(Whole)
 > TURNED
 ! functions  1          unreadable 0
@@ -485,5 +577,8 @@ fn fails(rt: HostRuntime) -> Result<(), Fail> {
     assert!(rt; text.as_str() == "BadMagic at 0x0: the bytes don't begin with \\0asm 1");
     assert!(rt; Failure::Nothing(Reason::NoRule).status() == 2 && Failure::Input.status() == 1);
     assert!(rt; Failure::Nothing(Reason::NoFunction(1)).status() == 3);
+    assert!(rt; Failure::Unchanged(Refusal::NoChange).status() == 2);
+    assert!(rt; Failure::Unchanged(Refusal::NoFunction(1)).status() == 3);
+    assert!(rt; Failure::Unchanged(Refusal::TooLarge).status() == 1);
     Ok(())
 }

@@ -23,6 +23,9 @@ change_number change.ExchangeOperands = 7
 change_number change.Delete = 8
 change_number change.Double = 9
 change_number change.ExchangeStatements = 10
+change_number change.Global = 11
+change_number change.Call = 12
+change_number change.MemoryArgument = 13
 
 -- the change may be made: its bit is set, or none is
 abbrev pub allows : ChangeOptions → Change → Bool
@@ -36,9 +39,9 @@ changes_of options = filter (allows options) CHANGES
 abbrev pub AreSmall : ChangeOptions → (report_size : ℕ) → Type 0
 AreSmall options report_size = (options.struct_size < CHANGE_OPTIONS_SIZE) ⊎ (report_size < REPORT_SIZE)
 
--- so they are, or the size is above that of the buffer, or a bit is set that is none of the eleven changes'
+-- so they are, or the size is above that of the buffer, or a bit is set that is none of the fourteen changes'
 abbrev pub AreBad : ChangeOptions → (report_size size room : ℕ) → Type 0
-AreBad options report_size size room = AreSmall options report_size ⊎ ((room < size) ⊎ (2048 ≤ options.changes))
+AreBad options report_size size room = AreSmall options report_size ⊎ ((room < size) ⊎ (16384 ≤ options.changes))
 
 -- the only function that may be changed, if one is named
 abbrev pub function_of : ChangeOptions → Option ℕ

@@ -8,3 +8,4 @@ pub mod Naming
 pub mod Changes
 pub mod ChangeOptions
 pub mod ChangeReports
+pub mod Either

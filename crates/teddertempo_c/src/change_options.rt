@@ -48,6 +48,9 @@ pub fn change_number(change: Change) -> u32
         Change::Delete => 8,
         Change::Double => 9,
         Change::ExchangeStatements => 10,
+        Change::Global => 11,
+        Change::Call => 12,
+        Change::MemoryArgument => 13,
     }
 }
 
@@ -90,7 +93,7 @@ pub fn are_bad(options: &ChangeOptions, report_size: u64, size: usize, room: usi
     if options.struct_size < CHANGE_OPTIONS_SIZE || report_size < REPORT_SIZE {
         return true;
     }
-    size > room || options.changes >= 2048
+    size > room || options.changes >= 16384
 }
 
 /// The only function that may be changed.

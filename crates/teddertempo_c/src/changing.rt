@@ -14,7 +14,7 @@ use crate::mutating::{put, report_on};
 use crate::outcome::{self, Outcome, refusal_by_change};
 use crate::report::Report;
 use body_changes::{CHANGES, Change};
-use module_changes::{ChangedModule, MadeChange, Refusal, Scope, change_module};
+use module_changes::{ChangedModule, MadeChange, Refusal, Scope, Unwatched, change_module};
 use rand::rngs::StdRng;
 use rand_core::SeedableRng;
 use std::alloc::Global;
@@ -37,7 +37,7 @@ fn changed_once(
         max_size: room,
     };
     let mut generator = StdRng::seed_from_u64(seed);
-    change_module(alloc, bytes, &mut generator, &scope, 1)
+    change_module(alloc, bytes, &mut generator, &scope, 1, &mut Unwatched)
 }
 
 /// Changes the module that the first `size` bytes of the buffer are, once, by any change in any function.
@@ -76,7 +76,14 @@ fn changed_by(
         max_size: most_of(options, bytes.len(), room),
     };
     let mut generator = StdRng::seed_from_u64(options.seed);
-    change_module(alloc, bytes, &mut generator, &scope, count_of(options))
+    change_module(
+        alloc,
+        bytes,
+        &mut generator,
+        &scope,
+        count_of(options),
+        &mut Unwatched,
+    )
 }
 
 // The module that the first `size` bytes of the buffer are, changed as the options say, or why nothing of it is. The caller's report

@@ -10,6 +10,7 @@ ghost use Rattle.rewrite_rules.specs.declared.rule.Rule.{Rule};
 ghost use Rattle.teddertempo_c.specs.Buffer.{bytes_at};
 ghost use Rattle.teddertempo_c.specs.ChangeReports.{ChangesWith};
 ghost use Rattle.teddertempo_c.specs.Changes.{ChangesOnce};
+ghost use Rattle.teddertempo_c.specs.Either.{EitherOnce};
 ghost use Rattle.teddertempo_c.specs.Naming.{HoldsName, WritesName};
 ghost use Rattle.teddertempo_c.specs.Reports.{MutatesWith};
 ghost use Rattle.teddertempo_c.specs.Writes.{MutatesOnce};
@@ -17,6 +18,7 @@ ghost use Rattle.teddertempo_c.specs.Writes.{MutatesOnce};
 mod attempt;
 mod change_options;
 mod changing;
+mod either;
 mod mutating;
 mod options;
 mod outcome;
@@ -25,6 +27,7 @@ mod rules;
 
 pub use change_options::ChangeOptions;
 use changing::{change_in, change_with_in};
+use either::either_in;
 use mutating::{mutate_in, mutate_with_in};
 pub use options::Options;
 pub use report::Report;
@@ -117,6 +120,34 @@ pub unsafe extern "C" fn teddertempo_change(
         std::slice::from_raw_parts_mut(data, max_size),
         size,
         seed,
+    )
+}
+
+/// Rewrites the module that the first `size` of the `max_size` bytes at `data` are, or changes it, once: of a hundred seeds some `keep`
+/// rewrite it as `teddertempo_mutate` does, all where `keep` is 100 or more, and the others change it as `teddertempo_change` does.
+/// Answers what these do.
+///
+/// C passes `data`, `size`, `max_size`, `seed` and `keep`; the bytes may be read and written, and `data` isn't null.
+#[unsafe(no_mangle)]
+pub unsafe extern "C" fn teddertempo_either(
+    alloc: Global,
+    data: *mut u8,
+    size: usize,
+    max_size: usize,
+    seed: u64,
+    keep: u32,
+) -> usize
+    ghost old: { List ℕ }
+    requires* { sem 𝓛 (bytes_at «data» max_size old) ∗ ⌜ max_size < 2 ^ 63 ⌝ }
+    ensures* { ∃ₛ (λ new. sem 𝓛 (bytes_at «data» max_size new) ∗
+        ⌜ EitherOnce seed keep size old result new ⌝) }
+{
+    either_in(
+        alloc,
+        std::slice::from_raw_parts_mut(data, max_size),
+        size,
+        seed,
+        keep,
     )
 }
 

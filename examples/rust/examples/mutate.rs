@@ -5,7 +5,8 @@
 //! mutate --change [--seed N] [--count N] [--function N] [--growth N] MODULE NEW
 //! ```
 //!
-//! The status is 2 where the library writes no module, and 1 where the options can't be read, or a file can't be read or written.
+//! The status is 2 where the library writes no module, and 1 where the options can't be read or don't go together, or a file can't be
+//! read or written.
 
 use std::process::ExitCode;
 use std::{env, fs};
@@ -41,6 +42,8 @@ fn with_change_option(options: ChangeOptions, name: &str, value: &str) -> Option
 /// What is asked for, and the names of the two files.
 struct Arguments<'a> {
     options: Options,
+    /// The last option that is for rewrites alone.
+    for_rewrites: Option<&'a str>,
     /// The module is changed, so, and not rewritten.
     change: Option<ChangeOptions>,
     old: &'a str,
@@ -52,6 +55,7 @@ fn read_arguments(mut words: &[String]) -> Option<Arguments<'_>> {
     let mut options = Options::new();
     let mut change_options = ChangeOptions::new();
     let mut is_change = false;
+    let mut for_rewrites = None;
     loop {
         match words {
             [name, rest @ ..] if name == "--change" => {
@@ -60,11 +64,13 @@ fn read_arguments(mut words: &[String]) -> Option<Arguments<'_>> {
             }
             [name, rest @ ..] if name == "--exact" => {
                 options = options.exact();
+                for_rewrites = Some(name.as_str());
                 words = rest;
             }
             [old, new] => {
                 return Some(Arguments {
                     options,
+                    for_rewrites,
                     change: is_change.then_some(change_options),
                     old,
                     new,
@@ -73,6 +79,9 @@ fn read_arguments(mut words: &[String]) -> Option<Arguments<'_>> {
             [name, value, rest @ ..] => {
                 options = with_option(options, name, value)?;
                 change_options = with_change_option(change_options, name, value)?;
+                if matches!(name.as_str(), "--percent" | "--rule") {
+                    for_rewrites = Some(name.as_str());
+                }
                 words = rest;
             }
             _ => return None,
@@ -122,6 +131,11 @@ fn rewritten(mut module: Vec<u8>, options: &Options) -> Option<Vec<u8>> {
 /// Whether there is a new module, or what went wrong.
 fn run(arguments: &Arguments<'_>) -> Result<bool, String> {
     let Arguments { old, new, .. } = arguments;
+    if let (Some(_), Some(name)) = (&arguments.change, arguments.for_rewrites) {
+        return Err(format!(
+            "{name} is for rewrites alone: leave it out with --change"
+        ));
+    }
     let module = fs::read(old).map_err(|e| format!("{old}: {e}"))?;
     let made = match &arguments.change {
         Some(options) => changed(module, options),

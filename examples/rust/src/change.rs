@@ -29,11 +29,17 @@ pub enum Change {
     Double,
     /// It changes places with the one right before it.
     ExchangeStatements,
+    /// A global that is read becomes another one of its type.
+    Global,
+    /// A function that is called becomes another one of its type.
+    Call,
+    /// A load or a store gets another offset, and an alignment that is no greater.
+    MemoryArgument,
 }
 
 impl Change {
     /// All of them, each at the place that is its number.
-    pub const ALL: [Change; 11] = [
+    pub const ALL: [Change; 14] = [
         Change::Constant,
         Change::Operator,
         Change::Local,
@@ -45,6 +51,9 @@ impl Change {
         Change::Delete,
         Change::Double,
         Change::ExchangeStatements,
+        Change::Global,
+        Change::Call,
+        Change::MemoryArgument,
     ];
 
     /// Its name, as `constant` or `first_operand`.
@@ -62,6 +71,9 @@ impl Change {
             Change::Delete => "delete",
             Change::Double => "double",
             Change::ExchangeStatements => "exchange_statements",
+            Change::Global => "global",
+            Change::Call => "call",
+            Change::MemoryArgument => "memory_argument",
         }
     }
 }

@@ -3,7 +3,7 @@
 //!
 //! [`mutate`] is one rewrite of any kind, [`mutate_with`] takes [`Options`] and answers a [`Report`], and [`mutate_slice`] rewrites
 //! in place, as a fuzzer's mutator does; [`change_slice`] changes in place, and [`change_with`] takes [`ChangeOptions`] and answers a
-//! [`ChangeReport`]. With cargo-fuzz, for coverage:
+//! [`ChangeReport`]; [`either_slice`] rewrites or changes in place. With cargo-fuzz, for coverage:
 //!
 //! ```ignore
 //! libfuzzer_sys::fuzz_mutator!(|data: &mut [u8], size: usize, max_size: usize, seed: u32| {
@@ -89,6 +89,20 @@ pub fn change_slice(data: &mut [u8], size: usize, seed: u64) -> Option<usize> {
     // SAFETY: the declaration is the header's. The pointer is that of a slice, whose length is handed over and which isn't null even
     // where that is 0; nothing else reads or writes it during the call. That `size` is at most the length, the library checks.
     let new_size = unsafe { raw::teddertempo_change(data.as_mut_ptr(), size, data.len(), seed) };
+    (new_size != 0).then_some(new_size)
+}
+
+/// Rewrites the module in `data[..size]` once, in place, or changes it: of a hundred seeds some `keep` rewrite it, so that it does what
+/// it did, and the others change it as [`change_slice`] does. Answers the new size. None where nothing is done: the bytes are as they were.
+///
+/// ```
+/// let mut module = *b"\0asm\x01\0\0\0";
+/// assert_eq!(teddertempo::either_slice(&mut module, 8, 7, 50), None);
+/// ```
+pub fn either_slice(data: &mut [u8], size: usize, seed: u64, keep: u32) -> Option<usize> {
+    // SAFETY: as of `change_slice`.
+    let new_size =
+        unsafe { raw::teddertempo_either(data.as_mut_ptr(), size, data.len(), seed, keep) };
     (new_size != 0).then_some(new_size)
 }
 

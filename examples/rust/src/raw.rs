@@ -69,6 +69,13 @@ unsafe extern "C" {
         report: *mut Report,
     ) -> usize;
     pub fn teddertempo_change(data: *mut u8, size: usize, max_size: usize, seed: u64) -> usize;
+    pub fn teddertempo_either(
+        data: *mut u8,
+        size: usize,
+        max_size: usize,
+        seed: u64,
+        keep: u32,
+    ) -> usize;
     pub fn teddertempo_change_with(
         data: *mut u8,
         size: usize,

@@ -4,18 +4,20 @@ use std::fs;
 use std::thread;
 use teddertempo::{
     Change, ChangeOptions, MadeChange, Options, Outcome, Report, Rule, change_slice, change_with,
-    mutate, mutate_slice, mutate_with,
+    either_slice, mutate, mutate_slice, mutate_with,
 };
 
 /// The bytes with which each module begins: the magic and the version.
 const PREAMBLE: [u8; 8] = [0x00, 0x61, 0x73, 0x6d, 0x01, 0x00, 0x00, 0x00];
 
 fn module() -> Vec<u8> {
-    fs::read(concat!(
-        env!("CARGO_MANIFEST_DIR"),
-        "/../../tests/modules/numbers.wasm"
-    ))
-    .unwrap()
+    module_named("numbers")
+}
+
+/// The module of that name of the tests.
+fn module_named(name: &str) -> Vec<u8> {
+    let modules = concat!(env!("CARGO_MANIFEST_DIR"), "/../../tests/modules");
+    fs::read(format!("{modules}/{name}.wasm")).unwrap()
 }
 
 /// A module, rewritten under a seed to at most so many bytes more.
@@ -72,15 +74,42 @@ fn a_module_is_changed_within_its_room() {
 }
 
 #[test]
-fn each_change_is_made_by_its_name() {
+fn either_rewrites_or_changes() {
     let module = module();
-    for change in Change::ALL {
-        let options = ChangeOptions::new().change(change).count(3).seed(7);
+    let with_room = || {
         let mut new = module.clone();
-        let report = change_with(&mut new, module.len() + 4096, &options);
-        assert_eq!(report.made, 3, "{change}");
-        assert!(matches!(report.last, Some(MadeChange { change: last, .. }) if last == change));
-        assert!(new != module && new.starts_with(&PREAMBLE));
+        new.resize(module.len() + 4096, 0);
+        new
+    };
+    for seed in 0..50 {
+        let (mut kept, mut changed) = (with_room(), with_room());
+        let kept_size = either_slice(&mut kept, module.len(), seed, 100);
+        let changed_size = either_slice(&mut changed, module.len(), seed, 0);
+        let (mut rewritten, mut other) = (with_room(), with_room());
+        let report = mutate_slice(&mut rewritten, module.len(), &Options::new().seed(seed));
+        assert!(kept_size == Some(report.0) && kept == rewritten);
+        assert!(changed_size == change_slice(&mut other, module.len(), seed) && changed == other);
+    }
+    assert_eq!(either_slice(&mut [0; 8], 9, 7, 50), None);
+}
+
+#[test]
+fn each_change_is_made_by_its_name() {
+    // It has globals, calls and loads.
+    let module = module_named("outside");
+    for change in Change::ALL {
+        let made = (0..100).any(|seed| {
+            let options = ChangeOptions::new().change(change).count(3).seed(seed);
+            let mut new = module.clone();
+            let report = change_with(&mut new, module.len() + 4096, &options);
+            if report.made < 3 {
+                return false;
+            }
+            assert!(matches!(report.last, Some(MadeChange { change: last, .. }) if last == change));
+            assert!(new != module && new.starts_with(&PREAMBLE));
+            true
+        });
+        assert!(made, "{change}");
     }
 }
 

@@ -3,6 +3,9 @@
 # The names of the rules, as the program knows them.
 _teddertempo_rules() { teddertempo --help 2> /dev/null | tr -d '\n' | sed -n 's/.*\[possible values: \([a-z_0-9, ]*\)\].*/\1/p' | tr -d ','; }
 
+# The names of the changes.
+_teddertempo_changes() { echo any; teddertempo --list-changes 2> /dev/null | cut -d : -f 1; }
+
 _teddertempo_words() { mapfile -t COMPREPLY < <(compgen -W "$1" -- "${COMP_WORDS[COMP_CWORD]}"); }
 
 _teddertempo_modules() { mapfile -t COMPREPLY < <(compgen -d -- "$1"; compgen -f -X '!*.wasm' -- "$1"); }
@@ -10,14 +13,21 @@ _teddertempo_modules() { mapfile -t COMPREPLY < <(compgen -d -- "$1"; compgen -f
 _teddertempo()
 {
     local word=${COMP_WORDS[COMP_CWORD]} before=${COMP_WORDS[COMP_CWORD - 1]}
+    # A value behind `=` is a word of its own, and so is that sign.
+    if ((COMP_CWORD > 1)) && [[ $before == = ]]; then before=${COMP_WORDS[COMP_CWORD - 2]}=; fi
+    if [[ $word == = ]]; then
+        word=
+        before=$before=
+    fi
     case $before in
+        --change=) mapfile -t COMPREPLY < <(compgen -W "$(_teddertempo_changes)" -- "$word") ;;
         --rule | --not-rule) _teddertempo_words "$(_teddertempo_rules)" ;;
         --list-rules) _teddertempo_words "text json markdown" ;;
         --seed | --count | --function | --max-size) COMPREPLY=() ;;
         -o | --output) mapfile -t COMPREPLY < <(compgen -f -- "$word") ;;
         *)
             if [[ $word == -* ]]; then
-                _teddertempo_words "--blocks --count --exact --function --help --json --list --list-rules --max-size --not-rule --output
+                _teddertempo_words "--blocks --change --count --exact --function --help --json --list --list-changes --list-rules --max-size --not-rule --output
                     --quiet --reach --rule --seed --show --shrink --stats --strip-debug --version"
             else
                 _teddertempo_modules "$word"

@@ -1,82 +1,146 @@
-//! Another local of the same type.
-ghost use Rattle.std.specs.Prelude.{◌≡◌, ◌≢◌, ◌<◌, ◌≤◌, ◌%◌, ◌^◌, ℕ, List, Some, get_or, length, IfNone, IfOk, IfSome, IsTrue};
+//! Another local, global or function of the same type.
+ghost use Rattle.std.specs.Prelude.{◌≡◌, ◌≢◌, ◌↔◌, ℕ, List, slice_get, IfNone, IfOk, IfSome, IsTrue};
 ghost use Rattle.wasm_code.specs.Instruction.{Instruction};
-ghost use Rattle.body_changes.specs.declared.change.Change.TheVariants.{Local};
-ghost use Rattle.body_changes.specs.Drawing.{is_local_row};
-ghost use Rattle.body_changes.specs.Goals.{indexed, HasVariable};
-ghost use Rattle.body_changes.specs.Kinds.{MakesLocal};
-ghost use Rattle.body_changes.specs.Proposals.{context_at, operators_of, IsNewAt, IsPlace, NamesAt};
+ghost use Rattle.wasm_types.specs.Module.{function_type};
+ghost use Rattle.body_changes.specs.Goals.{indexed};
+ghost use Rattle.body_changes.specs.Kinds.{HaveOneType};
+ghost use Rattle.body_changes.specs.Proposals.{context_at, count_in, is_row_of, named_in, AreAlike, IsAnother, IsNewAt, IsPlace, MakesOther};
 
 use crate::constants::instr;
-use crate::drawing::word_at;
+use crate::drawing::{named, word_at};
 use crate::kinds::Place;
 use crate::kinds::operators::behind_operands;
 use crate::own::instr_at;
+use crate::typed::are_same;
+use crate::variables::globals_of;
 use std::alloc::{AllocError, Global};
 use wasm_code::{Imm, Instr};
-use wasm_types::PrimitiveTypeInfo;
+use wasm_types::{ModuleInfo, PrimitiveTypeInfo, TypeInfo};
 
-// The first local from `from` on, before `to`, that has the type and isn't the own one.
-fn other_within(
-    locals: &[PrimitiveTypeInfo],
-    own: usize,
-    t: PrimitiveTypeInfo,
-    from: usize,
-    to: usize,
-) -> Option<usize>
-    requires { to ≤ length locals.now }
-    ensures some { IfSome result (λ n. (from ≤ n) × (n < to) × (n ≢ own)
-        × HasVariable locals.now t n) }
-    ensures first { (n : ℕ) → from ≡ n → n < to → n ≢ own → HasVariable locals.now t n
-        → result ≡ Some n }
-    ensures none { IfNone result ((n : ℕ) → from ≤ n → n < to → n ≢ own
-        → ¬ (HasVariable locals.now t n)) }
+/// What the index of an instruction names.
+#[derive(Clone, Copy)]
+pub(crate) enum Indexed {
+    /// A local, which is read or written.
+    Local,
+    /// A global, which is read.
+    Global,
+    /// A function, which is called.
+    Function,
+}
+
+// Whether both variables are there, and of one type.
+fn have_one_type(types: &[PrimitiveTypeInfo], own: usize, other: usize) -> bool
+    ensures { IsTrue result ↔ HaveOneType (slice_get types.now) own other }
 {
-    for n in from..to {
-        if n != own && locals[n] == t {
-            return Some(n);
+    let Some(t) = types.get(own) else {
+        return false;
+    };
+    let Some(u) = types.get(other) else {
+        return false;
+    };
+    *t == *u
+}
+
+// Whether both are the same type.
+fn are_equal(one: &TypeInfo, other: &TypeInfo) -> bool
+    ensures { IsTrue result ↔ (one.now ≡ other.now) }
+{
+    match (one, other) {
+        (TypeInfo::Func(one), TypeInfo::Func(other)) => {
+            are_same(&one.params, &other.params) && are_same(&one.returns, &other.returns)
         }
-    }
-    None
-}
-
-// The first one from that on which the word names, modulo their number, and then from the first one on. Its index has 32 bits.
-fn other_local(locals: &[PrimitiveTypeInfo], own: usize, word: u64) -> Option<u32>
-    ensures some { IfSome result (λ n. (n ≢ own) × (t : PrimitiveTypeInfo)
-        × HasVariable locals.now t own × HasVariable locals.now t n) }
-    ensures named { (t : PrimitiveTypeInfo) (n : ℕ) → n < 2 ^ 32 → n ≢ own
-        → HasVariable locals.now t own → HasVariable locals.now t n → word ≡ n
-        → result ≡ Some n }
-    ensures none { IfNone result ((t : PrimitiveTypeInfo) (n : ℕ) → n < 2 ^ 32 → n ≢ own
-        → HasVariable locals.now t own → ¬ (HasVariable locals.now t n)) }
-{
-    let t = *locals.get(own)?;
-    let count = locals.len().min(0x1_0000_0000);
-    let from = (word % count as u64) as usize;
-    match other_within(locals, own, t, from, count) {
-        Some(n) => Some(n as u32),
-        None => match other_within(locals, own, t, 0, from) {
-            Some(n) => Some(n as u32),
-            None => None,
-        },
+        (TypeInfo::Other, TypeInfo::Other) => true,
+        _ => false,
     }
 }
 
-// Whether the row is that of an access to a local.
-fn is_local_row(row: u16) -> bool
-    ensures { result ≡ is_local_row row }
+// Whether both places have a type, and the same one: in most modules that is one place.
+fn are_one_type(types: &[TypeInfo], own: usize, other: usize) -> bool
+    ensures { IsTrue result ↔ HaveOneType (slice_get types.now) own other }
 {
-    row == 4 || row == 5 || row == 6
+    let Some(t) = types.get(own) else {
+        return false;
+    };
+    let Some(u) = types.get(other) else {
+        return false;
+    };
+    own == other || are_equal(t, u)
 }
 
-// The index of the local that the instruction accesses.
-fn local_of(own: &Instr) -> Option<u32>
+// Whether both functions are there, and of one type.
+fn are_functions_of_one_type(info: &ModuleInfo<'_>, own: usize, other: usize) -> bool
+    ensures { IsTrue result ↔ HaveOneType (function_type info.now) own other }
+{
+    let Some(t) = info.function_map.get(own) else {
+        return false;
+    };
+    let Some(u) = info.function_map.get(other) else {
+        return false;
+    };
+    are_one_type(&info.types_map, *t as usize, *u as usize)
+}
+
+// How many there are.
+fn count_of(place: &Place<'_>, kind: Indexed) -> usize
+    ensures { result ≡ count_in (context_at place.now) kind }
+{
+    let info = place.source.info;
+    match kind {
+        Indexed::Local => place.source.locals.len(),
+        Indexed::Global => info.global_types.len(),
+        Indexed::Function => info.function_map.len(),
+    }
+}
+
+// Whether both are there, and of one type.
+fn are_alike(place: &Place<'_>, kind: Indexed, own: usize, other: usize) -> bool
+    ensures { IsTrue result ↔ AreAlike (context_at place.now) kind own other }
+{
+    match kind {
+        Indexed::Local => have_one_type(place.source.locals, own, other),
+        Indexed::Global => have_one_type(globals_of(place.source.info), own, other),
+        Indexed::Function => are_functions_of_one_type(place.source.info, own, other),
+    }
+}
+
+// The one that the first word names, modulo their number, where it is another one. Its index has 32 bits.
+fn other_index(place: &Place<'_>, kind: Indexed, own: usize, words: &[u64]) -> Option<u32>
+    ensures some { IfSome result (λ n. (n ≡ named_in (context_at place.now) kind words.now)
+        × IsAnother (context_at place.now) kind own n) }
+    ensures none { IfNone result (¬ (IsAnother (context_at place.now) kind own
+        (named_in (context_at place.now) kind words.now))) }
+{
+    let count = count_of(place, kind).min(0x1_0000_0000);
+    if count == 0 {
+        return None;
+    }
+    let n = named(word_at(words, 0), count);
+    if n != own && are_alike(place, kind, own, n) {
+        Some(n as u32)
+    } else {
+        None
+    }
+}
+
+// Whether the index of the row's instructions names such a thing, which may be another one.
+fn is_row_of(kind: Indexed, row: u16) -> bool
+    ensures { result ≡ is_row_of kind row }
+{
+    match kind {
+        Indexed::Local => row == 4 || row == 5 || row == 6,
+        Indexed::Global => row == 7,
+        Indexed::Function => row == 1,
+    }
+}
+
+// The instruction's index, where it names such a thing.
+fn index_of(own: &Instr, kind: Indexed) -> Option<u32>
     ensures some { IfSome result (λ n. (own.now ≡ indexed own.now.row n)
-        × IsTrue (is_local_row own.now.row)) }
-    ensures none { IfNone result ((row n : ℕ) → IsTrue (is_local_row row)
+        × IsTrue (is_row_of kind own.now.row)) }
+    ensures none { IfNone result ((row n : ℕ) → IsTrue (is_row_of kind row)
         → own.now ≢ indexed row n) }
 {
-    if !is_local_row(own.row()) {
+    if !is_row_of(kind, own.row()) {
         return None;
     }
     match own.imm() {
@@ -85,32 +149,30 @@ fn local_of(own: &Instr) -> Option<u32>
     }
 }
 
-/// The same access to another local of the type, behind the same operand: the first one from that on which the first word names, modulo
-/// their number, and then from the first one on.
+/// The same instruction with the index of the thing that the first word names, modulo their number, where that is another one of the type,
+/// behind the same operands. It takes time by the length of a function's type.
 pub(crate) fn other_access(
     alloc: Global,
     place: &Place<'_>,
+    kind: Indexed,
     words: &[u64],
 ) -> Result<Option<Vec<Instr>>, AllocError>
     requires { IsPlace place.now }
-    ensures made { IfOk result (λ o. IfSome o (λ code. MakesLocal (context_at place.now)
-        (operators_of place.now) place.now.at place.now.unit code.items)) }
+    ensures made { IfOk result (λ o. IfSome o (λ code.
+        MakesOther place.now kind words.now code.items)) }
     ensures new { IfOk result (λ o. IfSome o (λ code. IsNewAt place.now code.items)) }
     ensures none { IfOk result (λ o. IfNone o ((code : List Instruction)
-        → MakesLocal (context_at place.now) (operators_of place.now) place.now.at
-        place.now.unit code → ¬ (IsNewAt place.now code))) }
-    ensures named { IfOk result (λ o. IfSome o (λ code. (c : List Instruction)
-        → MakesLocal (context_at place.now) (operators_of place.now) place.now.at
-        place.now.unit c → IsNewAt place.now c → NamesAt place.now Local words.now c
-        → code.items ≡ c)) }
+        → MakesOther place.now kind words.now code → ¬ (IsNewAt place.now code))) }
+    ensures only { IfOk result (λ o. IfSome o (λ code. (c : List Instruction)
+        → MakesOther place.now kind words.now c → code.items ≡ c)) }
 {
     let Some(own) = instr_at(place.source.operators, place.at) else {
         return Ok(None);
     };
-    let Some(index) = local_of(&own) else {
+    let Some(index) = index_of(&own, kind) else {
         return Ok(None);
     };
-    let Some(other) = other_local(place.source.locals, index as usize, word_at(words, 0)) else {
+    let Some(other) = other_index(place, kind, index as usize, words) else {
         return Ok(None);
     };
     behind_operands(alloc, place, instr(own.row(), Imm::Index(other)))

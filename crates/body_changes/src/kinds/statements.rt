@@ -1,5 +1,5 @@
 //! Statements, which leave no value: gone, twice, or in another order.
-ghost use Rattle.std.specs.Prelude.{◌≡◌, ℕ, List, IfNone, IfOk, IfSome};
+ghost use Rattle.std.specs.Prelude.{ℕ, List, IfNone, IfOk, IfSome};
 ghost use Rattle.wasm_code.specs.Instruction.{Instruction};
 ghost use Rattle.body_changes.specs.Kinds.{MakesNothing, MakesTurned, MakesTwice};
 ghost use Rattle.body_changes.specs.declared.units.Unit.{Unit as UnitOf};

@@ -5,7 +5,7 @@ use Rattle.module_changes.specs.Entry.{AllTried}
 use Rattle.module_changes.specs.Scope.{words_count}
 use Rattle.module_changes.specs.Words.{words_of}
 use Rattle.module_changes.specs.declared.entry.Attempt.TheVariants.{Unchanged}
-use Rattle.module_changes.proofs.TimesLemmas.{gives_up, vain_more}
+use Rattle.module_changes.proofs.TimesLemmas.{gives_up, large_more}
 use Rattle.module_changes.proofs.attempt.change_read.Goals as goal
 
 pub returns-in-Unchanged-clause-none : goal.returns-in-Unchanged-clause-none
@@ -25,7 +25,7 @@ returns-in-Unchanged-clause-none g c =
 
 pub draws-preserved : goal.draws-preserved
 draws-preserved g c =
-    vain_more c.args.scope.now c.args.reading.now.bytes.now c.args.reading.now.info.now c.args.reading.now.layout.now
+    large_more c.args.scope.now c.args.reading.now.bytes.now c.args.reading.now.info.now c.args.reading.now.layout.now
     (g.R.Rng.stream c.args.generator.now) c.draws.counter c.words.result c.deref.result.now (g.R.Rng.stream c.draws.generator)
     (g.R.Rng.stream c.draw_words.new.generator) c.draws.invariant c.words.ensures (c.deref.ensures.value ∙ c.in_ok-words.ensures.words)
     c.in_ok-words.ensures.after

@@ -3,11 +3,10 @@ use Rattle.std.proofs.Common.{◌≤◌, ◌+◌, Option, ℕ, sym, subst, arith
 use Rattle.std.proofs.lemmas.Bool.{false≢true}
 use Rattle.std.proofs.lemmas.Grind.{common_steps}
 use Rattle.module_rewrites.specs.Mutated.{IsChosen}
-use Rattle.module_changes.specs.Chosen.{IsVain}
 use Rattle.module_changes.specs.Entry.{IsTried}
-use Rattle.module_changes.proofs.ChoosingLemmas.{Unchanging, step_large, step_unchanged, vain_to}
+use Rattle.module_changes.proofs.ChoosingLemmas.{unchanged_next, unchanged_to}
 use Rattle.module_changes.proofs.choosing.change_within.Goals as goal
-use Rattle.module_changes.proofs.choosing.change_within.Goals.{then-is_chosen+in_ok-made+in-TooLarge, then-is_chosen+in_ok-made+in-Unchanged, else-is_chosen}
+use Rattle.module_changes.proofs.choosing.change_within.Goals.{then-is_chosen+in_ok-attempt+in-Unchanged, else-is_chosen}
 
 pub loop-n-preserved : goal.loop-n-preserved
 loop-n-preserved c =
@@ -17,26 +16,17 @@ loop-n-preserved c =
     let layout = c.args.reading.now.layout.now in
     let words = c.args.words.now in
     elim c.if-is_chosen.branch [
-      | then-is_chosen+in_ok-made+in-TooLarge w ↦
-          step_large scope bytes info layout words c.args.range.start c.loop-n.n c.loop-n.large c.if-is_chosen.large w.large-is c.loop-n.invariant
-          (subst (IsTried scope bytes info layout words c.loop-n.n) w.in-TooLarge.is w.in_ok-made.ensures.tried)
-      | then-is_chosen+in_ok-made+in-Unchanged w ↦
-          step_unchanged scope bytes info layout words c.args.range.start c.loop-n.n c.loop-n.large c.if-is_chosen.large w.large-is c.loop-n.invariant
-          (λ chosen. subst (IsTried scope bytes info layout words c.loop-n.n) w.in-Unchanged.is w.in_ok-made.ensures.tried)
+      | then-is_chosen+in_ok-attempt+in-Unchanged w ↦
+          unchanged_next scope bytes info layout words c.args.range.start c.loop-n.n c.loop-n.invariant
+          (λ chosen. subst (IsTried scope bytes info layout words c.loop-n.n) w.in-Unchanged.is w.in_ok-attempt.ensures.tried)
       | else-is_chosen w ↦
-          step_unchanged scope bytes info layout words c.args.range.start c.loop-n.n c.loop-n.large c.if-is_chosen.large w.large-is c.loop-n.invariant
+          unchanged_next scope bytes info layout words c.args.range.start c.loop-n.n c.loop-n.invariant
           (λ chosen. absurd (false≢true (w.if-is_chosen.ensures.1
           (subst (λ (o : Option ℕ). IsChosen o (layout.imported_functions + c.loop-n.n)) (sym c.function.ensures) chosen))))
     ]
 
-pub returns-then-large-clause-tried : goal.returns-then-large-clause-tried
-returns-then-large-clause-tried c =
+pub returns-clause-tried : goal.returns-clause-tried
+returns-clause-tried c =
     let past : c.args.range.end ≤ c.loop-n.n = grind (arith, common_steps) in
-    vain_to (IsVain c.args.scope.now c.args.reading.now.bytes.now c.args.reading.now.info.now c.args.reading.now.layout.now c.args.words.now)
-    c.args.range.start c.loop-n.n c.args.range.end past c.loop-n.invariant.0
-
-pub returns-else-large-clause-tried : goal.returns-else-large-clause-tried
-returns-else-large-clause-tried c =
-    let past : c.args.range.end ≤ c.loop-n.n = grind (arith, common_steps) in
-    vain_to (Unchanging c.args.scope.now c.args.reading.now.bytes.now c.args.reading.now.info.now c.args.reading.now.layout.now c.args.words.now)
-    c.args.range.start c.loop-n.n c.args.range.end past (c.loop-n.invariant.1 c.if-large.false)
+    unchanged_to c.args.scope.now c.args.reading.now.bytes.now c.args.reading.now.info.now c.args.reading.now.layout.now c.args.words.now
+    c.args.range.start c.loop-n.n c.args.range.end past c.loop-n.invariant

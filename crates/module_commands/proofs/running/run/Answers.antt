@@ -66,3 +66,25 @@ returns-in_ok-flush-in-Blocks-clause-alone g c = λ takes exact.
 
 pub returns-in-Rules-clause-alone : goal.returns-in-Rules-clause-alone
 returns-in-Rules-clause-alone g c = λ takes exact. absurd (subst TakesModule c.in-Rules.is takes)
+
+-- the same of a module that is changed
+pub returns-in_ok-bytes-in-Change-clause-fails : goal.returns-in_ok-bytes-in-Change-clause-fails
+returns-in_ok-bytes-in-Change-clause-fails g c =
+    let options = c.args.options.now in
+    let bytes = c.deref-in-Change.result.now in
+    let taken = c.in_ok-bytes-in-Change.ensures in
+    let none : IsNoOther bytes = subst IsNoOther (sym c.deref-in-Change.ensures.value) taken.other in
+    err_map c.write_changed.result (λ e h. of_all (λ bytes. FailsToDo options.task options bytes e) (g.R.Read.remaining c.args.input.now.device)
+    (g.R.Read.remaining c.take_module-in-Change.new.input.device) c.in_ok-bytes-in-Change.bytes.items bytes taken.bytes taken.end
+    c.deref-in-Change.ensures.value (task_fails options.task options bytes e none
+    (subst (λ (task : Task). FailsAtTask task options bytes e) (sym c.in-Change.is) h))) c.write_changed.ensures.fails
+
+pub returns-in_ok-bytes-in-Change-clause-alone : goal.returns-in_ok-bytes-in-Change-clause-alone
+returns-in_ok-bytes-in-Change-clause-alone g c = λ takes exact.
+    let taken = c.in_ok-bytes-in-Change.ensures in
+    on_ok_of c.write_changed.result
+    (of_all (λ bytes. ¬ (SharesMemory bytes)) (g.R.Read.remaining c.args.input.now.device) (g.R.Read.remaining c.take_module-in-Change.new.input.device)
+    c.in_ok-bytes-in-Change.bytes.items c.in_ok-bytes-in-Change.bytes.items taken.bytes taken.end refl (taken.alone exact))
+
+pub returns-in-Changes-clause-alone : goal.returns-in-Changes-clause-alone
+returns-in-Changes-clause-alone g c = λ takes exact. absurd (subst TakesModule c.in-Changes.is takes)

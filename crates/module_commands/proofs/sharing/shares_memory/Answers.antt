@@ -1,5 +1,5 @@
 -- By the reading of the module, which is one.
-use Rattle.std.proofs.Common.{◌≡◌, ◌∙◌, false, true, ap, sym}
+use Rattle.std.proofs.Common.{◌≡◌, ◌∙◌, ap, sym}
 use Rattle.std.proofs.lemmas.Bool.{false≢true}
 use Rattle.wasm_types.specs.Module.{Module}
 use Rattle.wasm_module.specs.declared.layout.Module.{Module as Whole}

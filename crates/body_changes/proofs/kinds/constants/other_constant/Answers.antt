@@ -21,6 +21,6 @@ returns-clause-named c = λ code makes new names.
     let type = rw c.in-Some.is at c.number_type.ensures.some in
     let other = c.other_than-other.result in
     named_constant (context_at place) (operators_of place) place.at place.unit c.in-Some.t c.requires.is type.0 type.1 c.in-Some-instr_at.own
-    (rw c.in-Some-instr_at.is at c.instr_at.ensures.some) c.first_words-choice.result c.constant.result other c.args.words.now c.push.new.self.items
-    code c.first_words-choice.ensures c.constant.ensures.own c.other_than-other.ensures.drawn
+    (rw c.in-Some-instr_at.is at c.instr_at.ensures.some) c.first_words.result c.drawn_constant.result other c.args.words.now c.push.new.self.items
+    code c.first_words.ensures c.drawn_constant.ensures.own c.other_than-other.ensures.drawn
     (c.in_ok-push.ensures.items ∙ ap (λ (xs : List Instruction). xs ++ other ∷ []) c.new-code.ensures.items) makes new names

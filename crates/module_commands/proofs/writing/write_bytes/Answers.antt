@@ -1,6 +1,6 @@
 -- What was written stays when the device is flushed.
 use Rattle.module_commands.proofs.WritesLemmas.{appends_keeps}
-use Rattle.module_commands.proofs.running.write_bytes.Goals as goal
+use Rattle.module_commands.proofs.writing.write_bytes.Goals as goal
 
 pub returns-clause-written : goal.returns-clause-written
 returns-clause-written g c =
