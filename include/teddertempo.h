@@ -47,11 +47,12 @@ size_t teddertempo_mutate(uint8_t *data, size_t size, size_t max_size, uint64_t 
 
 /*
  * The same arguments, for a fuzzer that goes by coverage: changes the module in data[0..size] once, in place, so that it stays
- * valid and computes something else. The seed chooses the function by its size, the change (another constant, operator or local,
- * code drawn anew or copied, an operand for its operator, operands or statements exchanged, a statement twice or none) and the
- * operator. What is valid stays valid, as above; of what the new module computes nothing is promised. Returns the new size, at
- * most max_size, or 0, and data is as it was: size is above max_size, the bytes are no module that can be read or an object file,
- * nothing of it is changed by what the seed draws, or not so that it fits, or no memory is left.
+ * valid and computes something else. The seed chooses the function by its size, the change (another constant, operator, local,
+ * global, function or memory argument, code drawn anew or copied, an operand for its operator, operands or statements exchanged, a
+ * statement twice or none) and the operator. What is valid stays valid, as above; of what the new module computes nothing is
+ * promised. Returns the new size, at most max_size, or 0, and data is as it was: size is above max_size, the bytes are no module
+ * that can be read or an object file, nothing of it is changed by what the seed draws, or not so that it fits, or no memory is
+ * left.
  */
 size_t teddertempo_change(uint8_t *data, size_t size, size_t max_size, uint64_t seed);
 

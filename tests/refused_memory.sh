@@ -1,17 +1,17 @@
 #!/usr/bin/env bash
-# Refuses to each call that takes memory its requests in turn: each one, or of more than a hundred the first and the last fifty, and
-# each tenth between these. Prints a line for each call: how many requests were refused, one a run, of how many, and how many of
-# them to the call itself. Fails where an answer is none of those allowed: a test in
-# peephole_worked_tests (src/refused.rt), rule_tests (src/refused_bodies.rt), teddertempo (src/refused_modules.rt)
-# or peephole_run (src/refused_memory.rt) says which, and stops at any other.
+# Refuses to calls that take memory, those of `calls` below, their requests in turn: each one, or of more than a hundred the first and
+# the last fifty, and each tenth between these. Prints a line for each call: how many requests were refused, one a run, of how many,
+# and how many of them to the call itself. Fails where an answer is none of those allowed: a test in peephole_worked_tests
+# (src/refused.rt), rule_tests (src/refused_bodies.rt), teddertempo (src/refused_modules.rt) or peephole_run (src/refused_memory.rt)
+# says which, or changes.rt.in of tests/refused_memory, and stops at any other.
 #
-# The program in tests/refused_memory makes a call of those tests over all its samples. It is built twice: without a refusal,
+# The program in tests/refused_memory makes a call of those over all its samples. It is built twice: without a refusal,
 # which counts the requests of each call, and with request number `at` refused, before which it asks for memory and gives it
 # back so often that the refused request is the call's first, second and so on, up to one run that meets no refusal.
 set -euo pipefail
 cd "$(dirname "$0")/.."
 
-calls="read_body get_dfg get_expr build_expr add expr2wasm build_function pretty_print trees_of blocks_of rewrites_of_body reached_operators choose rewrite_body read_module with_body rewrite_module run"
+calls="read_body get_dfg get_expr build_expr add expr2wasm build_function pretty_print trees_of blocks_of rewrites_of_body reached_operators choose rewrite_body read_module with_body rewrite_module units_of code_of_words change_of_words replace_code change_module run"
 never=1000000
 
 work=$(mktemp -d)
@@ -27,6 +27,7 @@ done
 program=$work/crates/refused_memory
 mkdir -p "$program/src" "$work/counted" "$work/cases"
 cp tests/refused_memory/main.rt.in "$program/src/main.rt"
+cp tests/refused_memory/changes.rt.in "$program/src/changes.rt"
 cp crates/peephole_worked_tests/src/{graphs,refused,samples,table,terms,writing}.rt "$program/src"
 cp crates/rule_tests/src/refused_bodies.rt "$program/src"
 cp crates/teddertempo/src/refused_modules.rt crates/peephole_run/src/refused_memory.rt "$program/src"
