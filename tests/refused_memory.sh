@@ -57,7 +57,12 @@ refused_of() {
 }
 
 for call in $calls; do echo "$call 0" > "$work/counted/$call"; done
-tried --fail-alloc "$never" --cases "$work/counted" > "$work/requests"
+# The interpreter counts them, and where its steps end before the call does, says so: that count isn't all.
+tried --steps 100000000 --seconds 600 --fail-alloc "$never" --cases "$work/counted" > "$work/requests"
+if grep "^allocations: at least" "$work/log"; then
+    echo "the interpreter's steps ended before a call did"
+    exit 1
+fi
 at=1
 while read -r call end requests said; do
     if [ "$end $said" != "run=ended,status=0 nothing" ]; then
@@ -73,7 +78,7 @@ while read -r call _ requests _; do
         echo "$call $((at - n))" > "$work/cases/$call-$n"
     done
 done < "$work/requests"
-# The interpreter, which counts the requests, takes a second a case: few steps stop it, and the compiled program answers.
+# The interpreter, which counted the requests, takes seconds a case: few steps stop it, and the compiled program answers.
 tried --steps 1000 --fail-alloc "$at" --cases "$work/cases" > "$work/answers"
 
 status=0
