@@ -3,6 +3,7 @@
 #   - the two programs rewrite the modules of tests/modules, and change them, under some seeds (8, or the number that is given), each
 #     with options of its own: both say the same and write the same bytes, which wasm-validate accepts, where it is there; and both
 #     refuse options that are for rewrites alone where they are to change;
+#   - code of one module comes into another, and what is made is valid;
 #   - the header is compiled as C++, the fuzz target and the mutator for AFL++ with KEEP, and the tests of the Rust crate are run;
 #   - where clang has libFuzzer, 2,000 runs of the fuzz target;
 #   - where AFL++ is there, three instances of afl-fuzz for a minute (or AFL_SECONDS; none where that is 0): two over one output
@@ -140,6 +141,7 @@ compile() {
 }
 
 judge "c/mutate.c" compile c/mutate.c "${CC:-cc}" -pedantic -O2 "$library" -o "$work/mutate"
+judge "c/splice.c" compile c/splice.c "${CC:-cc}" -pedantic -O2 "$library" -o "$work/splice"
 judge "c/fuzz.c with KEEP" compile c/fuzz.c "${CC:-cc}" -DKEEP -pedantic -O2 -c -o "$work/keep.o"
 judge "afl/mutator.c with KEEP" compile afl/mutator.c "${CC:-cc}" -DKEEP -pedantic -O2 -shared -fPIC "$library" -o "$work/keep.so"
 if command -v "${CXX:-c++}" > /dev/null; then
@@ -169,6 +171,14 @@ for asked in "--change --exact" "--percent 5 --change" "--rule $rule --seed 1 --
     read -ra options <<< "$asked"
     judge "that ${options[*]} is refused" refuses tests/modules/numbers.wasm "${options[@]}"
 done
+
+# Code of the second module comes into the first one, which stays valid.
+splices() {
+    "$work/splice" "$1" "tests/modules/$2.wasm" "tests/modules/$3.wasm" "$work/new.wasm" || return 1
+    if cmp -s "tests/modules/$2.wasm" "$work/new.wasm"; then return 1; fi
+    if command -v wasm-validate > /dev/null; then wasm-validate --enable-all "$work/new.wasm"; fi
+}
+for seed in $(seq 0 $((seeds - 1))); do judge "code of hashes in numbers with seed $seed" splices "$seed" numbers hashes; done
 
 mkdir "$work/corpus"
 cp tests/modules/*.wasm "$work/corpus"

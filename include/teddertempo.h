@@ -2,12 +2,12 @@
  * Teddertempo 0.3.0: rewrites instructions of a WebAssembly module so that it does what it did, or changes them so that it stays
  * valid and computes something else.
  *
- * Link libteddertempo.a (pkg-config --cflags --libs teddertempo).
+ * Link libteddertempo.a (pkg-config --cflags --libs teddertempo), or load libteddertempo.so.0, which has the same calls.
  *
  * A valid module stays valid, by types: that is proved of every call. Of a module that is rewritten each function that can be
  * read, called with any arguments in any memory, tables and globals, does what it did: that is proved too. Of what a module
- * computes that is changed (teddertempo_change, teddertempo_change_with, and teddertempo_either where it changes) nothing is
- * promised, nor that it ends. Whether the module is valid to begin with, no call checks.
+ * computes that is changed (teddertempo_change, teddertempo_change_with, teddertempo_splice, and teddertempo_either where it
+ * changes) nothing is promised, nor that it ends. Whether the module is valid to begin with, no call checks.
  *
  * Where an engine shows a difference between a module and a rewritten one it is wrong, with the exceptions that docs/PROMISES.md
  * of the sources has: a host that lists globals, counts them or compares bytes; limits of stack, time, fuel and memory, of which
@@ -16,9 +16,9 @@
  * A rewrite may append globals, so that many rewrites may pass an engine's limits.
  *
  * The caller sees to it that
- *   - data points to max_size bytes, fewer than 2^63, that may be read and written, and the other pointers to what their types
- *     say, as this header has them, valid and aligned; none is null, even where max_size, room or length is 0, and no two of them
- *     overlap;
+ *   - data points to max_size bytes, fewer than 2^63, that may be read and written, other to other_size bytes, fewer than 2^63, and
+ *     the other pointers to what their types say, as this header has them, valid and aligned; none is null, even where max_size,
+ *     other_size, room or length is 0, and no two of them overlap;
  *   - nothing else reads or writes these during the call.
  *
  * No state is kept between calls, and any thread may call on buffers of its own. A call takes memory from malloc and realloc,
@@ -62,6 +62,16 @@ size_t teddertempo_change(uint8_t *data, size_t size, size_t max_size, uint64_t 
  * these do.
  */
 size_t teddertempo_either(uint8_t *data, size_t size, size_t max_size, uint64_t seed, uint32_t keep);
+
+/*
+ * Code of another module, for a fuzzer's cross-over: an operator of the module in other[0..other_size], with its operands, takes the
+ * place of such code in the module in data[0..size]. Both give a value of one type, or both none. Only code comes over of which
+ * nothing is asked but types, so that it has no load, store or call; a local or a global in it keeps its index, and has to have the
+ * same type in the new place. The seed chooses the code and the place. What is valid stays valid; of what the new module computes
+ * nothing is promised. Returns the new size, at most max_size, or 0, and data is as it was: for a reason of teddertempo_change, or
+ * other is no module that can be read, or none of the code that the seed draws fits.
+ */
+size_t teddertempo_splice(uint8_t *data, size_t size, size_t max_size, const uint8_t *other, size_t other_size, uint64_t seed);
 
 /* What a call has done, or why it has done nothing. */
 enum {
@@ -122,7 +132,7 @@ enum {
     TEDDERTEMPO_CHANGE_OPERATOR = 1,             /* an operator becomes another one of the same types */
     TEDDERTEMPO_CHANGE_LOCAL = 2,                /* an access to a local becomes one to another of its type */
     TEDDERTEMPO_CHANGE_DRAW = 3,                 /* a value is drawn anew: a constant, a local, a global, or operators on such */
-    TEDDERTEMPO_CHANGE_COPY = 4,                 /* a value, or a statement, becomes a copy of another one of the function */
+    TEDDERTEMPO_CHANGE_COPY = 4,                 /* a value, or a statement, becomes a copy of another one */
     TEDDERTEMPO_CHANGE_FIRST_OPERAND = 5,        /* the first of two operands stands for the whole */
     TEDDERTEMPO_CHANGE_LAST_OPERAND = 6,         /* the only operand, or the second one, does */
     TEDDERTEMPO_CHANGE_EXCHANGE_OPERANDS = 7,    /* two operands of one type change places */

@@ -6,19 +6,24 @@
 #   - a new module is the one that was changed, or isn't accepted;
 #   - a seed, of which each tenth is tried, makes other bytes once more, or by the program `teddertempo --change`, where there is one;
 #   - fewer than four in five of a module's seeds make a new one, or of these fewer than four in five are different ones;
+#   - code of the module before it in the folder comes into a module, under a quarter of the seeds, and that crashes, or what is made
+#     isn't accepted;
 #   - wasm-validate doesn't accept a module as it is, but for some of the folder newer, which have what it doesn't know.
 # Prints a line for each module: how many new ones there are, how many of them are different ones, and who judged them. The last line is
 # `N passed, N failed`, and the one before it says how many nobody judged. What fails is kept in the folder of the variable KEEP, where
 # that is set.
 #
-# Usage: changes.sh [SEEDS [PROGRAM]]. PROGRAM is examples/c/mutate.c, compiled; where none is named it is compiled with the library in
-# the folder of TEDDERTEMPO_LIB, or with the one that tools/library.sh proves and builds. The variable TEDDERTEMPO names the program
+# Usage: changes.sh [SEEDS [PROGRAM]]. PROGRAM is examples/c/mutate.c, compiled, and SPLICE names examples/c/splice.c, compiled; where
+# either isn't named they are compiled with the library in the folder of TEDDERTEMPO_LIB, or with the one that tools/library.sh proves
+# and builds. The variable TEDDERTEMPO names the program
 # `teddertempo`; without it the library alone is tried. Needs wabt (wasm-validate) and a C compiler.
 set -euo pipefail
 seeds=${1:-200}
 program=${2:-}
+splice=${SPLICE:-}
 teddertempo=${TEDDERTEMPO:-}
 if [ -n "$program" ]; then program=$(realpath "$program"); fi
+if [ -n "$splice" ]; then splice=$(realpath "$splice"); fi
 if [ -n "$teddertempo" ]; then teddertempo=$(realpath "$teddertempo"); fi
 if [ -n "${TEDDERTEMPO_LIB:-}" ]; then TEDDERTEMPO_LIB=$(realpath "$TEDDERTEMPO_LIB"); fi
 cd "$(dirname "$0")/.."
@@ -37,13 +42,16 @@ if [ -z "$teddertempo" ]; then echo "TEDDERTEMPO names no program: the library i
 work=$(mktemp -d)
 trap 'rm -rf "$work"' EXIT
 
-if [ -z "$program" ]; then
+if [ -z "$program" ] || [ -z "$splice" ]; then
     if [ -z "${TEDDERTEMPO_LIB:-}" ]; then
         tools/library.sh "$work/lib"
         TEDDERTEMPO_LIB=$work/lib
     fi
+    for example in mutate splice; do
+        "${CC:-cc}" -std=c99 -O2 -I include "examples/c/$example.c" "$TEDDERTEMPO_LIB/libteddertempo.a" -o "$work/$example"
+    done
     program=$work/mutate
-    "${CC:-cc}" -std=c99 -O2 -I include examples/c/mutate.c "$TEDDERTEMPO_LIB/libteddertempo.a" -o "$program"
+    splice=$work/splice
 fi
 
 passed=0
@@ -117,6 +125,22 @@ change_all() {
     done
 }
 
+# Takes code of the other module into the module under a quarter of the seeds.
+splice_all() {
+    local module=$1 name=$2 other=$3 seed new status
+    for seed in $(seq 0 4 $((seeds - 1))); do
+        new=$work/new/spliced$seed.wasm
+        status=0
+        timeout 60 "$splice" "$seed" "$module" "$other" "$new" > "$work/said" 2>&1 || status=$?
+        if [ "$status" -eq 0 ]; then
+            if cmp -s "$module" "$new"; then fail "$name" "seed $seed splices nothing" "$new"; fi
+        elif [ "$status" -ne 2 ] || [ -e "$new" ]; then
+            fail "$name" "seed $seed splices with status $status: $(head -n 1 "$work/said")" "$module"
+            rm -f "$new"
+        fi
+    done
+}
+
 # Has what was made of a module judged by those that accept it as it was.
 judge_all() {
     local module=$1 name=$2 judges="" new
@@ -138,6 +162,7 @@ judge_all() {
     judged_by=${judges:- nobody}
 }
 
+before=tests/modules/numbers.wasm
 for module in tests/modules/*.wasm tests/modules/newer/*.wasm; do
     name=$(basename "$module" .wasm)
     mkdir "$work/new"
@@ -145,9 +170,15 @@ for module in tests/modules/*.wasm tests/modules/newer/*.wasm; do
     find "$work/new" -name '*.wasm' > "$work/made"
     made=$(wc -l < "$work/made")
     different=$(find "$work/new" -name '*.wasm' -exec sha256sum {} + | cut -d ' ' -f 1 | sort -u | wc -l)
+    enough=$((made * 5 >= seeds * 4 && different * 5 >= made * 4))
+    splice_all "$module" "$name" "$before"
+    before=$module
+    find "$work/new" -name '*.wasm' > "$work/made"
+    spliced=$(($(wc -l < "$work/made") - made))
+    made=$((made + spliced))
     judge_all "$module" "$name"
-    echo "$name: $made made, $different of them different, judged by$judged_by"
-    if [ $((made * 5)) -ge $((seeds * 4)) ] && [ $((different * 5)) -ge $((made * 4)) ]; then
+    echo "$name: $((made - spliced)) made, $different of them different, $spliced spliced, judged by$judged_by"
+    if [ "$enough" -eq 1 ]; then
         pass
     else
         fail "$name" "too few are made, or different" /dev/null

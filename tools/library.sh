@@ -1,15 +1,17 @@
 #!/usr/bin/env bash
-# Proves and builds the static library, and writes FOLDER/libteddertempo.a: the library of the crate teddertempo_c with the
-# kit's part by which it takes memory merged in, so that a program links one archive.
+# Proves and builds the library, and writes
+#   - FOLDER/libteddertempo.a: the library of the crate teddertempo_c with the kit's part by which it takes memory merged in, so that a
+#     program links one archive;
+#   - FOLDER/libteddertempo.so.0: the same as a shared library, which exports the calls of the header and nothing else.
 #
-# Usage: library.sh FOLDER. Needs a Rattle kit, whose rt is on the path, and ar. RATTLE_C names the kit's folder of liblibc_c.a,
-# where that isn't the one beside rt.
+# Usage: library.sh FOLDER. Needs a Rattle kit, whose rt is on the path, ar and a C compiler. RATTLE_C names the kit's folder of
+# liblibc_c.a, where that isn't the one beside rt.
 set -euo pipefail
 if [ $# -ne 1 ]; then
     echo "usage: library.sh FOLDER" >&2
     exit 64
 fi
-for needed in rt ar; do
+for needed in rt ar "${CC:-cc}"; do
     if ! command -v "$needed" > /dev/null; then
         echo "library.sh needs $needed on the path" >&2
         exit 1
@@ -18,7 +20,8 @@ done
 mkdir -p "$1"
 folder=$(realpath "$1")
 kit=$(realpath "${RATTLE_C:-$(dirname "$(realpath "$(command -v rt)")")/../c}")
-crate=$(dirname "$(realpath "$0")")/../crates/teddertempo_c
+root=$(dirname "$(realpath "$0")")/..
+crate=$root/crates/teddertempo_c
 
 work=$(mktemp -d)
 trap 'rm -rf "$work"' EXIT
@@ -37,4 +40,9 @@ addlib liblibc_c.a
 save
 end
 END
-mv libteddertempo.a "$folder/"
+
+mapfile -t calls < <(sed -n 's/^[a-z].*[ *]\(teddertempo_[a-z_]*\)(.*/\1/p' "$root/include/teddertempo.h")
+printf '{ global: %s local: *; };\n' "$(printf '%s; ' "${calls[@]}")" > calls.map
+"${CC:-cc}" -shared "${calls[@]/#/-Wl,-u,}" libteddertempo.a -Wl,-soname,libteddertempo.so.0,--version-script=calls.map,--gc-sections,-z,defs \
+    -o libteddertempo.so.0
+mv libteddertempo.{a,so.0} "$folder/"

@@ -1,14 +1,16 @@
 #!/usr/bin/env bash
 # Proves and builds the programs and the library, and writes into dist/
 #   - teddertempo-VERSION-x86_64-linux.tar.gz, which runs where it is unpacked: the programs teddertempo and peephole_run,
-#     teddertempo-diff (in Python), libteddertempo.a, teddertempo.h, teddertempo.pc, man pages, completions, LICENSE and README.md;
+#     teddertempo-diff and teddertempo-reduce (in Python), libteddertempo.a and libteddertempo.so.0, teddertempo-afl.so for AFL++,
+#     teddertempo.h, teddertempo.pc, man pages, completions, LICENSE and README.md;
 #   - teddertempo_VERSION_amd64.deb, a Debian package of the same.
 # The version is that of the file VERSION; it fails where the header, the Rust crate, CHANGELOG.md, the program or one of the other
 # places of tools/package/versions.sh has another one.
 # Equal commits and equal builds give equal packages.
 #
 # Usage: package.sh, on x86-64 Linux. TEDDERTEMPO_BIN names the folder of programs that are built already, and TEDDERTEMPO_LIB
-# that of libteddertempo.a; what isn't named is proved and built first, which needs a Rattle kit, whose rt is on the path.
+# that of libteddertempo.a and libteddertempo.so.0; what isn't named is proved and built first, which needs a Rattle kit, whose rt is on
+# the path. Needs a C compiler.
 set -euo pipefail
 if [ -n "${TEDDERTEMPO_BIN:-}" ]; then TEDDERTEMPO_BIN=$(realpath "$TEDDERTEMPO_BIN"); fi
 if [ -n "${TEDDERTEMPO_LIB:-}" ]; then TEDDERTEMPO_LIB=$(realpath "$TEDDERTEMPO_LIB"); fi
@@ -28,6 +30,7 @@ need gzip gzip
 need strip binutils
 need objdump binutils
 need dpkg-deb dpkg
+need "${CC:-cc}" gcc
 if [ "$(uname -sm)" != "Linux x86_64" ]; then fail "makes packages for x86-64 Linux, and runs there alone"; fi
 if [ -z "${TEDDERTEMPO_BIN:-}" ] || [ -z "${TEDDERTEMPO_LIB:-}" ]; then
     command -v rt > /dev/null \
@@ -63,7 +66,7 @@ if [ -z "${TEDDERTEMPO_LIB:-}" ]; then
     tools/library.sh "$work/built"
     TEDDERTEMPO_LIB=$work/built
 fi
-for file in "$TEDDERTEMPO_BIN"/{teddertempo,peephole_run} "$TEDDERTEMPO_LIB/libteddertempo.a"; do
+for file in "$TEDDERTEMPO_BIN"/{teddertempo,peephole_run} "$TEDDERTEMPO_LIB"/libteddertempo.{a,so.0}; do
     [ -f "$file" ] || fail "needs $file"
 done
 agree "teddertempo --version" "$("$TEDDERTEMPO_BIN/teddertempo" --version | sed -n 's/^teddertempo \([0-9.]*\)$/\1/p')"
@@ -84,6 +87,7 @@ lay_out_pages() {
     mkdir -p "$pages"
     fill teddertempo.1.in "DATE=$date" > "$pages/teddertempo.1"
     fill teddertempo-diff.1.in "DATE=$date" "DOSE=$dose" > "$pages/teddertempo-diff.1"
+    fill teddertempo-reduce.1.in "DATE=$date" > "$pages/teddertempo-reduce.1"
 }
 
 # The completions of three shells, of which zsh has a folder of its own for a distribution's.
@@ -92,22 +96,35 @@ lay_out_completions() {
     mkdir -p "$share"/{bash-completion/completions,fish/vendor_completions.d} "$share/zsh/$zsh"
     cp $completions/teddertempo.bash "$share/bash-completion/completions/teddertempo"
     ln -s teddertempo "$share/bash-completion/completions/teddertempo-diff"
+    ln -s teddertempo "$share/bash-completion/completions/teddertempo-reduce"
     cp $completions/*.fish "$share/fish/vendor_completions.d/"
     cp $completions/_teddertempo "$share/zsh/$zsh/"
+}
+
+# The archive, the shared library, and the mutator for AFL++, whose source is an example.
+lay_out_libraries() {
+    local folder=$1
+    mkdir -p "$folder/teddertempo"
+    cp "$TEDDERTEMPO_LIB"/libteddertempo.{a,so.0} "$folder/"
+    "${CC:-cc}" -std=c99 -O2 -shared -fPIC -I include examples/afl/mutator.c "$TEDDERTEMPO_LIB/libteddertempo.a" \
+        -Wl,--exclude-libs,ALL -o "$folder/teddertempo/teddertempo-afl.so"
+    strip --strip-debug --enable-deterministic-archives "$folder/libteddertempo.a"
+    strip --strip-unneeded "$folder/libteddertempo.so.0" "$folder/teddertempo/teddertempo-afl.so"
 }
 
 # Lays out the files in a folder, with the library in the one of it that is named; then the prefix for teddertempo.pc, and the folder
 # of zsh's completions.
 lay_out() {
     local root=$1 library=$2 prefix=$3 zsh=$4
-    mkdir -p "$root"/{bin,include,share/teddertempo/{examples,teddertempo_diff}} "$root/$library/pkgconfig"
+    mkdir -p "$root"/{bin,include,share/teddertempo/{examples,teddertempo_diff,teddertempo_reduce/passes}} "$root/$library/pkgconfig"
     cp "$TEDDERTEMPO_BIN"/{teddertempo,peephole_run} "$root/bin/"
     strip --strip-unneeded "$root"/bin/*
-    cp driver/teddertempo-diff "$root/bin/"
+    cp driver/teddertempo-{diff,reduce} "$root/bin/"
     cp driver/teddertempo_diff/*.{py,cjs} "$root/share/teddertempo/teddertempo_diff/"
+    cp driver/teddertempo_reduce/*.py "$root/share/teddertempo/teddertempo_reduce/"
+    cp driver/teddertempo_reduce/passes/*.py "$root/share/teddertempo/teddertempo_reduce/passes/"
     cp tests/modules/{hashes,mixes,numbers,sorting,text}.wasm "$root/share/teddertempo/examples/"
-    cp "$TEDDERTEMPO_LIB/libteddertempo.a" "$root/$library/"
-    strip --strip-debug --enable-deterministic-archives "$root/$library/libteddertempo.a"
+    lay_out_libraries "$root/$library"
     cp include/teddertempo.h "$root/include/"
     fill teddertempo.pc.in "PREFIX=$prefix" "LIBDIR=$library" > "$root/$library/pkgconfig/teddertempo.pc"
     lay_out_pages "$root"
@@ -149,7 +166,8 @@ cp README.md "$documents/"
 cp LICENSE "$documents/copyright"
 gzip -9nc CHANGELOG.md > "$documents/changelog.gz"
 size=$(du -sk --apparent-size "$root/usr" | cut -f1)
-depends=$(depends "$root"/usr/bin/{teddertempo,peephole_run})
+echo "activate-noawait ldconfig" > "$root/DEBIAN/triggers"
+depends=$(depends "$root"/usr/bin/{teddertempo,peephole_run} "$root"/usr/lib/x86_64-linux-gnu/{,teddertempo/}*.so*)
 fill control.in "SIZE=$size" "DEPENDS=$depends" > "$root/DEBIAN/control"
 (cd "$root" && find usr -type f -print0 | sort -z | xargs -0 md5sum) > "$root/DEBIAN/md5sums"
 settle "$root" "$root/usr/bin"

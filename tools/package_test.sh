@@ -1,9 +1,10 @@
 #!/usr/bin/env bash
 # Tests the packages that tools/package.sh wrote into dist/ (or the folder that is named), with no Rattle kit on the path:
 #   - the archive, unpacked into an empty folder: the programs run, teddertempo-diff finds an engine that falls over rewrites and none
-#     where there is none, the C example is linked by pkg-config alone and rewrites a module, header and library have one version,
-#     and man pages and completions have the options that the programs have;
-#   - the Debian package: installed, the same program and example; then removed, and nothing of it is left.
+#     where there is none, teddertempo-reduce leaves what a predicate asks for, the C example is linked by pkg-config alone and
+#     rewrites a module, header and library have one version, the shared library exports the calls of the header and changes a module,
+#     the mutator for AFL++ does so too, and man pages and completions have the options that the programs have;
+#   - the Debian package: installed, the same programs, example and libraries; then removed, and nothing of it is left.
 # Before, each place of tools/package/versions.sh has the version of the file VERSION. The last line is `N passed, N failed`.
 #
 # Usage: package_test.sh [FOLDER], or package_test.sh --versions for the versions alone, which needs no package. Needs a C compiler,
@@ -70,7 +71,7 @@ for file in "$name.tar.gz" "teddertempo_${version}_amd64.deb"; do
 done
 PATH=/usr/sbin:/usr/bin:/sbin:/bin
 export PATH
-for needed in tar gzip "${CC:-cc}" pkg-config python3; do
+for needed in tar gzip objdump "${CC:-cc}" pkg-config python3; do
     command -v "$needed" > /dev/null || fail "needs $needed on the path $PATH"
 done
 ! command -v rt > /dev/null || fail "finds a Rattle kit in $PATH, and is to show that none is needed"
@@ -129,6 +130,56 @@ END
     test "$(cat said)" = "$version" && test "$(pkg-config --modversion teddertempo)" = "$version"
 }
 
+# The shared library has its soname, and exports what the header declares and nothing else.
+exports_agree() {
+    local library=$1 header=$2
+    objdump -p "$library" | grep -x ' *SONAME *libteddertempo.so.0' || return 1
+    objdump -T "$library" | grep ' g .* \.text' | sed 's/.* //' | sort > exported
+    sed -n 's/^[a-z].*[ *]\(teddertempo_[a-z_]*\)(.*/\1/p' "$header" | sort > declared
+    test -s declared && diff exported declared
+}
+
+# A program that loads the shared library changes a module by it.
+shared_library_runs() {
+    rm -f new.wasm
+    python3 - "$1" <<'END' || return 1
+import ctypes
+import sys
+
+library = ctypes.CDLL(sys.argv[1])
+library.teddertempo_change.restype = ctypes.c_size_t
+library.teddertempo_change.argtypes = [ctypes.c_char_p, ctypes.c_size_t, ctypes.c_size_t, ctypes.c_uint64]
+module = open("numbers.wasm", "rb").read()
+data = ctypes.create_string_buffer(module, 65536)
+size = library.teddertempo_change(data, len(module), 65536, 7)
+open("new.wasm", "wb").write(data.raw[:size])
+END
+    test -s new.wasm && ! cmp -s new.wasm numbers.wasm && is_valid new.wasm
+}
+
+# The mutator for AFL++ is called as AFL++ calls it.
+afl_mutator_runs() {
+    rm -f new.wasm
+    python3 - "$1" <<'END' || return 1
+import ctypes
+import sys
+
+mutator = ctypes.CDLL(sys.argv[1])
+mutator.afl_custom_init.restype = ctypes.c_void_p
+mutator.afl_custom_fuzz.restype = ctypes.c_size_t
+mutator.afl_custom_fuzz.argtypes = [
+    ctypes.c_void_p, ctypes.c_char_p, ctypes.c_size_t, ctypes.c_void_p, ctypes.c_char_p, ctypes.c_size_t, ctypes.c_size_t]
+mutator.afl_custom_deinit.argtypes = [ctypes.c_void_p]
+module = open("numbers.wasm", "rb").read()
+state = mutator.afl_custom_init(None, 7)
+made = ctypes.c_void_p()
+size = mutator.afl_custom_fuzz(state, module, len(module), ctypes.byref(made), None, 0, 65536)
+open("new.wasm", "wb").write(ctypes.string_at(made, size))
+mutator.afl_custom_deinit(state)
+END
+    test -s new.wasm && ! cmp -s new.wasm numbers.wasm && is_valid new.wasm
+}
+
 # The driver finds nothing in an engine that says nothing, and the rewrite where an engine says how long a module is.
 driver_runs() {
     local driver=$1 status=0
@@ -142,6 +193,16 @@ driver_runs() {
 driver_runs_on() {
     rm -rf found
     "$1" --seeds 5 -o found numbers.wasm -- "$2"
+}
+
+# The reducer leaves the bytes that a predicate looks for, and tells a predicate that doesn't accept the module.
+reducer_runs() {
+    local reducer=$1 status=0
+    rm -f small.wasm
+    "$reducer" --quiet -o small.wasm numbers.wasm -- grep -q memory || return 1
+    grep -q memory small.wasm && test "$(wc -c < small.wasm)" -lt 30 && is_valid small.wasm || return 1
+    "$reducer" -o none.wasm numbers.wasm -- false || status=$?
+    test "$status" -eq 1
 }
 
 # The long options of a text, one a line.
@@ -160,7 +221,7 @@ page_has_options() {
 completions_have_options() {
     local programs=$1
     shift
-    { "$programs/teddertempo" --help && "$programs/teddertempo-diff" --help; } > help || return 1
+    { "$programs/teddertempo" --help && "$programs/teddertempo-diff" --help && "$programs/teddertempo-reduce" --help; } > help || return 1
     options_in help > of_programs
     options_in "$@" > of_completions
     diff of_programs of_completions
@@ -170,8 +231,8 @@ page_is_set() { man --warnings -E UTF-8 -l -Tutf8 -Z "$1" 2>&1 > /dev/null | tee
 
 unpacked=$work/$name
 share=$unpacked/share
-for file in bin/teddertempo bin/peephole_run bin/teddertempo-diff lib/libteddertempo.a lib/pkgconfig/teddertempo.pc \
-    include/teddertempo.h share/man/man1/teddertempo.1 share/man/man1/teddertempo-diff.1 LICENSE README.md; do
+for file in bin/teddertempo bin/peephole_run bin/teddertempo-diff bin/teddertempo-reduce lib/libteddertempo.{a,so.0} \
+    lib/teddertempo/teddertempo-afl.so lib/pkgconfig/teddertempo.pc include/teddertempo.h share/man/man1/teddertempo{,-diff,-reduce}.1 LICENSE README.md; do
     judge "$file in the archive" test -s "$unpacked/$file"
 done
 judge "teddertempo" program_runs "$unpacked/bin/teddertempo"
@@ -180,12 +241,17 @@ export PKG_CONFIG_PATH=$unpacked/lib/pkgconfig
 judge "c/mutate.c by pkg-config" example_links
 judge "the version of header and library" versions_agree
 unset PKG_CONFIG_PATH
+judge "what the shared library exports" exports_agree "$unpacked/lib/libteddertempo.so.0" "$unpacked/include/teddertempo.h"
+judge "the shared library" shared_library_runs "$unpacked/lib/libteddertempo.so.0"
+judge "the mutator for AFL++" afl_mutator_runs "$unpacked/lib/teddertempo/teddertempo-afl.so"
 judge "teddertempo-diff" driver_runs "$unpacked/bin/teddertempo-diff"
+judge "teddertempo-reduce" reducer_runs "$unpacked/bin/teddertempo-reduce"
 for engine in node spectest-interp; do
     if command -v "$engine" > /dev/null; then judge "$engine" driver_runs_on "$unpacked/bin/teddertempo-diff" "$engine"; fi
 done
 judge "the options of the man page" page_has_options "$share/man/man1/teddertempo.1" "$unpacked/bin/teddertempo" --none
 judge "the options of the driver's" page_has_options "$share/man/man1/teddertempo-diff.1" "$unpacked/bin/teddertempo-diff" --reach
+judge "the options of the reducer's" page_has_options "$share/man/man1/teddertempo-reduce.1" "$unpacked/bin/teddertempo-reduce" --none
 for page in "$share"/man/man1/*.1; do
     if command -v man > /dev/null; then judge "the man page ${page##*/}" page_is_set "$page"; fi
 done
@@ -212,8 +278,11 @@ else
     judge "teddertempo, installed" program_runs /usr/bin/teddertempo
     judge "peephole_run, installed" peephole_run_runs /usr/bin/peephole_run
     judge "teddertempo-diff, installed" driver_runs /usr/bin/teddertempo-diff
+    judge "teddertempo-reduce, installed" reducer_runs /usr/bin/teddertempo-reduce
     judge "c/mutate.c by pkg-config, installed" example_links
     judge "the version of header and library, installed" versions_agree
+    judge "the shared library, installed" shared_library_runs libteddertempo.so.0
+    judge "the mutator for AFL++, installed" afl_mutator_runs /usr/lib/x86_64-linux-gnu/teddertempo/teddertempo-afl.so
     judge "removing the Debian package" dpkg --remove teddertempo
     judge "what is left of the Debian package" nothing_is_left
     dpkg --purge teddertempo > /dev/null 2>&1 || true

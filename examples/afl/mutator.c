@@ -69,14 +69,15 @@ static int grow(struct mutator *mutator, size_t room)
     return 1;
 }
 
-/* Makes another module of the one in mutator->data, and returns its size, or 0. */
+/* Makes another module of the one in mutator->data, and returns its size, or 0; other is an input of the queue, or null. */
 #ifdef KEEP
-static size_t mutate(struct mutator *mutator, size_t size, size_t max_size)
+static size_t mutate(struct mutator *mutator, size_t size, size_t max_size, const uint8_t *other, size_t other_size)
 {
     struct teddertempo_options options = {sizeof options, 0, {0}, TEDDERTEMPO_ANY_FUNCTION, 1, TEDDERTEMPO_ANY_GROWTH, 0, 0};
     struct teddertempo_report report = {sizeof report, 0, 0, 0, 0, 0};
     size_t new_size;
 
+    (void)other, (void)other_size;
     options.seed = next_word(&mutator->state);
     new_size = teddertempo_mutate_with(mutator->data, size, max_size, &options, &report);
     if (new_size != 0) {
@@ -85,9 +86,16 @@ static size_t mutate(struct mutator *mutator, size_t size, size_t max_size)
     return new_size;
 }
 #else
-static size_t mutate(struct mutator *mutator, size_t size, size_t max_size)
+static size_t mutate(struct mutator *mutator, size_t size, size_t max_size, const uint8_t *other, size_t other_size)
 {
-    return teddertempo_change(mutator->data, size, max_size, next_word(&mutator->state));
+    uint64_t word = next_word(&mutator->state);
+    size_t new_size = 0;
+
+    /* Every eighth time code of the other input comes in, where that is a module that has any which fits. */
+    if (other != NULL && word % 8 == 0) {
+        new_size = teddertempo_splice(mutator->data, size, max_size, other, other_size, word / 8);
+    }
+    return new_size != 0 ? new_size : teddertempo_change(mutator->data, size, max_size, word / 8);
 }
 #endif
 
@@ -98,13 +106,12 @@ size_t afl_custom_fuzz(void *data, unsigned char *buf, size_t buf_size, unsigned
     struct mutator *mutator = data;
     size_t new_size;
 
-    (void)add_buf, (void)add_buf_size;
     *out_buf = buf;
     if (buf_size == 0 || buf_size > max_size || !grow(mutator, max_size)) {
         return 0;
     }
     memcpy(mutator->data, buf, buf_size);
-    new_size = mutate(mutator, buf_size, max_size);
+    new_size = mutate(mutator, buf_size, max_size, add_buf, add_buf_size);
     if (new_size != 0) {
         *out_buf = mutator->data;
     }

@@ -1,6 +1,7 @@
 /*
  * A fuzz target for libFuzzer whose mutator changes modules so that they stay valid, and leaves other bytes to libFuzzer's own, and
- * modules too, every second time: so more is covered than by either alone, since no valid module reaches what tells faults.
+ * modules too, every second time: so more is covered than by either alone, since no valid module reaches what tells faults. Its
+ * cross-over takes code of a second module.
  *
  *     clang -fsanitize=fuzzer fuzz.c $(pkg-config --cflags --libs teddertempo) -o fuzz && ./fuzz CORPUS
  *
@@ -43,14 +44,22 @@ size_t LLVMFuzzerCustomMutator(uint8_t *data, size_t size, size_t max_size, unsi
 }
 
 /*
- * A part of one module with a part of another behind it is no module. Where this returns 0, libFuzzer takes the mutator above,
- * which crosses other bytes by way of LLVMFuzzerMutate.
+ * Code of one module comes into another: libFuzzer draws this as often as the mutator above. Where this returns 0 it draws anew. With
+ * KEEP nothing is crossed. A part of one module with a part of another behind it is no module; LLVMFuzzerMutate makes such bytes.
  */
 size_t LLVMFuzzerCustomCrossOver(const uint8_t *data1, size_t size1, const uint8_t *data2, size_t size2, uint8_t *out,
                                  size_t max_out_size, unsigned int seed)
 {
+#ifdef KEEP
     (void)data1, (void)size1, (void)data2, (void)size2, (void)out, (void)max_out_size, (void)seed;
     return 0;
+#else
+    if (size1 > max_out_size) {
+        return 0;
+    }
+    memcpy(out, data1, size1);
+    return teddertempo_splice(out, size1, max_out_size, data2, size2, seed);
+#endif
 }
 
 int LLVMFuzzerTestOneInput(const uint8_t *data, size_t size)

@@ -9,7 +9,7 @@ use Rattle.body_changes.specs.declared.changing.Body.{Body}
 use Rattle.body_changes.specs.declared.changing.Changed.{Changed}
 use Rattle.body_changes.specs.declared.kinds.Place.{Place}
 use Rattle.body_changes.specs.declared.units.Unit.{Unit}
-use Rattle.body_changes.specs.Body.{context_in_body, operators_in, ChangesIn, ChangesSome, IsBody, IsFound, IsNumbered}
+use Rattle.body_changes.specs.Body.{context_in_body, material_in, operators_in, ChangesIn, ChangesSome, IsBody, IsFound, IsNumbered}
 use Rattle.body_changes.specs.Chosen.{behind, before, Chooses, IsFirstFrom, NoneWithin}
 use Rattle.body_changes.specs.Kinds.{IsChange, Makes, Names}
 use Rattle.body_changes.specs.Proposals.{IsNewFrom, IsPlace, MakesAt, NamesAt}
@@ -19,7 +19,7 @@ use Rattle.body_changes.proofs.OneUnitLemmas.{one_unit}
 
 -- the place in the body
 abbrev pub place_in : Body → (at : ℕ) → Unit → Place
-place_in body at unit = record { source = body.source; units = body.units; at = at; unit = unit }
+place_in body at unit = record { source = body.source; units = body.units; at = at; unit = unit; copied = body.copied }
 
 module _ (body : Body) (is : IsBody body) (at : ℕ) (inside : at < length (operators_in body)) where
   pub no_unit : get_or body.units.now at None ≡ None → (words : List ℕ) (change : Change) → ChangesIn body words change at → ⊥
@@ -34,15 +34,16 @@ module _ (body : Body) (is : IsBody body) (at : ℕ) (inside : at < length (oper
     units = is.units;
     inside = inside;
     is = unit_there (context_in_body body) (operators_in body) body.units.now at None unit is.units inside e;
+    copied = is.copied;
   }
 
   module _ (unit : Unit) (there : IsPlace (place_in body at unit)) (words : List ℕ) (change : Change) where
     -- what the change makes is made of this unit
     made_here : (start : ℕ) (code : List Instruction)
-        (c : IsChange (context_in_body body) (operators_in body) body.most words change at start code) →
+        (c : IsChange (context_in_body body) (operators_in body) (material_in body) words change at start code) →
         MakesAt (place_in body at unit) body.most words change start code
     made_here start code c =
-        subst (λ (u : Unit). Makes (context_in_body body) (operators_in body) body.most words change at u start code)
+        subst (λ (u : Unit). Makes (context_in_body body) (operators_in body) (material_in body) words change at u start code)
         (one_unit (context_in_body body) (operators_in body) at c.unit unit c.is there.is) c.makes
 
     pub none_made : ((start : ℕ) (code : List Instruction) → MakesAt (place_in body at unit) body.most words change start code →
@@ -55,31 +56,31 @@ module _ (body : Body) (is : IsBody body) (at : ℕ) (inside : at < length (oper
         IsNewFrom (place_in body at unit) start code → NamesAt (place_in body at unit) change words code → c.code.items ≡ code) →
         IsFound body words c
     is_found c e f makes new named =
-        let own : IsChange (context_in_body body) (operators_in body) body.most words change at c.start c.code.items =
+        let own : IsChange (context_in_body body) (operators_in body) (material_in body) words change at c.start c.code.items =
         record { unit = unit; is = there.is; makes = makes; new = new } in
         record {
-          is = subst (λ (x : Change). IsChange (context_in_body body) (operators_in body) body.most words x c.at c.start c.code.items) (sym e)
-              (subst (λ (k : ℕ). IsChange (context_in_body body) (operators_in body) body.most words change k c.start c.code.items) (sym f) own);
+          is = subst (λ (x : Change). IsChange (context_in_body body) (operators_in body) (material_in body) words x c.at c.start c.code.items) (sym e)
+              (subst (λ (k : ℕ). IsChange (context_in_body body) (operators_in body) (material_in body) words change k c.start c.code.items) (sym f) own);
           named = named_so c e f named;
         }
       where
         named_so : (c : Changed) → c.change ≡ change → c.at ≡ at →
             ((start : ℕ) (code : List Instruction) → MakesAt (place_in body at unit) body.most words change start code →
             IsNewFrom (place_in body at unit) start code → NamesAt (place_in body at unit) change words code → c.code.items ≡ code) →
-            (s : ℕ) (other : List Instruction) (o : IsChange (context_in_body body) (operators_in body) body.most words c.change c.at s other) →
+            (s : ℕ) (other : List Instruction) (o : IsChange (context_in_body body) (operators_in body) (material_in body) words c.change c.at s other) →
             Names (context_in_body body) c.change o.unit words other → c.code.items ≡ other
         named_so c e f named s other o names = go c.change c.at e f o names
           where
-            go : (x : Change) (k : ℕ) → x ≡ change → k ≡ at → (o : IsChange (context_in_body body) (operators_in body) body.most words x k s other) →
+            go : (x : Change) (k : ℕ) → x ≡ change → k ≡ at → (o : IsChange (context_in_body body) (operators_in body) (material_in body) words x k s other) →
                 Names (context_in_body body) x o.unit words other → c.code.items ≡ other
             go x k p q o names =
                 let unit_is : IsUnit (context_in_body body) (operators_in body) at o.unit =
                 subst (λ (m : ℕ). IsUnit (context_in_body body) (operators_in body) m o.unit) q o.is in
                 let same = one_unit (context_in_body body) (operators_in body) at o.unit unit unit_is there.is in
                 named s other
-                (subst (λ (u : Unit). Makes (context_in_body body) (operators_in body) body.most words change at u s other) same
-                (subst (λ (y : Change). Makes (context_in_body body) (operators_in body) body.most words y at o.unit s other) p
-                (subst (λ (m : ℕ). Makes (context_in_body body) (operators_in body) body.most words x m o.unit s other) q o.makes)))
+                (subst (λ (u : Unit). Makes (context_in_body body) (operators_in body) (material_in body) words change at u s other) same
+                (subst (λ (y : Change). Makes (context_in_body body) (operators_in body) (material_in body) words y at o.unit s other) p
+                (subst (λ (m : ℕ). Makes (context_in_body body) (operators_in body) (material_in body) words x m o.unit s other) q o.makes)))
                 (subst (λ (m : ℕ). IsNewFrom (place_in body m unit) s other) q o.new)
                 (subst (λ (u : Unit). Names (context_in_body body) change u words other) same
                 (subst (λ (y : Change). Names (context_in_body body) y o.unit words other) p names))
@@ -91,6 +92,14 @@ none_more Holds from at none never k a b h = go (cases_lt k at)
   where
     go : (k < at) ⊎ (at ≤ k) → ⊥
     go (inl l) = none k a l h
+    go (inr l) = let same : k ≡ at = omega arith in never (subst Holds same h)
+
+-- the same from the last one down
+pub none_less : (Holds : ℕ → Type 0) (at end to : ℕ) → end ≡ at + 1 → NoneWithin Holds end to → (Holds at → ⊥) → NoneWithin Holds at to
+none_less Holds at end to is none never k a b h = go (cases_lt at k)
+  where
+    go : (at < k) ⊎ (k ≤ at) → ⊥
+    go (inl l) = none k (omega (arith, is, l)) b h
     go (inr l) = let same : k ≡ at = omega arith in never (subst Holds same h)
 
 pub none_to : (Holds : ℕ → Type 0) (from at to : ℕ) → NoneWithin Holds from at → to ≤ at → NoneWithin Holds from to
@@ -126,7 +135,7 @@ module _ (body : Body) (changes : List Change) (words : List ℕ) (some : 0 < le
 
   chosen : (from to : ℕ) (c : Changed) (n : IsNumbered body changes words from to c) →
       IsFirstFrom (ChangesSome body changes words) (length changes) (get_or words 0 0 % length changes) n.number →
-      Chooses (context_in_body body) (operators_in body) body.most changes words c.change c.at c.start c.code.items
+      Chooses (context_in_body body) (operators_in body) (material_in body) changes words c.change c.at c.start c.code.items
   chosen from to c n first = record {
     number = n.number;
     is_change = n.is_change;
@@ -138,7 +147,7 @@ module _ (body : Body) (changes : List Change) (words : List ℕ) (some : 0 < le
 
   -- from the one that the word names on
   pub chosen_behind : (from : ℕ) (c : Changed) → from ≡ get_or words 0 0 % length changes → IsNumbered body changes words from (length changes) c →
-      Chooses (context_in_body body) (operators_in body) body.most changes words c.change c.at c.start c.code.items
+      Chooses (context_in_body body) (operators_in body) (material_in body) changes words c.change c.at c.start c.code.items
   chosen_behind from c e n =
       chosen from (length changes) c n
       (subst (λ (k : ℕ). IsFirstFrom (ChangesSome body changes words) (length changes) k n.number) e
@@ -147,7 +156,7 @@ module _ (body : Body) (changes : List Change) (words : List ℕ) (some : 0 < le
   -- or before it
   pub chosen_before : (from : ℕ) (c : Changed) → from ≡ get_or words 0 0 % length changes → NoneWithin (ChangesSome body changes words) from (length changes) →
       IsNumbered body changes words 0 from c →
-      Chooses (context_in_body body) (operators_in body) body.most changes words c.change c.at c.start c.code.items
+      Chooses (context_in_body body) (operators_in body) (material_in body) changes words c.change c.at c.start c.code.items
   chosen_before from c e none n =
       chosen 0 from c n
       (subst (λ (k : ℕ). IsFirstFrom (ChangesSome body changes words) (length changes) k n.number) e
@@ -162,8 +171,8 @@ number_never body changes words rest number change e is never (other, there, (at
     never at (omega arith) inside (
       start,
       code,
-      subst (λ (x : Change). IsChange (context_in_body body) (operators_in body) body.most rest x at start code) same
-          (subst (λ (ws : List ℕ). IsChange (context_in_body body) (operators_in body) body.most ws other at start code) (sym e) h),
+      subst (λ (x : Change). IsChange (context_in_body body) (operators_in body) (material_in body) rest x at start code) same
+          (subst (λ (ws : List ℕ). IsChange (context_in_body body) (operators_in body) (material_in body) ws other at start code) (sym e) h),
     )
 
 pub numbered : (body : Body) (changes : List Change) (words rest : List ℕ) (from to number start : ℕ) (change : Change) (c : Changed) →

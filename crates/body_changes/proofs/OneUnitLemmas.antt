@@ -13,7 +13,7 @@ use Rattle.body_changes.proofs.OwnLemmas.{one_there}
 use Rattle.body_changes.proofs.ReplacingLemmas.{closed_one}
 use Rattle.body_changes.proofs.StandLemmas.{Operators}
 
-same_list : (a b : Option PrimitiveTypeInfo) → list_of a ≡ list_of b → a ≡ b
+pub same_list : (a b : Option PrimitiveTypeInfo) → list_of a ≡ list_of b → a ≡ b
 same_list None None e = refl
 same_list (Some t) None e = absurd cc
 same_list None (Some u) e = absurd cc

@@ -80,11 +80,8 @@ module _ {E : Type 0} (M : ℕ → List Instruction → Type 0) (unique : (s t :
 one_code : (operators : Operators) (start end : ℕ) (a b : List Instruction) → Stand operators start end a → Stand operators start end b → a ≡ b
 one_code operators start end a b g h = same_instructions (slice_range operators start end) a b g h
 
-pub one_copy : (context : Context) (operators : Operators) (from : ℕ) (unit : Unit) (a b : List Instruction) →
-    MakesCopy context operators from unit a → MakesCopy context operators from unit b → a ≡ b
-one_copy context operators from unit a b g h =
-    one_code operators g.source.start (from + 1) a b g.stand
-    (subst (λ (s : ℕ). Stand operators s (from + 1) b) (one_start context operators from h.source g.source h.is g.is) h.stand)
+pub one_copy : (copied a b : List Instruction) → MakesCopy copied a → MakesCopy copied b → a ≡ b
+one_copy copied a b g h = g.code_is ∙ sym h.code_is
 
 pub one_first : (operators : Operators) (unit : Unit) (a b : List Instruction) → MakesFirst operators unit a → MakesFirst operators unit b → a ≡ b
 one_first operators unit a b g h = one_code operators unit.start unit.last a b g.stand h.stand

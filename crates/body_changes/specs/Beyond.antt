@@ -1,6 +1,6 @@
 -- What the standard asks of an instruction beyond its types: an alignment, an offset, the index of a segment, that a global may be written (WebAssembly Core
 -- Specification 3.0, Validation, Instructions; this project). Validity by types alone is `StaysValid`.
-use Rattle.std.specs.Prelude.{◌≡◌, ℕ, List, Some, IsTrue}
+use Rattle.std.specs.Prelude.{◌≡◌, ℕ, List, Some, slice_get, IsTrue}
 use Rattle.std.specs.List.{All}
 use Rattle.wasm_code.specs.Instruction.{Instruction}
 use Rattle.wasm_code.specs.declared.immediate.MemArg.{MemArg}
@@ -8,7 +8,7 @@ use Rattle.wasm_code.specs.declared.operator.Operator.{Operator}
 use Rattle.peephole_machine.specs.Values.{Context}
 use Rattle.body_changes.specs.declared.change.Change.{Change}
 use Rattle.body_changes.specs.Drawing.{asks_types_alone}
-use Rattle.body_changes.specs.Kinds.{accessing, is_call_row, memory_argument, AsksNoGreater, IsChange}
+use Rattle.body_changes.specs.Kinds.{accessing, is_call_row, memory_argument, AsksNoGreater, IsChange, Material}
 use Rattle.body_changes.specs.Replacing.{HasInstruction}
 
 -- it is one of the operators
@@ -26,24 +26,26 @@ pub record IsEased (operators : List (Operator × ℕ)) (i : Instruction) : Type
   pub asks : AsksNoGreater argument other
   pub is : i ≡ accessing other own
 
--- The standard asks nothing of it that wasn't asked of the operators.
-pub data IsAsked (operators : List (Operator × ℕ)) (i : Instruction) : Type 0 where
+-- The standard asks nothing of it that wasn't asked of the operators or of the code that is copied.
+pub data IsAsked (operators : List (Operator × ℕ)) (copied : List Instruction) (i : Instruction) : Type 0 where
   -- nothing beyond its types
-  plain : IsTrue (asks_types_alone i) → IsAsked operators i
+  plain : IsTrue (asks_types_alone i) → IsAsked operators copied i
   -- nor of a call: that the function is there is part of its types
-  call : IsTrue (is_call_row i.row) → IsAsked operators i
+  call : IsTrue (is_call_row i.row) → IsAsked operators copied i
   -- it is one of the operators, of which the rest was asked already
-  stands : StandsSomewhere operators i → IsAsked operators i
-  eased : IsEased operators i → IsAsked operators i
+  stands : StandsSomewhere operators i → IsAsked operators copied i
+  eased : IsEased operators i → IsAsked operators copied i
+  -- it stands in that code
+  taken : (at : ℕ) → slice_get copied at ≡ Some i → IsAsked operators copied i
 
 -- so of each instruction of the code
-abbrev pub AsksNoMore : List (Operator × ℕ) → (code : List Instruction) → Type 0
-AsksNoMore operators code = All (IsAsked operators) code
+abbrev pub AsksNoMore : List (Operator × ℕ) → (copied code : List Instruction) → Type 0
+AsksNoMore operators copied code = All (IsAsked operators copied) code
 
 -- ---- law
 
 -- This holds of the code that a change makes.
 abbrev pub ChangesAskNoMore : Type 0
 ChangesAskNoMore =
-    (context : Context) (operators : List (Operator × ℕ)) (most : ℕ) (words : List ℕ) (change : Change) (at start : ℕ) (code : List Instruction) →
-    IsChange context operators most words change at start code → AsksNoMore operators code
+    (context : Context) (operators : List (Operator × ℕ)) (material : Material) (words : List ℕ) (change : Change) (at start : ℕ)
+    (code : List Instruction) → IsChange context operators material words change at start code → AsksNoMore operators material.copied code

@@ -4,12 +4,12 @@ use Rattle.wasm_code.specs.Instruction.{Instruction}
 use Rattle.wasm_code.specs.declared.operator.Operator.{Operator}
 use Rattle.peephole_machine.specs.Values.{Context}
 use Rattle.body_changes.specs.declared.change.Change.{Change}
-use Rattle.body_changes.specs.Kinds.{IsChange, Names}
+use Rattle.body_changes.specs.Kinds.{IsChange, Material, Names}
 
 -- the change makes something of the operator at `at`
-abbrev pub Changes : Context → List (Operator × ℕ) → (most : ℕ) → (words : List ℕ) → Change → (at : ℕ) → Type 0
-Changes context operators most words change at =
-    (start : ℕ) × (code : List Instruction) × IsChange context operators most words change at start code
+abbrev pub Changes : Context → List (Operator × ℕ) → Material → (words : List ℕ) → Change → (at : ℕ) → Type 0
+Changes context operators material words change at =
+    (start : ℕ) × (code : List Instruction) × IsChange context operators material words change at start code
 
 -- none of these numbers is one for which that holds
 abbrev pub NoneWithin : (Holds : ℕ → Type 0) → (from to : ℕ) → Type 0
@@ -21,26 +21,26 @@ pub data IsFirstFrom (Holds : ℕ → Type 0) (count from n : ℕ) : Type 0 wher
   before : n < from → Holds n → NoneWithin Holds from count → NoneWithin Holds 0 n → IsFirstFrom Holds count from n
 
 -- the change makes something of some operator
-abbrev pub ChangesAny : Context → List (Operator × ℕ) → (most : ℕ) → (words : List ℕ) → Change → Type 0
-ChangesAny context operators most words change = (at : ℕ) × (at < length operators) × Changes context operators most words change at
+abbrev pub ChangesAny : Context → List (Operator × ℕ) → Material → (words : List ℕ) → Change → Type 0
+ChangesAny context operators material words change = (at : ℕ) × (at < length operators) × Changes context operators material words change at
 
 -- the change with the number does
-abbrev pub NumberChanges : Context → List (Operator × ℕ) → (most : ℕ) → (words : List ℕ) → List Change → ℕ → Type 0
-NumberChanges context operators most words changes k = (change : Change) × (slice_get changes k ≡ Some change) × ChangesAny context operators most words change
+abbrev pub NumberChanges : Context → List (Operator × ℕ) → Material → (words : List ℕ) → List Change → ℕ → Type 0
+NumberChanges context operators material words changes k = (change : Change) × (slice_get changes k ≡ Some change) × ChangesAny context operators material words change
 
 -- The words choose this change of the operator at `at`: of the changes the first one from that on that the first word names which makes something, of the
 -- operators the first one from that on that the second word names of which it does; and where the words behind them name the code, that code.
-pub record Chooses (context : Context) (operators : List (Operator × ℕ)) (most : ℕ) (changes : List Change) (words : List ℕ) (change : Change)
+pub record Chooses (context : Context) (operators : List (Operator × ℕ)) (material : Material) (changes : List Change) (words : List ℕ) (change : Change)
     (at start : ℕ) (code : List Instruction) : Type 0 where
   pub number : ℕ
   pub is_change : slice_get changes number ≡ Some change
-  pub first : IsFirstFrom (NumberChanges context operators most (drop 2 words) changes) (length changes) (get_or words 0 0 % length changes) number
-  pub place : IsFirstFrom (Changes context operators most (drop 2 words) change) (length operators) (get_or words 1 0 % length operators) at
-  pub is : IsChange context operators most (drop 2 words) change at start code
-  pub named : (s : ℕ) (other : List Instruction) (is : IsChange context operators most (drop 2 words) change at s other) →
+  pub first : IsFirstFrom (NumberChanges context operators material (drop 2 words) changes) (length changes) (get_or words 0 0 % length changes) number
+  pub place : IsFirstFrom (Changes context operators material (drop 2 words) change) (length operators) (get_or words 1 0 % length operators) at
+  pub is : IsChange context operators material (drop 2 words) change at start code
+  pub named : (s : ℕ) (other : List Instruction) (is : IsChange context operators material (drop 2 words) change at s other) →
       Names context change is.unit (drop 2 words) other → code ≡ other
 
 -- no change makes anything of any operator
-abbrev pub ChangesNone : Context → List (Operator × ℕ) → (most : ℕ) → List Change → (words : List ℕ) → Type 0
-ChangesNone context operators most changes words =
-    (k : ℕ) → k < length changes → ¬ (NumberChanges context operators most (drop 2 words) changes k)
+abbrev pub ChangesNone : Context → List (Operator × ℕ) → Material → List Change → (words : List ℕ) → Type 0
+ChangesNone context operators material changes words =
+    (k : ℕ) → k < length changes → ¬ (NumberChanges context operators material (drop 2 words) changes k)

@@ -55,12 +55,10 @@ pub record MakesDrawn (most : ℕ) (unit : Unit) (code : List Instruction) : Typ
   pub few : length code ≤ most
   pub plain : AskTypesAlone code
 
--- It becomes a copy of the unit of the operator at `from`, which gives the same.
-pub record MakesCopy (context : Context) (operators : List (Operator × ℕ)) (from : ℕ) (unit : Unit) (code : List Instruction) : Type 0 where
-  pub source : Unit
-  pub is : IsUnit context operators from source
-  pub same : source.gives ≡ unit.gives
-  pub stand : Stand operators source.start (from + 1) code
+-- It becomes the code that is copied. (That this gives the same is part of what may stand there.)
+pub record MakesCopy (copied code : List Instruction) : Type 0 where
+  pub some : 0 < length copied
+  pub code_is : code ≡ copied
 
 -- ---- the operator
 
@@ -228,27 +226,28 @@ pub record MakesTurned (context : Context) (operators : List (Operator × ℕ)) 
 
 -- ---- all of them
 
--- the operator whose unit is copied, by the first word
-abbrev pub copied : List (Operator × ℕ) → (words : List ℕ) → ℕ
-copied operators words = get_or words 0 0 % length operators
+-- What new code is made of: drawn code is of at most so many instructions, and this code may be copied.
+pub record Material : Type 0 where
+  pub most : ℕ
+  pub copied : List Instruction
 
 -- What the change makes of the unit of the operator at `at`: the code that stands in the place of the operators from `start` up to that one. `words` say which
--- operator's unit is copied, and which local, global or function takes another one's place.
-abbrev pub Makes : Context → List (Operator × ℕ) → (most : ℕ) → (words : List ℕ) → Change → (at : ℕ) → Unit → (start : ℕ) → List Instruction → Type 0
-Makes context operators most words change.Constant at unit start code = (start ≡ unit.start) × MakesConstant operators at unit code
-Makes context operators most words change.Operator at unit start code = (start ≡ unit.start) × MakesOperator context operators at unit code
-Makes context operators most words change.Local at unit start code = (start ≡ unit.start) × MakesLocal context operators words at unit code
-Makes context operators most words change.Draw at unit start code = (start ≡ unit.start) × MakesDrawn most unit code
-Makes context operators most words change.Copy at unit start code = (start ≡ unit.start) × MakesCopy context operators (copied operators words) unit code
-Makes context operators most words change.FirstOperand at unit start code = (start ≡ unit.start) × MakesFirst operators unit code
-Makes context operators most words change.LastOperand at unit start code = (start ≡ unit.start) × MakesLast operators at unit code
-Makes context operators most words change.ExchangeOperands at unit start code = (start ≡ unit.start) × MakesExchanged operators at unit code
-Makes context operators most words change.Delete at unit start code = (start ≡ unit.start) × MakesNothing unit code
-Makes context operators most words change.Double at unit start code = (start ≡ unit.start) × MakesTwice operators at unit code
-Makes context operators most words change.ExchangeStatements at unit start code = MakesTurned context operators at unit start code
-Makes context operators most words change.Global at unit start code = (start ≡ unit.start) × MakesGlobal context operators words at unit code
-Makes context operators most words change.Call at unit start code = (start ≡ unit.start) × MakesCall context operators words at unit code
-Makes context operators most words change.MemoryArgument at unit start code = (start ≡ unit.start) × MakesMemoryArgument operators at unit code
+-- local, global or function takes another one's place.
+abbrev pub Makes : Context → List (Operator × ℕ) → Material → (words : List ℕ) → Change → (at : ℕ) → Unit → (start : ℕ) → List Instruction → Type 0
+Makes context operators material words change.Constant at unit start code = (start ≡ unit.start) × MakesConstant operators at unit code
+Makes context operators material words change.Operator at unit start code = (start ≡ unit.start) × MakesOperator context operators at unit code
+Makes context operators material words change.Local at unit start code = (start ≡ unit.start) × MakesLocal context operators words at unit code
+Makes context operators material words change.Draw at unit start code = (start ≡ unit.start) × MakesDrawn material.most unit code
+Makes context operators material words change.Copy at unit start code = (start ≡ unit.start) × MakesCopy material.copied code
+Makes context operators material words change.FirstOperand at unit start code = (start ≡ unit.start) × MakesFirst operators unit code
+Makes context operators material words change.LastOperand at unit start code = (start ≡ unit.start) × MakesLast operators at unit code
+Makes context operators material words change.ExchangeOperands at unit start code = (start ≡ unit.start) × MakesExchanged operators at unit code
+Makes context operators material words change.Delete at unit start code = (start ≡ unit.start) × MakesNothing unit code
+Makes context operators material words change.Double at unit start code = (start ≡ unit.start) × MakesTwice operators at unit code
+Makes context operators material words change.ExchangeStatements at unit start code = MakesTurned context operators at unit start code
+Makes context operators material words change.Global at unit start code = (start ≡ unit.start) × MakesGlobal context operators words at unit code
+Makes context operators material words change.Call at unit start code = (start ≡ unit.start) × MakesCall context operators words at unit code
+Makes context operators material words change.MemoryArgument at unit start code = (start ≡ unit.start) × MakesMemoryArgument operators at unit code
 
 -- The code may stand in the place of the operators from `start` up to the one before `end`, and isn't what stands there.
 pub record IsNewWithin (context : Context) (operators : List (Operator × ℕ)) (start end : ℕ) (code : List Instruction) : Type 0 where
@@ -260,11 +259,11 @@ abbrev pub IsNew : Context → List (Operator × ℕ) → (start at : ℕ) → L
 IsNew context operators start at code = IsNewWithin context operators start (at + 1) code
 
 -- The change makes this code of the operator's unit.
-pub record IsChange (context : Context) (operators : List (Operator × ℕ)) (most : ℕ) (words : List ℕ) (change : Change) (at start : ℕ)
+pub record IsChange (context : Context) (operators : List (Operator × ℕ)) (material : Material) (words : List ℕ) (change : Change) (at start : ℕ)
     (code : List Instruction) : Type 0 where
   pub unit : Unit
   pub is : IsUnit context operators at unit
-  pub makes : Makes context operators most words change at unit start code
+  pub makes : Makes context operators material words change at unit start code
   pub new : IsNew context operators start at code
 
 -- ---- the words for the code, where the change and the operator leave a choice

@@ -7,6 +7,7 @@ pub mod Units
 pub mod Pass
 pub mod Change
 pub mod Kinds
+pub mod Copied
 pub mod Beyond
 pub mod Chosen
 pub mod Proposals

@@ -8,8 +8,9 @@ use Rattle.body_changes.specs.declared.change.Change.{Change}
 use Rattle.body_changes.specs.declared.kinds.Place.{Place}
 use Rattle.body_changes.specs.declared.kinds.accesses.Indexed.{Indexed}
 use Rattle.body_changes.specs.declared.kinds.accesses.Indexed.TheVariants as indexed
+use Rattle.body_changes.specs.Copied.{IsGiven}
 use Rattle.body_changes.specs.Drawing.{is_local_row}
-use Rattle.body_changes.specs.Kinds.{is_call_row, is_global_row, named_of, HaveOneType, IsNew, Makes, MakesIndexed, Names, Stand}
+use Rattle.body_changes.specs.Kinds.{is_call_row, is_global_row, named_of, HaveOneType, IsNew, Makes, MakesIndexed, Material, Names, Stand}
 use Rattle.body_changes.specs.Replacing.{context_of}
 use Rattle.body_changes.specs.declared.units.Unit.{Unit}
 use Rattle.body_changes.specs.Units.{AreUnits, IsUnit}
@@ -22,19 +23,24 @@ operators_of place = place.source.operators.now
 abbrev pub context_at : Place → Context
 context_at place = context_of place.source
 
--- The place is an operator of the body, with its unit, beside those of all others.
+-- The place is an operator of the body, with its unit, beside those of all others, and the code that may be copied with what it leaves.
 pub record IsPlace (place : Place) : Type 0 where
   pub units : AreUnits (context_at place) (operators_of place) place.units.now
   pub inside : place.at < length (operators_of place)
   pub is : IsUnit (context_at place) (operators_of place) place.at place.unit
+  pub copied : IsGiven (context_at place) place.copied.code.now place.copied.gives
 
 -- the instructions stand there from `start` up to the one before `end`
 abbrev pub StandAt : Place → (start end : ℕ) → List Instruction → Type 0
 StandAt place start end code = Stand (operators_of place) start end code
 
+-- what new code is made of
+abbrev pub material_at : Place → (most : ℕ) → Material
+material_at place most = record { most = most; copied = place.copied.code.now }
+
 -- the change makes this code of it, from `start` on
 abbrev pub MakesAt : Place → (most : ℕ) → (words : List ℕ) → Change → (start : ℕ) → List Instruction → Type 0
-MakesAt place most words change start code = Makes (context_at place) (operators_of place) most words change place.at place.unit start code
+MakesAt place most words change start code = Makes (context_at place) (operators_of place) (material_at place most) words change place.at place.unit start code
 
 -- the code may stand there, and is no code that does
 abbrev pub IsNewFrom : Place → (start : ℕ) → List Instruction → Type 0

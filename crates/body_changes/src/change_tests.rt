@@ -1,7 +1,9 @@
 //! Changes that words choose, each written by hand.
 
 use crate::tests::{ADD, COUNT_ZEROS, Code, DROP, FIRST, GLOBAL, ONE, SECOND, instrs, module};
-use crate::{Body, CHANGES, Change, Source, change_of_words, units_of};
+use crate::{
+    Body, CHANGES, Change, Source, change_last, change_of_words, copied_into, unit_named, units_of,
+};
 use PrimitiveTypeInfo::{I32, I64};
 use std::alloc::Global;
 use std::test::Fail;
@@ -440,7 +442,7 @@ const NAMES: [(&'static str, Option<Change>); 18] = [
     ("exchange operands", None),
 ];
 
-/// Whether the words choose that.
+/// Whether the words choose that. What may be copied is the unit of the body's own operator that the third word names.
 fn holds(
     alloc: Global,
     bytes: &[u8],
@@ -457,10 +459,14 @@ fn holds(
         operators: &operators,
         input: bytes,
     };
+    let unit = unit_named(alloc, &source, words.get(2).copied().unwrap_or(0))?;
+    let code = unit.unwrap_or(Vec::new(alloc));
+    let copied = copied_into(alloc, &source, &code)?;
     let body = Body {
         source,
         units: &units,
         most: MOST,
+        copied,
     };
     match (change_of_words(alloc, &body, changes, words)?, wanted) {
         (Some(found), Some((change, at, start, code))) => {
@@ -503,6 +509,40 @@ fn chooses_among_changes(rt: HostRuntime) -> Result<(), Fail> {
             holds(rt.alloc(), bytes, changes, words, wanted)?,
             "{words:?}"
         );
+    }
+    Ok(())
+}
+
+#[test]
+fn changes_the_last_operator_of_a_range(rt: HostRuntime) -> Result<(), Fail> {
+    let alloc = rt.alloc();
+    let info = module(alloc)?;
+    let operators = read_code(alloc, SETS, 0, SETS.len())?;
+    let units = units_of(alloc, LOCALS, &info, &operators)?;
+    let source = Source {
+        info: &info,
+        locals: LOCALS,
+        operators: &operators,
+        input: SETS,
+    };
+    let copied = copied_into(alloc, &source, &[])?;
+    let body = Body {
+        source,
+        units: &units,
+        most: MOST,
+        copied,
+    };
+    // By no words a value is drawn as the constant 0.
+    for (change, first, end, wanted) in [
+        (Change::Delete, 0, 5, Some(3)),
+        (Change::Delete, 0, 3, Some(1)),
+        (Change::Delete, 2, 3, None),
+        (Change::Draw, 0, 5, Some(2)),
+        (Change::Draw, 1, 1, None),
+    ] {
+        let range = first..operators.len().min(end);
+        let made = change_last(alloc, &body, change, range, &[])?;
+        assert!(rt; made.map(|c| c.at) == wanted, "{}", change.name());
     }
     Ok(())
 }

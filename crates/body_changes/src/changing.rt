@@ -1,9 +1,10 @@
 //! Which change of a body words choose.
-ghost use Rattle.std.specs.Prelude.{◌≡◌, ◌<◌, ◌≤◌, Some, length, slice_get, IfNone, IfOk, IfSome};
-ghost use Rattle.body_changes.specs.Body.{context_in_body, operators_in, ChangesIn, ChangesSome, IsBody, IsFound, IsNumbered};
+ghost use Rattle.std.specs.Prelude.{◌≡◌, ◌+◌, ◌<◌, ◌≤◌, Some, length, slice_get, IfNone, IfOk, IfSome};
+ghost use Rattle.body_changes.specs.Body.{context_in_body, material_in, operators_in, ChangesIn, ChangesSome, IsBody, IsFound, IsNumbered};
 ghost use Rattle.body_changes.specs.Chosen.{ChangesNone, Chooses, IsFirstFrom, NoneWithin};
 
 use crate::change::Change;
+use crate::copied::Copied;
 use crate::drawing::{named, word_at, words_from};
 use crate::kinds::{Place, Proposal};
 use crate::proposing::made_of;
@@ -13,12 +14,14 @@ use std::alloc::{AllocError, Global};
 use std::ops::Range;
 use wasm_code::Instr;
 
-/// A body of which code is changed: the units of its operators, and of how many instructions drawn code is at most.
+/// A body of which code is changed: the units of its operators, of how many instructions drawn code is at most, and the code that may
+/// be copied (see `copied_into`).
 #[derive(Clone, Copy)]
 pub struct Body<'a> {
     pub source: Source<'a>,
     pub units: &'a [Option<Unit>],
     pub most: usize,
+    pub copied: Copied<'a>,
 }
 
 /// A change of a body: the code comes in the place of the operators from `start` up to the one at `at`.
@@ -30,7 +33,7 @@ pub struct Changed {
     pub code: Vec<Instr>,
 }
 
-// What the change makes of the operator, by the words behind the first two.
+// What the change makes of the operator, by these words for the code.
 fn changed_at(
     alloc: Global,
     body: &Body<'_>,
@@ -52,6 +55,7 @@ fn changed_at(
         units: body.units,
         at,
         unit,
+        copied: body.copied,
     };
     match made_of(alloc, &place, body.most, change, words)? {
         Some(Proposal { start, code }) => Ok(Some(Changed {
@@ -62,6 +66,38 @@ fn changed_at(
         })),
         None => Ok(None),
     }
+}
+
+/// What the change makes of the last operator in the range of which it makes anything, by these words for the code (see
+/// `change_of_words`). None only where it makes nothing of any of them.
+///
+/// It takes time linear in the body, and by the number of rows, the length of a function's type and that of the code that is copied, as
+/// `change_of_words` does. The only error: an allocation was refused.
+pub fn change_last(
+    alloc: Global,
+    body: &Body<'_>,
+    change: Change,
+    range: Range<usize>,
+    words: &[u64],
+) -> Result<Option<Changed>, AllocError>
+    requires body { IsBody body.now }
+    requires inside { range.end ≤ length (operators_in body.now) }
+    ensures made { IfOk result (λ o. IfSome o (λ c. (range.start ≤ c.at) × (c.at < range.end)
+        × (c.change ≡ change) × IsFound body.now words.now c)) }
+    ensures last { IfOk result (λ o. IfSome o (λ c.
+        NoneWithin (ChangesIn body.now words.now change) (c.at + 1) range.end)) }
+    ensures none { IfOk result (λ o. IfNone o (NoneWithin (ChangesIn body.now words.now change)
+        range.start range.end)) }
+{
+    let mut end = range.end;
+    while end > range.start {
+        let at = end - 1;
+        if let Some(changed) = changed_at(alloc, body, change, at, words)? {
+            return Ok(Some(changed));
+        }
+        end = at;
+    }
+    Ok(None)
 }
 
 // What it makes of the first operator in the range of which it makes anything.
@@ -150,14 +186,13 @@ fn any_within(
 /// one or else the first one behind it, and then from the first one on, that makes anything; the second word names an operator in the
 /// same way; and those behind them name the code: as `code_of_words` has them for a constant and what is drawn, the row of another
 /// operator, an offset and an alignment behind the word 4, and modulo their number the local, the global or the function that takes
-/// another one's place, and the operator whose unit is copied. Of a constant the word 40 flips the bit with the number that the next
-/// word is.
+/// another one's place. Of a constant the word 40 flips the bit with the number that the next word is.
 ///
 /// What a change makes is other code than stands there, and may stand there (see `replace_code`). None only where no change makes
 /// anything of any operator by these words.
 ///
-/// It takes time linear in the body for each change that is tried, by the number of rows for another operator, and for another
-/// function by the length of its type. The only error: an allocation was refused.
+/// It takes time linear in the body for each change that is tried, by the number of rows for another operator, for another function by
+/// the length of its type, and for a copy by that of the code. The only error: an allocation was refused.
 pub fn change_of_words(
     alloc: Global,
     body: &Body<'_>,
@@ -166,10 +201,10 @@ pub fn change_of_words(
 ) -> Result<Option<Changed>, AllocError>
     requires { IsBody body.now }
     ensures chosen { IfOk result (λ o. IfSome o (λ c. Chooses (context_in_body body.now)
-        (operators_in body.now) body.now.most changes.now words.now c.change c.at c.start
+        (operators_in body.now) (material_in body.now) changes.now words.now c.change c.at c.start
         c.code.items)) }
     ensures none { IfOk result (λ o. IfNone o (ChangesNone (context_in_body body.now)
-        (operators_in body.now) body.now.most changes.now words.now)) }
+        (operators_in body.now) (material_in body.now) changes.now words.now)) }
 {
     let count = changes.len();
     let operators = body.source.operators.len();

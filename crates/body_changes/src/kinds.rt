@@ -9,6 +9,7 @@ pub(crate) mod operands;
 pub(crate) mod operators;
 pub(crate) mod statements;
 
+use crate::copied::Copied;
 use crate::source::Source;
 use crate::units::Unit;
 use wasm_code::Instr;
@@ -22,6 +23,8 @@ pub(crate) struct Place<'a> {
     /// The operator, and its unit.
     pub at: usize,
     pub unit: Unit,
+    /// The code that may be copied.
+    pub copied: Copied<'a>,
 }
 
 /// Code that may come in the place of the operators from `start` up to the one whose unit it is.

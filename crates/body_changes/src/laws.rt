@@ -18,9 +18,10 @@ pub fn leaves_have_words()
     ensures { LeavesHaveWords }
 {}
 
-/// Of each instruction in the code that a change makes the standard asks nothing beyond its types, or it stands in the body already, or it
-/// is a load or a store that stands there with an alignment that is no smaller, and has an offset of 32 bits. So whatever else it asks (an
-/// alignment, an offset, the index of a segment, that a global may be written) was asked of the body as it was.
+/// Of each instruction in the code that a change makes the standard asks nothing beyond its types, or it stands in the body already or in
+/// the code that is copied, or it is a load or a store that stands there with an alignment that is no smaller, and has an offset of 32
+/// bits. So whatever else it asks (an alignment, an offset, the index of a segment, that a global may be written) was asked of the body as
+/// it was, or of that code.
 pub fn changes_ask_no_more()
     ensures { ChangesAskNoMore }
 {}

@@ -9,6 +9,7 @@ mod change_tests;
 mod changing;
 mod choosing;
 mod constants;
+mod copied;
 mod drawing;
 mod goal;
 mod kinds;
@@ -29,8 +30,9 @@ mod units;
 mod variables;
 
 pub use change::{CHANGES, Change};
-pub use changing::{Body, Changed, change_of_words};
+pub use changing::{Body, Changed, change_last, change_of_words};
 pub use constants::is_drawable;
+pub use copied::{Copied, ask_types_alone, copied_into, unit_named};
 pub use drawing::code_of_words;
 pub use others::other_operator;
 pub use replacing::{replace_code, types_in_place};

@@ -65,7 +65,7 @@ fn propose(
         Change::Operator => Ok(in_place(place, other_behind(alloc, place, words)?)),
         Change::Local => Ok(in_place(place, other_access(alloc, place, Indexed::Local, words)?)),
         Change::Draw => Ok(in_place(place, drawn(alloc, place, most, words)?)),
-        Change::Copy => Ok(in_place(place, copied(alloc, place, words)?)),
+        Change::Copy => Ok(in_place(place, copied(alloc, place)?)),
         Change::FirstOperand => Ok(in_place(place, first_operand(alloc, place)?)),
         Change::LastOperand => Ok(in_place(place, last_operand(alloc, place)?)),
         Change::ExchangeOperands => Ok(in_place(place, exchanged(alloc, place)?)),

@@ -116,8 +116,9 @@ fn function_type(
     Ok(TypeInfo::Func(FuncInfo { params, returns }))
 }
 
-/// A module with four globals, two memories, of 32 and of 64 bits, and seven functions. Functions 0 and 2 take and give an i32, by types in two places; 1 and 4 nothing, by one
-/// type; 3 takes an i64 and gives an i32; the type of 5 is no function's, and that of 6 isn't there.
+/// A module with four globals, two memories, of 32 and of 64 bits, and seven functions. Functions 0 and 2 take and give an i32, by types
+/// in two places; 1 and 4 nothing, by one type; 3 takes an i64 and gives an i32; the type of 5 is no function's, and that of 6 isn't
+/// there.
 pub(crate) fn module(alloc: Global) -> Result<ModuleInfo<'static>, AllocError> {
     let mut info = ModuleInfo::new(alloc, BODY);
     info.one_reference = true;

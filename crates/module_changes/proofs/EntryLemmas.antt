@@ -24,6 +24,7 @@ use Rattle.peephole_programs.specs.control.Standard.{asks_beyond}
 use Rattle.body_splices.specs.Laws.{pieces_operators, SplicesKeepOperators}
 use Rattle.body_splices.specs.OwnBytes.{none_of, own_bytes, without_offsets, IsBodyIn}
 use Rattle.body_changes.specs.Chosen.{Chooses, ChangesNone}
+use Rattle.body_changes.specs.Kinds.{Material}
 use Rattle.body_changes.specs.Replacing.{new_pieces, AppendsReplaced, AreTheseInstructions, HasInstruction}
 use Rattle.body_changes.specs.declared.change.Change.{Change}
 use Rattle.module_rewrites.specs.Function.{IsFunction}
@@ -31,7 +32,7 @@ use Rattle.module_rewrites.specs.ReadAgain.{BodiesAreReadAgain}
 use Rattle.module_rewrites.specs.Structure.{asking_operators}
 use Rattle.module_changes.specs.Changed.{DoesNotFit, HasNoChange, IsTooLong, MakesChange, WritesBody, WritesCode}
 use Rattle.module_changes.specs.Entry.{IsLarge}
-use Rattle.module_changes.specs.Scope.{Scope}
+use Rattle.module_changes.specs.Scope.{material_of, Choice}
 use Rattle.module_changes.specs.declared.entry.MadeChange.{MadeChange}
 
 abbrev Operators : Type 0
@@ -47,10 +48,10 @@ behind_instruction (x ∷ y ∷ xs) zero i e h = omega arith
 behind_instruction (x ∷ y ∷ xs) (suc at) i e h = let l = behind_instruction (y ∷ xs) at i e h in omega arith
 
 -- so behind the code that is changed
-pub behind_changed : (context : Context) (input : List ℕ) (operators : List (Operator × ℕ)) (most : ℕ) (changes : List Change) (words : List ℕ)
+pub behind_changed : (context : Context) (input : List ℕ) (operators : List (Operator × ℕ)) (material : Material) (changes : List Change) (words : List ℕ)
     (change : Change) (at start : ℕ) (code : List Instruction) → IsBodyIn input operators →
-    Chooses context operators most changes words change at start code → at + 1 < length operators
-behind_changed context input operators most changes words change at start code body c =
+    Chooses context operators material changes words change at start code → at + 1 < length operators
+behind_changed context input operators material changes words change at start code body c =
     let unit = c.is.is in behind_instruction operators at unit.instruction unit.has body.spells.last
 
 -- ---- the body that is written
@@ -91,11 +92,11 @@ pub record OfModules : Type 0 where
       All (λ (t : PrimitiveTypeInfo). t ≢ Empty) more → IsReread bytes info layout n contents more new
   pub again : BodiesAreReadAgain
 
-module _ (scope : Scope) (bytes : List ℕ) (info : Module) (layout : Layout) (words : List ℕ) (n : ℕ) (made : MadeChange) (locals lent : List PrimitiveTypeInfo)
+module _ (choice : Choice) (bytes : List ℕ) (info : Module) (layout : Layout) (words : List ℕ) (n : ℕ) (made : MadeChange) (locals lent : List PrimitiveTypeInfo)
     (expression : ℕ) (operators given : Operators) (entry : Entry) (old body front written : List ℕ)
     (f : IsFunction bytes info layout n locals expression operators) (lent_is : lent ≡ locals) (given_is : given ≡ operators) (empty : old ≡ [])
     (found : slice_get layout.entries n ≡ Some entry) (front_is : front ≡ slice_range bytes entry.contents expression) (written_is : written ≡ body)
-    (code : WritesCode scope (context_in info lent) bytes given words made.change made.operator made.start old body) where
+    (code : WritesCode choice (context_in info lent) bytes given words made.change made.operator made.start old body) where
   contents_is : front ++ written ≡ slice_range bytes f.entry.contents expression ++ body
   contents_is =
       let same : entry ≡ f.entry = same_Some _ _ (sym found ∙ f.is.at) in
@@ -103,13 +104,13 @@ module _ (scope : Scope) (bytes : List ℕ) (info : Module) (layout : Layout) (w
       front_is ∙ ap (λ (e : Entry). slice_range bytes e.contents expression) same in
       ap (λ (xs : List ℕ). xs ++ written) start ∙ ap (λ (ys : List ℕ). slice_range bytes f.entry.contents expression ++ ys) written_is
 
-  own_code : WritesCode scope (context_in info locals) bytes operators words made.change made.operator made.start [] body
+  own_code : WritesCode choice (context_in info locals) bytes operators words made.change made.operator made.start [] body
   own_code =
-      subst (λ (ts : List PrimitiveTypeInfo). WritesCode scope (context_in info ts) bytes operators words made.change made.operator made.start [] body) lent_is
-      (subst (λ (os : Operators). WritesCode scope (context_in info lent) bytes os words made.change made.operator made.start [] body) given_is
-      (subst (λ (o : List ℕ). WritesCode scope (context_in info lent) bytes given words made.change made.operator made.start o body) empty code))
+      subst (λ (ts : List PrimitiveTypeInfo). WritesCode choice (context_in info ts) bytes operators words made.change made.operator made.start [] body) lent_is
+      (subst (λ (os : Operators). WritesCode choice (context_in info lent) bytes os words made.change made.operator made.start [] body) given_is
+      (subst (λ (o : List ℕ). WritesCode choice (context_in info lent) bytes given words made.change made.operator made.start o body) empty code))
 
-  writes : WritesBody scope bytes info layout words n made (front ++ written)
+  writes : WritesBody choice bytes info layout words n made (front ++ written)
   writes = record {
     locals = locals;
     expression = expression;
@@ -121,7 +122,7 @@ module _ (scope : Scope) (bytes : List ℕ) (info : Module) (layout : Layout) (w
   }
 
   pub makes : OfModules → (new : List ℕ) → IsModule bytes info layout → made.function ≡ layout.imported_functions + n →
-      IsRewritten bytes layout n (front ++ written) [] new → length new ≤ scope.size → MakesChange scope bytes info layout words n made new
+      IsRewritten bytes layout n (front ++ written) [] new → length new ≤ choice.scope.size → MakesChange choice bytes info layout words n made new
   unfolding writes own_code
   makes law new known function is fits =
       let rewritten : IsRewritten bytes layout n (slice_range bytes f.entry.contents expression ++ body) [] new =
@@ -143,22 +144,22 @@ module _ (scope : Scope) (bytes : List ℕ) (info : Module) (layout : Layout) (w
             f.is.indices.globals (All-nil (λ (t : PrimitiveTypeInfo). t ≢ Empty)));
       }
 
-  pub does_not_fit : IsLarge bytes layout n (front ++ written) scope.size → DoesNotFit scope bytes info layout words n
+  pub does_not_fit : IsLarge bytes layout n (front ++ written) choice.scope.size → DoesNotFit choice bytes info layout words n
   does_not_fit large = record { made = made; contents = front ++ written; writes = writes; large = go large }
     where
-      go : IsLarge bytes layout n (front ++ written) scope.size →
-          IsTooLarge bytes layout n (front ++ written) [] ⊎ IsTooLong scope bytes layout n (front ++ written)
+      go : IsLarge bytes layout n (front ++ written) choice.scope.size →
+          IsTooLarge bytes layout n (front ++ written) [] ⊎ IsTooLong choice bytes layout n (front ++ written)
       go (inl x) = inl x
       go (inr (new, is, long)) = inr (record { new = new; is = is; long = long })
 
 -- ---- nothing is made
 
 -- the function has one reading
-pub none_here : (scope : Scope) (bytes : List ℕ) (info : Module) (layout : Layout) (words : List ℕ) (n : ℕ) (locals lent : List PrimitiveTypeInfo)
+pub none_here : (choice : Choice) (bytes : List ℕ) (info : Module) (layout : Layout) (words : List ℕ) (n : ℕ) (locals lent : List PrimitiveTypeInfo)
     (operators given : Operators) → lent ≡ locals → given ≡ operators →
     ((l : List PrimitiveTypeInfo) (x : ℕ) (o : Operators) → IsFunction bytes info layout n l x o → (locals ≡ l) × (operators ≡ o)) →
-    ChangesNone (context_in info lent) given scope.most scope.changes words → HasNoChange scope bytes info layout words n
-none_here scope bytes info layout words n locals lent operators given lent_is given_is only none l x o f =
+    ChangesNone (context_in info lent) given (material_of choice) choice.scope.changes words → HasNoChange choice bytes info layout words n
+none_here choice bytes info layout words n locals lent operators given lent_is given_is only none l x o f =
     let same = only l x o f in
-    subst (λ (ts : List PrimitiveTypeInfo). ChangesNone (context_in info ts) o scope.most scope.changes words) (lent_is ∙ same.0)
-    (subst (λ (os : Operators). ChangesNone (context_in info lent) os scope.most scope.changes words) (given_is ∙ same.1) none)
+    subst (λ (ts : List PrimitiveTypeInfo). ChangesNone (context_in info ts) o (material_of choice) choice.scope.changes words) (lent_is ∙ same.0)
+    (subst (λ (os : Operators). ChangesNone (context_in info lent) os (material_of choice) choice.scope.changes words) (given_is ∙ same.1) none)

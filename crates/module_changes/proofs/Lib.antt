@@ -3,3 +3,5 @@ pub mod WordLemmas
 pub mod EntryLemmas
 pub mod ChoosingLemmas
 pub mod TimesLemmas
+pub mod PlacedLemmas
+pub mod CopyingLemmas

@@ -1,13 +1,19 @@
 -- Changes as a generator's words choose them, one after another.
-use Rattle.std.proofs.Common.{◌≡◌, false, ℕ, suc, ◌+◌, ◌<◌, List, [], ◌∷◌, ◌++◌, length, Option, Some, None, Result, Ok, Err, true, refl, sym, ap, subst, ◌∙◌, arith, length-append}
+use Rattle.std.proofs.Common.{◌≡◌, ◌⊎◌, inl, inr, Bool, false, ℕ, suc, ◌+◌, ◌<◌, List, [], ◌∷◌, ◌++◌, length, Option, Some, None, Result, Ok, Err, true, refl, sym, ap, subst, ◌∙◌, arith, length-append}
 use Rattle.std.proofs.lemmas.Bool.{true≢false}
 use Rattle.std.specs.Prelude.{OnErr, OnOk, is_err}
 use Rattle.rand_core.specs.Stream.{Stream}
 use Rattle.wasm_types.specs.Module.{Module}
 use Rattle.wasm_module.specs.Module.{Layout, IsModule}
-use Rattle.module_changes.specs.Chosen.{ChoosesLarge, ChoosesOne, TimesLarge, draws}
-use Rattle.module_changes.specs.Entry.{GivesNone}
-use Rattle.module_changes.specs.Scope.{Scope, words_count}
+use Rattle.module_rewrites.specs.Attempt.{RefusesIndex}
+use Rattle.module_rewrites.specs.declared.attempt.Reason.{Reason}
+use Rattle.module_rewrites.specs.declared.attempt.Reason.TheVariants as reasons
+use Rattle.module_changes.specs.Chosen.{draws, AreInVain, ChoosesLarge, ChoosesNothing, ChoosesOne, IsInVain}
+use Rattle.module_changes.specs.Donor.{itself, Donor}
+use Rattle.module_changes.specs.Entry.{refusal_by, RefusesFrom}
+use Rattle.module_changes.specs.Scope.{words_count, Scope}
+use Rattle.module_changes.specs.Spliced.{donor_in, AreModules, IsSpliceRefusal}
+use Rattle.module_changes.specs.declared.splicing.SpliceRefusal.TheVariants.{Change}
 use Rattle.module_changes.specs.Times.{ChangesTimes, ChoosesEach, IsRefusal}
 use Rattle.module_changes.specs.Watched.{Seeing, Standing, SeesEach, SeesOne}
 use Rattle.module_changes.specs.Words.{after_words, words_of}
@@ -17,42 +23,78 @@ use Rattle.module_changes.specs.declared.refusal.Refusal.TheVariants.{Memory, No
 
 -- ---- one change
 
-module _ (scope : Scope) (bytes : List ℕ) (info : Module) (layout : Layout) (s : Stream) where
-  -- the next words choose what doesn't fit
-  pub large_more : (count number : ℕ) (words : List ℕ) (now after : Stream) → TimesLarge scope bytes info layout count s now →
-      number ≡ words_count scope → words ≡ words_of now number → after ≡ after_words now number → ChoosesLarge scope bytes info layout words →
-      TimesLarge scope bytes info layout (count + 1) s after
-  large_more count number words now after before many words_are after_is large =
-      let next_is : suc count ≡ count + 1 = omega arith in
-      subst (λ (n : ℕ). TimesLarge scope bytes info layout n s after) next_is (
-        now,
-        before,
-        subst (ChoosesLarge scope bytes info layout) (words_are ∙ ap (words_of now) many) large,
-        after_is ∙ ap (after_words now) many,
-      )
+module _ (donor : Donor) (scope : Scope) (bytes : List ℕ) (info : Module) (layout : Layout) (s : Stream) where
+  -- what the refusal says of the words so far
+  abbrev pub is_large : Refusal → Bool
+  is_large TooLarge = true
+  is_large refusal = false
 
-  pub gives_up : (count : ℕ) (after : Stream) → count ≡ draws → TimesLarge scope bytes info layout count s after →
-      GivesNone scope bytes info layout s TooLarge
-  gives_up count after all large = (after, subst (λ (n : ℕ). TimesLarge scope bytes info layout n s after) all large)
+  -- So many times the words chose nothing that can be made, and this says why.
+  abbrev pub VainSoFar : (count : ℕ) → Refusal → (now : Stream) → Type 0
+  VainSoFar count refusal now =
+      ((refusal ≡ NoChange) ⊎ (refusal ≡ TooLarge)) × AreInVain donor scope bytes info layout count (is_large refusal) s now
 
-  pub refuses : IsModule bytes info layout → info.exact ≡ false → (refusal : Refusal) → GivesNone scope bytes info layout s refusal →
-      IsRefusal scope bytes s refusal
-  refuses is exact (Read e) h = absurd h
-  refuses is exact (NoFunction f) h = absurd h
-  refuses is exact (UnknownImport e) h = absurd h
-  refuses is exact NoChange h = record {
-    info = info;
-    layout = layout;
-    is = is;
-    exact = exact;
-    count = h.0;
-    few = h.1;
-    before = h.2;
-    large = h.3;
-    none = h.4;
-  }
-  refuses is exact TooLarge h = record { info = info; layout = layout; is = is; exact = exact; after = h.0; large = h.1 }
-  refuses is exact Memory h = tt
+  module _ (count number : ℕ) (words : List ℕ) (refusal : Refusal) (now after : Stream) (before : VainSoFar count refusal now)
+      (many : number ≡ words_count scope) (words_are : words ≡ words_of now number) (after_is : after ≡ after_words now number) where
+    once_more : (large : Bool) → IsInVain donor scope bytes info layout words (is_large refusal) large →
+        AreInVain donor scope bytes info layout (count + 1) large s after
+    once_more large vain =
+        let next_is : suc count ≡ count + 1 = omega arith in
+        subst (λ (n : ℕ). AreInVain donor scope bytes info layout n large s after) next_is (
+          now,
+          is_large refusal,
+          before.1,
+          subst (λ (ws : List ℕ). IsInVain donor scope bytes info layout ws (is_large refusal) large) (words_are ∙ ap (words_of now) many) vain,
+          after_is ∙ ap (after_words now) many,
+        )
+
+    -- the next words choose what doesn't fit
+    pub large_more : ChoosesLarge donor scope bytes info layout words → VainSoFar (count + 1) TooLarge after
+    large_more large = (inr refl, once_more true (inl (large, refl)))
+
+    -- they choose nothing
+    pub nothing_more : ChoosesNothing donor scope bytes info layout words → VainSoFar (count + 1) refusal after
+    nothing_more nothing = (before.0, once_more (is_large refusal) (inr (nothing, refl)))
+
+  pub gives_up : (count : ℕ) (refusal : Refusal) (after : Stream) → count ≡ draws → VainSoFar count refusal after →
+      RefusesFrom donor scope bytes info layout s refusal
+  gives_up count refusal after all (inl e, vain) =
+      subst (RefusesFrom donor scope bytes info layout s) (sym e) (record {
+        after = after;
+        vain = subst (λ (n : ℕ). AreInVain donor scope bytes info layout n false s after) all
+            (subst (λ (r : Refusal). AreInVain donor scope bytes info layout count (is_large r) s after) e vain);
+      })
+  gives_up count refusal after all (inr e, vain) =
+      subst (RefusesFrom donor scope bytes info layout s) (sym e) (record {
+        after = after;
+        vain = subst (λ (n : ℕ). AreInVain donor scope bytes info layout n true s after) all
+            (subst (λ (r : Refusal). AreInVain donor scope bytes info layout count (is_large r) s after) e vain);
+      })
+
+-- why no function may be changed
+pub refuses_index : (donor : Donor) (scope : Scope) (bytes : List ℕ) (info : Module) (layout : Layout) (s : Stream) (reason : Reason) →
+    RefusesIndex layout scope.function reason → RefusesFrom donor scope bytes info layout s (refusal_by reason)
+refuses_index donor scope bytes info layout s (reasons.NoFunction f) h = h
+refuses_index donor scope bytes info layout s (reasons.UnknownImport e) h = h
+refuses_index donor scope bytes info layout s reason h = absurd h
+
+pub refuses : (scope : Scope) (bytes : List ℕ) (info : Module) (layout : Layout) (s : Stream) → IsModule bytes info layout → info.exact ≡ false →
+    (refusal : Refusal) → RefusesFrom (itself bytes info layout) scope bytes info layout s refusal → IsRefusal scope bytes s refusal
+refuses scope bytes info layout s is exact (Read e) h = absurd h
+refuses scope bytes info layout s is exact (NoFunction f) h = record { info = info; layout = layout; is = is; refuses = h }
+refuses scope bytes info layout s is exact (UnknownImport e) h = record { info = info; layout = layout; is = is; refuses = h }
+refuses scope bytes info layout s is exact NoChange h = record { info = info; layout = layout; is = is; exact = exact; gives_up = h }
+refuses scope bytes info layout s is exact TooLarge h = record { info = info; layout = layout; is = is; exact = exact; gives_up = h }
+refuses scope bytes info layout s is exact Memory h = tt
+
+pub splice_refuses : (scope : Scope) (bytes other : List ℕ) (s : Stream) (m : AreModules bytes other) (refusal : Refusal) →
+    RefusesFrom (donor_in m) scope bytes m.info m.layout s refusal → IsSpliceRefusal scope bytes other s (Change refusal)
+splice_refuses scope bytes other s m (Read e) h = absurd h
+splice_refuses scope bytes other s m (NoFunction f) h = record { info = m.info; layout = m.layout; is = m.is; refuses = h }
+splice_refuses scope bytes other s m (UnknownImport e) h = record { info = m.info; layout = m.layout; is = m.is; refuses = h }
+splice_refuses scope bytes other s m NoChange h = record { are = m; gives_up = h }
+splice_refuses scope bytes other s m TooLarge h = record { are = m; gives_up = h }
+splice_refuses scope bytes other s m Memory h = tt
 
 -- ---- one after another
 

@@ -1,7 +1,7 @@
 -- A changed module is valid where it was.
 use Rattle.std.proofs.Common.{◌≡◌, ℕ, ◌+◌, inl, inr, Bool, false, if◌then◌else◌, List, [], ◌∷◌, ◌++◌, Option, Some, None, refl, sym, ap, ap₂, subst, ◌∙◌}
 use Rattle.std.proofs.Common.{append-nil}
-use Rattle.std.specs.Prelude.{⊤, drop, option_map}
+use Rattle.std.specs.Prelude.{⊤, option_map}
 use Rattle.std.proofs.lemmas.Bool.Decides.{eqb_tells}
 use Rattle.rand_core.specs.Stream.{Stream}
 use Rattle.wasm_code.specs.declared.operator.Operator.{Operator}
@@ -22,9 +22,9 @@ use Rattle.module_rewrites.specs.StandAgain.{FunctionsStandAgain, StandAgain}
 use Rattle.module_rewrites.specs.Structure.{AreLabelled}
 use Rattle.module_changes.specs.Changed.{MakesChange}
 use Rattle.module_changes.specs.Chosen.{ChoosesOne}
-use Rattle.module_changes.specs.Scope.{Scope, words_count}
+use Rattle.module_changes.specs.Scope.{Choice, Scope}
+use Rattle.module_changes.specs.Spliced.{SplicesOne}
 use Rattle.module_changes.specs.Times.{ChoosesEach}
-use Rattle.module_changes.specs.Words.{words_of}
 use Rattle.module_changes.specs.Valid.{with_bytes, IsValidAfter, SameKind, StaysValidModule}
 use Rattle.module_changes.specs.declared.entry.MadeChange.{MadeChange}
 
@@ -89,8 +89,8 @@ valid_after law m input old new beyonds same valid f c k = go (old f) refl (subs
 
 -- ---- a changed function among the others
 
-module _ (law : OfValidity) {scope : Scope} {bytes : List ℕ} {info : Module} {layout : Layout} {words : List ℕ} {n : ℕ} {made : MadeChange}
-    {new : List ℕ} (m : MakesChange scope bytes info layout words n made new) (old : Functions) (are : AreFunctions bytes info layout old) where
+module _ (law : OfValidity) {choice : Choice} {bytes : List ℕ} {info : Module} {layout : Layout} {words : List ℕ} {n : ℕ} {made : MadeChange}
+    {new : List ℕ} (m : MakesChange choice bytes info layout words n made new) (old : Functions) (are : AreFunctions bytes info layout old) where
   abbrev written : List Operator
   written = without_offsets m.writes.code.replaced.spliced.again
 
@@ -137,19 +137,29 @@ module _ (law : OfValidity) {scope : Scope} {bytes : List ℕ} {info : Module} {
     indices = m.again.indices.0;
   }
 
-pub one_stays : OfValidity → (scope : Scope) (bytes new : List ℕ) (s after : Stream) (made : MadeChange) → ChoosesOne scope bytes s made new after →
-    StaysValidModule bytes new
-one_stays law scope bytes new s after made m = record { functions = λ info layout old is mark are. go info layout old is mark are }
+-- whatever words and code to be copied there are
+pub made_stays : OfValidity → {choice : Choice} (bytes new : List ℕ) (read : Module) (place : Layout) {words : List ℕ} {n : ℕ} {made : MadeChange} →
+    IsModule bytes read place → read.exact ≡ false → MakesChange choice bytes read place words n made new → StaysValidModule bytes new
+made_stays law {choice} bytes new read place {words} {n} {made} known exact m =
+    record { functions = λ info layout old is mark are. go info layout old is mark are }
   where
     go : (info : Module) (layout : Layout) (old : Functions) → IsModule bytes info layout → info.exact ≡ false → AreFunctions bytes info layout old →
         IsValidAfter bytes info layout old new
     go info layout old is mark are =
-        let (infos, layouts) = law.one bytes m.info info m.layout layout m.is is (m.exact ∙ sym mark) in
-        let by = m.chooses.chooses in
+        let (infos, layouts) = law.one bytes read info place layout known is (exact ∙ sym mark) in
         is_valid_after law
-        (subst (λ (p : Module × Layout). MakesChange scope bytes p.0 p.1
-        (drop 1 (words_of m.chooses.before (words_count scope))) by.n made new) (ap₂ (λ (i : Module) (l : Layout). (i, l)) infos layouts)
-        by.makes) old are
+        (subst (λ (p : Module × Layout). MakesChange choice bytes p.0 p.1 words n made new)
+        (ap₂ (λ (i : Module) (l : Layout). (i, l)) infos layouts) m) old are
+
+pub one_stays : OfValidity → (scope : Scope) (bytes new : List ℕ) (s after : Stream) (made : MadeChange) → ChoosesOne scope bytes s made new after →
+    StaysValidModule bytes new
+one_stays law scope bytes new s after made m =
+    made_stays law bytes new m.info m.layout m.is m.exact m.chooses.chooses.makes
+
+pub spliced_stays : OfValidity → (scope : Scope) (bytes other new : List ℕ) (s after : Stream) (made : MadeChange) →
+    SplicesOne scope bytes other s made new after → StaysValidModule bytes new
+spliced_stays law scope bytes other new s after made m =
+    made_stays law bytes new m.are.info m.are.layout m.are.is m.are.exact m.chooses.chooses.makes
 
 -- ---- one after another
 

@@ -1,20 +1,23 @@
 -- An attempt at a code entry. For private functions (this project).
-use Rattle.std.specs.Prelude.{◌⊎◌, ⊤, ℕ, ◌+◌, ◌<◌, ◌≤◌, List, [], length, drop}
+use Rattle.std.specs.Prelude.{◌⊎◌, ⊤, false, true, ℕ, ◌+◌, ◌<◌, ◌≤◌, List, [], length}
 use Rattle.rand_core.specs.Stream.{Stream}
 use Rattle.wasm_types.specs.Module.{Module}
 use Rattle.wasm_module.specs.Limits.{IsTooLarge}
 use Rattle.wasm_module.specs.Module.{Layout, IsModule}
 use Rattle.wasm_module.specs.Rewritten.{IsRewritten}
+use Rattle.module_rewrites.specs.Attempt.{RefusesIndex}
 use Rattle.module_rewrites.specs.Mutated.{IsChosen}
 use Rattle.module_changes.specs.Changed.{DoesNotFit, HasNoChange, MakesChange}
 use Rattle.module_rewrites.specs.declared.attempt.Reason.{Reason}
 use Rattle.module_rewrites.specs.declared.attempt.Reason.TheVariants as reasons
-use Rattle.module_changes.specs.Chosen.{draws, AreUnchanged, ChoosesBy, ChoosesLarge, TimesLarge}
-use Rattle.module_changes.specs.Scope.{Scope, words_count}
-use Rattle.module_changes.specs.Words.{words_of}
+use Rattle.module_changes.specs.Chosen.{AreUnchanged, ChoosesBy, ChoosesLarge, ChoosesNothing, GivesUpOn}
+use Rattle.module_changes.specs.Donor.{Donor}
+use Rattle.module_changes.specs.Scope.{Choice, Scope}
+use Rattle.module_changes.specs.declared.copying.Source.{Source}
 use Rattle.module_changes.specs.declared.entry.Attempt.{Attempt}
 use Rattle.module_changes.specs.declared.entry.Attempt.TheVariants.{Made, TooLarge, Unchanged}
 use Rattle.module_changes.specs.declared.entry.Reading.{Reading}
+use Rattle.module_changes.specs.declared.entry.Trial.{Trial}
 use Rattle.module_changes.specs.declared.refusal.Refusal.{Refusal}
 use Rattle.module_changes.specs.declared.refusal.Refusal.TheVariants as refusals
 
@@ -22,53 +25,60 @@ use Rattle.module_changes.specs.declared.refusal.Refusal.TheVariants as refusals
 abbrev pub IsReading : Reading → Type 0
 IsReading r = IsModule r.bytes.now r.info.now r.layout.now
 
+-- what a trial chooses among
+abbrev pub choice_of : Trial → Choice
+choice_of t = record { scope = t.scope.now; copied = t.copied.now }
+
+-- where code is copied from
+abbrev pub donor_of : Source → Donor
+donor_of s = record { bytes = s.reading.bytes.now; info = s.reading.info.now; layout = s.reading.layout.now; plain = s.plain }
+
 -- 32 bits don't hold a size of the module with these contents of the entry, or it has more than so many bytes
 abbrev pub IsLarge : (bytes : List ℕ) → Layout → (n : ℕ) → (contents : List ℕ) → (most : ℕ) → Type 0
 IsLarge bytes layout n contents most =
     IsTooLarge bytes layout n contents [] ⊎ ((new : List ℕ) × IsRewritten bytes layout n contents [] new × (most < length new))
 
 -- what the attempt came to
-abbrev pub IsTried : Scope → (bytes : List ℕ) → Module → Layout → (words : List ℕ) → (n : ℕ) → Attempt → Type 0
-IsTried scope bytes info layout words n (Made made new) = MakesChange scope bytes info layout words n made new.items
-IsTried scope bytes info layout words n Unchanged = HasNoChange scope bytes info layout words n
-IsTried scope bytes info layout words n TooLarge = DoesNotFit scope bytes info layout words n
+abbrev pub IsTried : Choice → (bytes : List ℕ) → Module → Layout → (words : List ℕ) → (n : ℕ) → Attempt → Type 0
+IsTried choice bytes info layout words n (Made made new) = MakesChange choice bytes info layout words n made new.items
+IsTried choice bytes info layout words n Unchanged = HasNoChange choice bytes info layout words n
+IsTried choice bytes info layout words n TooLarge = DoesNotFit choice bytes info layout words n
 
 -- ---- several entries
 
 -- Of the first entry from `from` on, before `to`, whose function the words change, that is so.
-pub record IsFirstWithin (scope : Scope) (bytes : List ℕ) (info : Module) (layout : Layout) (words : List ℕ) (from to : ℕ) (Is : ℕ → Type 0) : Type 0 where
+pub record IsFirstWithin (choice : Choice) (bytes : List ℕ) (info : Module) (layout : Layout) (words : List ℕ) (from to : ℕ) (Is : ℕ → Type 0) : Type 0 where
   pub n : ℕ
   pub behind : from ≤ n
   pub before : n < to
-  pub chosen : IsChosen scope.function (layout.imported_functions + n)
-  pub unchanged : AreUnchanged scope bytes info layout words from n
+  pub chosen : IsChosen choice.scope.function (layout.imported_functions + n)
+  pub unchanged : AreUnchanged choice bytes info layout words from n
   pub is : Is n
 
 -- what attempts at these came to
-abbrev pub AreTried : Scope → (bytes : List ℕ) → Module → Layout → (words : List ℕ) → (from to : ℕ) → Attempt → Type 0
-AreTried scope bytes info layout words from to (Made made new) =
-    IsFirstWithin scope bytes info layout words from to (λ n. MakesChange scope bytes info layout words n made new.items)
-AreTried scope bytes info layout words from to Unchanged = AreUnchanged scope bytes info layout words from to
-AreTried scope bytes info layout words from to TooLarge =
-    IsFirstWithin scope bytes info layout words from to (DoesNotFit scope bytes info layout words)
+abbrev pub AreTried : Choice → (bytes : List ℕ) → Module → Layout → (words : List ℕ) → (from to : ℕ) → Attempt → Type 0
+AreTried choice bytes info layout words from to (Made made new) =
+    IsFirstWithin choice bytes info layout words from to (λ n. MakesChange choice bytes info layout words n made new.items)
+AreTried choice bytes info layout words from to Unchanged = AreUnchanged choice bytes info layout words from to
+AreTried choice bytes info layout words from to TooLarge =
+    IsFirstWithin choice bytes info layout words from to (DoesNotFit choice bytes info layout words)
 
 -- what those at all entries did, by words of which the first one names an entry
-abbrev pub AllTried : Scope → (bytes : List ℕ) → Module → Layout → (words : List ℕ) → Attempt → Type 0
-AllTried scope bytes info layout words (Made made new) = ChoosesBy scope bytes info layout words made new.items
-AllTried scope bytes info layout words Unchanged = AreUnchanged scope bytes info layout (drop 1 words) 0 (length layout.entries)
-AllTried scope bytes info layout words TooLarge = ChoosesLarge scope bytes info layout words
+abbrev pub AllTried : Donor → Scope → (bytes : List ℕ) → Module → Layout → (words : List ℕ) → Attempt → Type 0
+AllTried donor scope bytes info layout words (Made made new) = ChoosesBy donor scope bytes info layout words made new.items
+AllTried donor scope bytes info layout words Unchanged = ChoosesNothing donor scope bytes info layout words
+AllTried donor scope bytes info layout words TooLarge = ChoosesLarge donor scope bytes info layout words
 
 -- ---- drawn words
 
--- why none is made of the module: no change makes anything by words behind those that choose what doesn't fit, as many as are drawn choose that, or for want
--- of memory
-abbrev pub GivesNone : Scope → (bytes : List ℕ) → Module → Layout → Stream → Refusal → Type 0
-GivesNone scope bytes info layout s refusals.NoChange =
-    (count : ℕ) × (count < draws) × (before : Stream) × TimesLarge scope bytes info layout count s before
-    × AreUnchanged scope bytes info layout (drop 1 (words_of before (words_count scope))) 0 (length layout.entries)
-GivesNone scope bytes info layout s refusals.TooLarge = (after : Stream) × TimesLarge scope bytes info layout draws s after
-GivesNone scope bytes info layout s refusals.Memory = ⊤
-GivesNone scope bytes info layout s refusal = ⊥
+-- why no change is made of the module: no function of it may be changed, as many words as are drawn choose nothing that can be made, or for want of memory
+abbrev pub RefusesFrom : Donor → Scope → (bytes : List ℕ) → Module → Layout → Stream → Refusal → Type 0
+RefusesFrom donor scope bytes info layout s (refusals.NoFunction function) = RefusesIndex layout scope.function (reasons.NoFunction function)
+RefusesFrom donor scope bytes info layout s (refusals.UnknownImport e) = RefusesIndex layout scope.function (reasons.UnknownImport e)
+RefusesFrom donor scope bytes info layout s refusals.NoChange = GivesUpOn donor scope bytes info layout false s
+RefusesFrom donor scope bytes info layout s refusals.TooLarge = GivesUpOn donor scope bytes info layout true s
+RefusesFrom donor scope bytes info layout s refusals.Memory = ⊤
+RefusesFrom donor scope bytes info layout s (refusals.Read e) = ⊥
 
 -- why no function may be changed
 abbrev pub refusal_by : Reason → Refusal

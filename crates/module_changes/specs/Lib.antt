@@ -1,8 +1,11 @@
 pub mod Words
 pub mod Scope
+pub mod Donor
 pub mod Changed
 pub mod Chosen
 pub mod Times
 pub mod Valid
+pub mod Spliced
+pub mod Placed
 pub mod Entry
 pub mod Watched

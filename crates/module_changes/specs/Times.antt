@@ -1,10 +1,10 @@
 -- A module changed several times, one change after another (this project).
-use Rattle.std.specs.Prelude.{◌≡◌, ⊤, ℕ, ◌<◌, ◌≤◌, List, [], ◌∷◌, length, Option, Some, None}
+use Rattle.std.specs.Prelude.{◌≡◌, ⊤, false, true, ℕ, ◌<◌, ◌≤◌, List, [], ◌∷◌, length, Option, Some, None}
 use Rattle.rand_core.specs.Stream.{Stream}
 use Rattle.wasm_module.specs.Fault.{IsModuleFault}
 use Rattle.module_rewrites.specs.Attempt.{RefusesIndexOf}
 use Rattle.module_rewrites.specs.declared.attempt.Reason.TheVariants as reasons
-use Rattle.module_changes.specs.Chosen.{ChangesNothing, ChoosesOne, GivesUp}
+use Rattle.module_changes.specs.Chosen.{ChoosesOne, GivesUp}
 use Rattle.module_changes.specs.Scope.{Scope}
 use Rattle.module_changes.specs.declared.entry.MadeChange.{MadeChange}
 use Rattle.module_changes.specs.declared.refusal.Refusal.{Refusal}
@@ -17,14 +17,14 @@ ChoosesEach scope bytes s [] new after = (new ≡ bytes) × (after ≡ s)
 ChoosesEach scope bytes s (m ∷ ms) new after =
     (next : List ℕ) × (left : Stream) × ChoosesOne scope bytes s m next left × ChoosesEach scope next left ms new after
 
--- Why nothing of the module is changed, or nothing more: the bytes are none that can be read, it has no function of its own with the index that is named, by
--- the words that were drawn no change makes anything, what they choose doesn't fit, each time, or for want of memory.
+-- Why nothing of the module is changed, or nothing more: the bytes are none that can be read, it has no function of its own with the index that is named, as
+-- many words as are drawn choose no change, or none that fits, or for want of memory.
 abbrev pub IsRefusal : Scope → (bytes : List ℕ) → Stream → Refusal → Type 0
 IsRefusal scope bytes s (Read e) = IsModuleFault bytes e.kind e.offset
 IsRefusal scope bytes s (NoFunction function) = RefusesIndexOf scope.function bytes (reasons.NoFunction function)
 IsRefusal scope bytes s (UnknownImport e) = RefusesIndexOf scope.function bytes (reasons.UnknownImport e)
-IsRefusal scope bytes s NoChange = ChangesNothing scope bytes s
-IsRefusal scope bytes s TooLarge = GivesUp scope bytes s
+IsRefusal scope bytes s NoChange = GivesUp scope bytes false s
+IsRefusal scope bytes s TooLarge = GivesUp scope bytes true s
 IsRefusal scope bytes s Memory = ⊤
 
 -- The new bytes are the module with these changes, one or more, at most `count`, as the words choose them; and fewer only for that reason.

@@ -1,17 +1,16 @@
 //! The module changed by words: which function they change.
 ghost use Rattle.std.specs.Prelude.{◌≡◌, ◌↔◌, ◌<◌, ◌≤◌, ◌+◌, drop, get_or, IfErr, IfOk, IsTrue, length};
 ghost use Rattle.module_rewrites.specs.Mutated.{IsChosen};
-ghost use Rattle.module_changes.specs.Entry.{AllTried, AreTried, IsReading};
+ghost use Rattle.module_changes.specs.Entry.{choice_of, donor_of, AllTried, AreTried, IsReading};
 ghost use Rattle.module_changes.specs.declared.refusal.Refusal.TheVariants.{Memory};
 
-use crate::entry::{Attempt, Reading, change_entry};
+use crate::copying::{Source, copied_code};
+use crate::entry::{Attempt, Reading, Trial, change_entry, entry_named};
 use crate::refusal::Refusal;
 use crate::scope::Scope;
-use module_rewrites::entry_of_word;
 use std::alloc::Global;
 use std::ops::Range;
 use wasm_module::Layout;
-use wasm_module::laws::{entries_are_inside, entries_fit_the_module};
 
 // Whether the function of the n-th code entry may be changed.
 fn is_chosen(only: Option<usize>, layout: &Layout, n: usize) -> bool
@@ -28,20 +27,19 @@ fn is_chosen(only: Option<usize>, layout: &Layout, n: usize) -> bool
 fn change_within(
     alloc: Global,
     reading: &Reading<'_>,
-    scope: &Scope<'_>,
-    words: &[u64],
+    trial: &Trial<'_>,
     range: Range<usize>,
 ) -> Result<Attempt, Refusal>
     requires reading { IsReading reading.now }
     requires inside { range.end ≤ length reading.now.layout.now.entries }
-    requires some { 0 < scope.now.most }
-    ensures tried { IfOk result (AreTried scope.now reading.now.bytes.now reading.now.info.now
-        reading.now.layout.now words.now range.start range.end) }
+    requires some { 0 < trial.now.scope.now.most }
+    ensures tried { IfOk result (AreTried (choice_of trial.now) reading.now.bytes.now
+        reading.now.info.now reading.now.layout.now trial.now.words.now range.start range.end) }
     ensures memory { IfErr result (λ e. e ≡ Memory) }
 {
     for n in range.start..range.end {
-        if is_chosen(scope.function(), reading.layout, n) {
-            match change_entry(alloc, reading, scope, words, n)? {
+        if is_chosen(trial.scope.function(), reading.layout, n) {
+            match change_entry(alloc, reading, trial, n)? {
                 Attempt::Unchanged => {}
                 attempt => return Ok(attempt),
             }
@@ -66,30 +64,35 @@ fn other_words(words: &[u64]) -> &[u64]
 
 /// The module with the change that the words choose: the first one names a code entry by its size, and that is changed, or else the first
 /// one behind it, and then from the first one on, whose function may be changed and in which the words behind it choose a change; if that
-/// fits.
+/// fits. The fourth and the fifth word also name the code that may be copied.
 pub(crate) fn change_by_words(
     alloc: Global,
     reading: &Reading<'_>,
+    source: &Source<'_>,
     scope: &Scope<'_>,
     words: &[u64],
 ) -> Result<Attempt, Refusal>
     requires reading { IsReading reading.now }
+    requires source { IsReading source.now.reading }
     requires some { 0 < scope.now.most }
-    ensures tried { IfOk result (AllTried scope.now reading.now.bytes.now reading.now.info.now
-        reading.now.layout.now words.now) }
+    ensures tried { IfOk result (AllTried (donor_of source.now) scope.now reading.now.bytes.now
+        reading.now.info.now reading.now.layout.now words.now) }
     ensures memory { IfErr result (λ e. e ≡ Memory) }
 {
-    entries_are_inside();
-    entries_fit_the_module();
+    let copied = copied_code(alloc, source, scope.changes(), words)?;
     let layout = reading.layout;
     let count = layout.entries.len();
     if count == 0 {
         return Ok(Attempt::Unchanged);
     }
-    let from = entry_of_word(layout, first_word(words));
-    let rest = other_words(words);
-    match change_within(alloc, reading, scope, rest, from..count)? {
-        Attempt::Unchanged => change_within(alloc, reading, scope, rest, 0..from),
+    let from = entry_named(reading, first_word(words));
+    let trial = Trial {
+        scope,
+        copied: &copied,
+        words: other_words(words),
+    };
+    match change_within(alloc, reading, &trial, from..count)? {
+        Attempt::Unchanged => change_within(alloc, reading, &trial, 0..from),
         attempt => Ok(attempt),
     }
 }

@@ -7,20 +7,24 @@ ghost use Rattle.body_splices.specs.OwnBytes.{IsBodyIn};
 ghost use Rattle.body_changes.specs.Chosen.{ChangesNone};
 ghost use Rattle.wasm_module.specs.Rewritten.{IsRewritten};
 ghost use Rattle.module_rewrites.specs.Function.{IsFunction};
+ghost use Rattle.module_rewrites.specs.Drawing.{WordNames};
 ghost use Rattle.module_rewrites.specs.Mutated.{IsBehindLocals};
 ghost use Rattle.module_changes.specs.Changed.{WritesCode};
-ghost use Rattle.module_changes.specs.Entry.{IsLarge, IsReading, IsTried};
+ghost use Rattle.module_changes.specs.Entry.{choice_of, IsLarge, IsReading, IsTried};
+ghost use Rattle.module_changes.specs.Scope.{material_of};
 ghost use Rattle.module_changes.specs.declared.refusal.Refusal.TheVariants.{Memory};
 
 use crate::refusal::Refusal;
 use crate::scope::Scope;
-use body_changes::{Body, Change, Changed, Source, change_of_words, replace_code, units_of};
+use body_changes::{
+    Body, Change, Changed, Source, change_of_words, copied_into, replace_code, units_of,
+};
 use body_splices::laws::splices_keep_operators;
 use module_rewrites::laws::{bodies_are_read_again, functions_are_inside};
-use module_rewrites::{FunctionBody, function_index, read_function};
+use module_rewrites::{FunctionBody, entry_of_word, function_index, read_function};
 use std::alloc::Global;
-use wasm_code::Function;
-use wasm_module::laws::rewritten_bytes_are_a_module;
+use wasm_code::{Function, Instr};
+use wasm_module::laws::{entries_are_inside, entries_fit_the_module, rewritten_bytes_are_a_module};
 use wasm_module::{Entry, Layout, WriteError, with_body};
 use wasm_types::ModuleInfo;
 
@@ -45,6 +49,14 @@ pub(crate) struct Reading<'a> {
     pub layout: &'a Layout,
 }
 
+/// What may be changed, the code that may be copied, and the words that choose a change.
+#[derive(Clone, Copy)]
+pub(crate) struct Trial<'a> {
+    pub scope: &'a Scope<'a>,
+    pub copied: &'a [Instr],
+    pub words: &'a [u64],
+}
+
 /// The module with a change of one of its entries, or why there is none.
 #[derive(Drop)]
 pub(crate) enum Attempt {
@@ -61,6 +73,18 @@ pub(crate) enum Attempt {
 struct Contents<'a> {
     locals: &'a [u8],
     body: &'a [u8],
+}
+
+/// The number of the entry that the word names by its size.
+pub(crate) fn entry_named(reading: &Reading<'_>, word: u64) -> usize
+    requires reading { IsReading reading.now }
+    requires some { 0 < length reading.now.layout.now.entries }
+    ensures named { WordNames word reading.now.layout.now.entries result }
+    ensures inside { result < length reading.now.layout.now.entries }
+{
+    entries_are_inside();
+    entries_fit_the_module();
+    entry_of_word(reading.layout, word)
 }
 
 // The n-th entry.
@@ -83,27 +107,29 @@ fn locals_of(bytes: &[u8], entry: Entry, expression: usize) -> &[u8]
 fn change_body(
     alloc: Global,
     source: &Source<'_>,
-    scope: &Scope<'_>,
-    words: &[u64],
+    trial: &Trial<'_>,
     sink: &mut Function,
 ) -> Result<Option<Changed>, Refusal>
     requires body { IsBodyIn source.now.input.now source.now.operators.now }
-    requires some { 0 < scope.now.most }
-    ensures made { IfOk result (λ o. IfSome o (λ c. WritesCode scope.now
+    requires some { 0 < trial.now.scope.now.most }
+    ensures made { IfOk result (λ o. IfSome o (λ c. WritesCode (choice_of trial.now)
         (context_of source.now) source.now.input.now source.now.operators.now
-        words.now c.change c.at c.start sink.old sink.new)) }
+        trial.now.words.now c.change c.at c.start sink.old sink.new)) }
     ensures none { IfOk result (λ o. IfNone o (ChangesNone
         (context_of source.now) source.now.operators.now
-        scope.now.most scope.now.changes words.now)) }
+        (material_of (choice_of trial.now)) trial.now.scope.now.changes trial.now.words.now)) }
     ensures memory { IfErr result (λ e. e ≡ Memory) }
 {
     let units = units_of(alloc, source.locals, source.info, source.operators)?;
+    let copied = copied_into(alloc, source, trial.copied)?;
     let body = Body {
         source: *source,
         units: &units,
-        most: scope.most(),
+        most: trial.scope.most(),
+        copied,
     };
-    let Some(changed) = change_of_words(alloc, &body, scope.changes(), words)? else {
+    let changes = trial.scope.changes();
+    let Some(changed) = change_of_words(alloc, &body, changes, trial.words)? else {
         return Ok(None);
     };
     let range = changed.start..changed.at + 1;
@@ -146,18 +172,17 @@ fn module_with(
     }
 }
 
-// The module with the function's body changed by the words.
-fn change_function(
+/// The module with the function's body changed by the words.
+pub(crate) fn change_function(
     alloc: Global,
     reading: &Reading<'_>,
-    scope: &Scope<'_>,
-    words: &[u64],
+    trial: &Trial<'_>,
     n: usize,
     function: &FunctionBody,
 ) -> Result<Attempt, Refusal>
     requires reading { IsReading reading.now }
     requires inside { n < length reading.now.layout.now.entries }
-    requires some { 0 < scope.now.most }
+    requires some { 0 < trial.now.scope.now.most }
     requires function { IsFunction reading.now.bytes.now reading.now.info.now
         reading.now.layout.now n function.now.locals.items function.now.expression
         function.now.operators.items }
@@ -166,8 +191,8 @@ fn change_function(
         (operators : List (Operator × ℕ)) → IsFunction reading.now.bytes.now
         reading.now.info.now reading.now.layout.now n locals expression operators
         → (function.now.locals.items ≡ locals) × (function.now.operators.items ≡ operators) }
-    ensures tried { IfOk result (IsTried scope.now reading.now.bytes.now reading.now.info.now
-        reading.now.layout.now words.now n) }
+    ensures tried { IfOk result (IsTried (choice_of trial.now) reading.now.bytes.now
+        reading.now.info.now reading.now.layout.now trial.now.words.now n) }
     ensures memory { IfErr result (λ e. e ≡ Memory) }
 {
     functions_are_inside();
@@ -181,7 +206,7 @@ fn change_function(
         input: reading.bytes,
     };
     let mut body = Function::new(alloc);
-    let Some(changed) = change_body(alloc, &source, scope, words, &mut body)? else {
+    let Some(changed) = change_body(alloc, &source, trial, &mut body)? else {
         return Ok(Attempt::Unchanged);
     };
     let locals = locals_of(
@@ -193,7 +218,7 @@ fn change_function(
         locals,
         body: body.bytes(),
     };
-    match module_with(alloc, reading, n, contents, scope.max_size())? {
+    match module_with(alloc, reading, n, contents, trial.scope.max_size())? {
         Some(new) => {
             let made = MadeChange {
                 function: function_index(reading.info, reading.layout, n),
@@ -211,19 +236,18 @@ fn change_function(
 pub(crate) fn change_entry(
     alloc: Global,
     reading: &Reading<'_>,
-    scope: &Scope<'_>,
-    words: &[u64],
+    trial: &Trial<'_>,
     n: usize,
 ) -> Result<Attempt, Refusal>
     requires reading { IsReading reading.now }
     requires inside { n < length reading.now.layout.now.entries }
-    requires some { 0 < scope.now.most }
-    ensures tried { IfOk result (IsTried scope.now reading.now.bytes.now reading.now.info.now
-        reading.now.layout.now words.now n) }
+    requires some { 0 < trial.now.scope.now.most }
+    ensures tried { IfOk result (IsTried (choice_of trial.now) reading.now.bytes.now
+        reading.now.info.now reading.now.layout.now trial.now.words.now n) }
     ensures memory { IfErr result (λ e. e ≡ Memory) }
 {
     match read_function(alloc, reading.bytes, reading.info, reading.layout, n) {
-        Ok(function) => change_function(alloc, reading, scope, words, n, &function),
+        Ok(function) => change_function(alloc, reading, trial, n, &function),
         Err(e) => {
             if e.is_memory() {
                 Err(Refusal::Memory)

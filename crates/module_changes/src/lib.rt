@@ -4,16 +4,23 @@
 
 mod attempt;
 mod choosing;
+mod copying;
 mod entry;
 pub mod laws;
+mod placed;
 mod refusal;
 mod scope;
+mod splicing;
+#[cfg(test)]
+mod tests;
 mod times;
 mod watch;
 mod words;
 
 pub use entry::MadeChange;
+pub use placed::{ChangeAt, change_at};
 pub use refusal::Refusal;
 pub use scope::Scope;
+pub use splicing::{SpliceRefusal, SplicedModule, splice_module};
 pub use times::{ChangedModule, change_module};
 pub use watch::{Unwatched, Watch};

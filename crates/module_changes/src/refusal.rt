@@ -16,7 +16,8 @@ pub enum Refusal {
     /// A function is named, and an import isn't known, so that no function's index is.
     #[error("an import isn't known, and so no function's index is: {0}")]
     UnknownImport(ModuleError),
-    /// No change makes anything in the functions that may be changed and can be read, or there is none.
+    /// By the words that were drawn, or of the operators that are named, no change makes anything in the functions that may be changed and
+    /// can be read, or there is none.
     #[error("nothing can be changed")]
     NoChange,
     /// What changes made had more bytes than it may, or 32 bits don't hold a size of it.

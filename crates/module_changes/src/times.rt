@@ -66,17 +66,19 @@ fn stopped(module: ChangedModule, refusal: Refusal) -> ChangedModule
 ///
 /// A change takes 3 words, and 3 for each instruction that may be drawn. The first one, modulo the number of bytes that all code entries
 /// contain, names one of these bytes, and so the function whose entry contains it; the next one the change, the one behind it the
-/// operator, and the others the code, as `change_of_words` has them. Where no change makes anything there, the functions behind it are
-/// tried by the same words, and then those before it. Where the change that is made doesn't fit, words are drawn again, at most 16 times
-/// in all. So equal modules, generators, scopes and counts give equal bytes.
+/// operator, and the others the code, as `change_of_words` has them. Of these the first one also names a function in the same way, and
+/// the next one, modulo their number, an operator of it, whose unit may be copied. Where no change makes anything there, the functions
+/// behind it are tried by the same words, and then those before it. Where no change makes anything in any of them, or what is made
+/// doesn't fit, words are drawn again, at most 16 times in all. So equal modules, generators, scopes and counts give equal bytes.
 ///
 /// Each change is shown to the watcher once it stands in `made`; one for which no memory was left there is not shown.
 ///
-/// It takes time linear in the module for each change, each time that words are drawn.
+/// It takes time linear in the module for each change, each time that words are drawn; and where `copy` is one of the changes, for each
+/// function that is tried, time linear in the code that may be copied.
 ///
-/// `Read` as `read_module` refuses; `NoFunction` and `UnknownImport` as `chosen_entries` does; `NoChange` only where no change makes
-/// anything by the words that were drawn, in any function that may be changed and can be read: no change but copies, whatever the words;
-/// `TooLarge` only where sixteen times the words choose one that doesn't fit; `Memory` for want of memory.
+/// `Read` as `read_module` refuses; `NoFunction` and `UnknownImport` as `chosen_entries` does; `NoChange` only where sixteen times the
+/// words choose no change in any function that may be changed and can be read; `TooLarge` only where that is so but for some times, one at
+/// least, that they choose one that doesn't fit; `Memory` for want of memory.
 pub fn change_module<R: Rng, W: Watch>(
     alloc: Global,
     bytes: &[u8],

@@ -1,11 +1,12 @@
 -- What is shown of changes that were seen one after another.
-use Rattle.std.specs.Prelude.{◌||◌}
+use Rattle.std.specs.Prelude.{is_none, ◌&&◌, ◌||◌}
 use Rattle.std.proofs.Common.{◌≡◌, ℕ, List, [], ◌∷◌, ◌++◌, Bool, true, false, Option, refl, sym, ◌∙◌, ap, subst, append_assoc, append-nil}
 use Rattle.std.specs.Io.KnownBytes.{Appends}
 use Rattle.module_showing.specs.Changed.{change_line}
 use Rattle.module_changes.specs.Scope.{Scope}
 use Rattle.module_changes.specs.Watched.{Seeing, SeesEach, Standing}
 use Rattle.module_changes.specs.declared.entry.MadeChange.{MadeChange}
+use Rattle.module_changes.specs.declared.placed.ChangeAt.{ChangeAt}
 use Rattle.module_changes.specs.declared.refusal.Refusal.{Refusal}
 use Rattle.module_commands.specs.Changing.{AreShown, GrowsByChange, ShowsChanges, ShowsOneChange, report_asked}
 use Rattle.module_commands.specs.declared.form.Form.{Form}
@@ -53,12 +54,12 @@ are_shown scope from made to true seen none wanted empty =
     subst (ShowsChanges made) (sym (all.1 ∙ ap (λ text. text ++ all.0) empty)) all.2
 
 -- What is told is written, where anything is.
-pub told_text : (stats show : Bool) (form : Form) (bytes : List ℕ) (made : List MadeChange) (stopped : Option Refusal) (written shown told : List ℕ)
-    (old new : Option (List ℕ)) → AreShown show made shown → told ≡ shown ++ report_asked stats form bytes made stopped written →
+pub told_text : (stats show : Bool) (place : Option ChangeAt) (form : Form) (bytes : List ℕ) (made : List MadeChange) (stopped : Option Refusal) (written shown told : List ℕ)
+    (old new : Option (List ℕ)) → AreShown (show && is_none place) made shown → told ≡ shown ++ report_asked stats form bytes made stopped written →
     ((stats || show) ≡ true → Appends old new told) → ((stats || show) ≡ false → new ≡ old) →
     Appends old new (shown ++ report_asked stats form bytes made stopped written)
-told_text true show form bytes made stopped written shown told old new are is h k = subst (Appends old new) is (h refl)
-told_text false true form bytes made stopped written shown told old new are is h k = subst (Appends old new) is (h refl)
-told_text false false form bytes made stopped written shown told old new are is h k =
+told_text true show place form bytes made stopped written shown told old new are is h k = subst (Appends old new) is (h refl)
+told_text false true place form bytes made stopped written shown told old new are is h k = subst (Appends old new) is (h refl)
+told_text false false place form bytes made stopped written shown told old new are is h k =
     subst (λ (text : List ℕ). Appends old new (text ++ [])) (sym are)
     (subst (λ (c : Option (List ℕ)). Appends old c []) (sym (k refl)) (appends_nothing old))

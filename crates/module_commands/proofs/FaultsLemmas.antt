@@ -1,5 +1,5 @@
 -- What is told of functions that can be read, and of those that can't; why no list is written.
-use Rattle.std.proofs.Common.{◌≡◌, ℕ, suc, ◌+◌, ◌<◌, List, [], ◌∷◌, ◌++◌, length, take, get_or, Option, inr, refl, sym, ap, ◌∙◌, subst, append_assoc, append-nil, arith}
+use Rattle.std.proofs.Common.{◌≡◌, ℕ, suc, ◌+◌, ◌<◌, List, [], ◌∷◌, ◌++◌, length, take, get_or, Option, Some, None, inr, refl, sym, ap, ◌∙◌, subst, append_assoc, append-nil, arith}
 use Rattle.std.specs.Prelude.{◌^◌}
 use Rattle.std.proofs.lemmas.List.{take_more}
 use Rattle.std.specs.Io.KnownBytes.{Appends}
@@ -8,7 +8,9 @@ use Rattle.wasm_types.specs.Module.{Module}
 use Rattle.wasm_types.specs.declared.types.PrimitiveTypeInfo.{PrimitiveTypeInfo}
 use Rattle.wasm_module.specs.Module.{Layout, IsModule}
 use Rattle.module_changes.specs.Scope.{Scope}
+use Rattle.module_changes.specs.Placed.{RefusesAt}
 use Rattle.module_changes.specs.Times.{IsRefusal}
+use Rattle.module_changes.specs.declared.placed.ChangeAt.{ChangeAt}
 use Rattle.module_changes.specs.declared.refusal.Refusal.{Refusal}
 use Rattle.module_changes.specs.declared.refusal.Refusal.TheVariants as refusals
 use Rattle.module_rewrites.specs.Attempt.{IsKnownFault, RefusesIndex}
@@ -21,7 +23,7 @@ use Rattle.module_commands.specs.Blocks.{TellsBlock, TellsBlocks, TellsFault}
 use Rattle.module_rewrites.specs.Seeded.{seeded}
 use Rattle.module_commands.specs.Changing.{failure_by}
 use Rattle.module_commands.specs.Scope.{change_scope_of}
-use Rattle.module_commands.specs.Failures.{FailsAtTask, FailsToChange, FailsToDo, FailsToInform, FailsToList, FailsToRead, FailsToReport, IsNoOther, IsReasonToListNone}
+use Rattle.module_commands.specs.Failures.{FailsAtTask, FailsToChange, FailsToDo, FailsToInform, FailsToList, FailsToRead, FailsToReport, IsNoOther, IsReasonToListNone, IsWhyUnchanged}
 use Rattle.module_commands.specs.Lines.{rewrite_line}
 use Rattle.module_commands.specs.Lists.{InTurn}
 use Rattle.module_commands.specs.Reports.{TellsIfUnread, TellsUnreadable, made_lines}
@@ -175,16 +177,30 @@ informing_fails options bytes SharedMemory h = absurd h
 informing_fails options bytes Output h = tt
 informing_fails options bytes Memory h = tt
 
--- nothing of the module is changed
-pub changing_fails : (options : Options) (scope : Scope) (bytes : List ℕ) (refusal : Refusal) (failure : Failure) → scope ≡ change_scope_of options →
-    failure ≡ failure_by refusal → IsRefusal scope bytes (seeded options.seed) refusal → FailsToChange options bytes failure
-changing_fails options scope bytes refusal failure is failure_is h =
-    subst (FailsToChange options bytes) (sym failure_is) (by refusal (subst (λ (s : Scope). IsRefusal s bytes (seeded options.seed) refusal) is h))
+unchanged_fails : (options : Options) (bytes : List ℕ) (refusal : Refusal) (failure : Failure) → failure ≡ failure_by refusal →
+    IsWhyUnchanged options.place options bytes refusal → FailsToChange options bytes failure
+unchanged_fails options bytes refusal failure is h = subst (FailsToChange options bytes) (sym is) (by refusal h)
   where
-    by : (r : Refusal) → IsRefusal (change_scope_of options) bytes (seeded options.seed) r → FailsToChange options bytes (failure_by r)
+    by : (r : Refusal) → IsWhyUnchanged options.place options bytes r → FailsToChange options bytes (failure_by r)
     by (refusals.Read e) h = (λ same. absurd cc, h)
     by (refusals.NoFunction f) h = (λ same. absurd cc, h)
     by (refusals.UnknownImport e) h = (λ same. absurd cc, h)
     by refusals.NoChange h = (λ same. absurd cc, h)
     by refusals.TooLarge h = (λ same. absurd cc, h)
     by refusals.Memory h = tt
+
+-- nothing of the module is changed
+pub changing_fails : (options : Options) (scope : Scope) (bytes : List ℕ) (refusal : Refusal) (failure : Failure) → options.place ≡ None →
+    scope ≡ change_scope_of options → failure ≡ failure_by refusal → IsRefusal scope bytes (seeded options.seed) refusal →
+    FailsToChange options bytes failure
+changing_fails options scope bytes refusal failure none is failure_is h =
+    unchanged_fails options bytes refusal failure failure_is
+    (subst (λ (o : Option ChangeAt). IsWhyUnchanged o options bytes refusal) (sym none)
+    (subst (λ (s : Scope). IsRefusal s bytes (seeded options.seed) refusal) is h))
+
+-- nor at the operators that are named
+pub placing_fails : (options : Options) (at : ChangeAt) (bytes : List ℕ) (refusal : Refusal) (failure : Failure) → options.place ≡ Some at →
+    failure ≡ failure_by refusal → RefusesAt at options.max_size bytes refusal → FailsToChange options bytes failure
+placing_fails options at bytes refusal failure some failure_is h =
+    unchanged_fails options bytes refusal failure failure_is
+    (subst (λ (o : Option ChangeAt). IsWhyUnchanged o options bytes refusal) (sym some) h)

@@ -1,12 +1,14 @@
 -- A module that a run changes: what it writes, and what it tells of that (this project).
-use Rattle.std.specs.Prelude.{◌≡◌, ℕ, List, [], ◌∷◌, ◌++◌, length, Bool, true, false, codes, Option, Some, option_map, if◌then◌else◌}
+use Rattle.std.specs.Prelude.{◌≡◌, ℕ, List, [], ◌∷◌, ◌++◌, length, Bool, true, false, ◌&&◌, codes, Option, Some, None, is_none, option_map, if◌then◌else◌}
 use Rattle.std.specs.Io.KnownBytes.{Appends}
 use Rattle.serde_json.specs.Data.{Data, no_members, object}
 use Rattle.body_changes.specs.Change.{change_name}
 use Rattle.wasm_sections.specs.Fault.{fault_name}
+use Rattle.module_changes.specs.Placed.{ChangesAt}
 use Rattle.module_changes.specs.Times.{ChangesTimes}
 use Rattle.module_changes.specs.Valid.{StaysValidModule}
 use Rattle.module_changes.specs.declared.entry.MadeChange.{MadeChange}
+use Rattle.module_changes.specs.declared.placed.ChangeAt.{ChangeAt}
 use Rattle.module_changes.specs.declared.refusal.Refusal.{Refusal}
 use Rattle.module_changes.specs.declared.refusal.Refusal.TheVariants.{Memory, NoChange, NoFunction, Read, TooLarge, UnknownImport}
 use Rattle.module_rewrites.specs.DoesAsBefore.{DoesAsBefore}
@@ -30,12 +32,18 @@ use Rattle.module_commands.specs.declared.options.Options.{Options}
 
 -- ---- what is written
 
--- Bytes are written of the module with one change or more made, at most as many as the options say, which is `count`, as their seed chooses them: valid where
--- it was. Where its custom sections that name places in the code are dropped, what is left does what it does with them.
+-- The module becomes the new bytes by changes of the operators that the options name; or where they name none by at most as many as they say, which is `count`,
+-- as their seed chooses them.
+abbrev pub MakesChanges : (place : Option ChangeAt) → Options → (count : ℕ) → (bytes : List ℕ) → List MadeChange → Option Refusal → (new : List ℕ) → Type 0
+MakesChanges None options count bytes made stopped new =
+    IsDoseOf options.dose options.function bytes count × ChangesTimes (change_scope_of options) count bytes (seeded options.seed) made new stopped
+MakesChanges (Some at) options count bytes made stopped new = ChangesAt at options.max_size bytes made new × (stopped ≡ None)
+
+-- Bytes are written of the module with these changes made, one or more: valid where it was. Where its custom sections that name places in the code are dropped,
+-- what is left does what it does with them.
 pub record IsChangedAs (options : Options) (count : ℕ) (bytes : List ℕ) (made : List MadeChange) (stopped : Option Refusal) (written : List ℕ) : Type 0 where
-  pub count_is : IsDoseOf options.dose options.function bytes count
   pub module_bytes : List ℕ
-  pub changes : ChangesTimes (change_scope_of options) count bytes (seeded options.seed) made module_bytes stopped
+  pub changes : MakesChanges options.place options count bytes made stopped module_bytes
   pub valid : StaysValidModule bytes module_bytes
   pub is_written : IsWrittenAs options.strip_debug module_bytes written
   pub does : DoesAsBefore false module_bytes written
@@ -109,6 +117,10 @@ abbrev pub AreShown : (show : Bool) → List MadeChange → (text : List ℕ) �
 AreShown false made text = text ≡ []
 AreShown true made text = ShowsChanges made text
 
+-- Changes are to be shown: those of operators that are named aren't.
+abbrev pub are_shown : Options → Bool
+are_shown options = options.show && is_none options.place
+
 -- The device has grown by what is told of the module before it is changed, where that is asked for.
 abbrev pub TellsModule : (asked : Bool) → Options → (bytes : List ℕ) → (old new : Option (List ℕ)) → Type 0
 TellsModule false options bytes old new = new ≡ old
@@ -121,7 +133,7 @@ pub record TellsChanged (options : Options) (bytes : List ℕ) (ending : Ending)
   pub between : Option (List ℕ)
   pub before : TellsModule options.stats options bytes notes_old between
   pub shown : List ℕ
-  pub are_shown : AreShown options.show writes.made shown
+  pub shown_are : AreShown (are_shown options) writes.made shown
   pub changes : Appends between notes_new
       (shown ++ report_asked options.stats (form_of options) bytes writes.made writes.stopped writes.written_bytes)
 

@@ -1,11 +1,14 @@
 -- Why a run has no success (this project).
-use Rattle.std.specs.Prelude.{◌≡◌, ◌≢◌, ◌⊎◌, ℕ, ◌<◌, nat_le, ◌&&◌, Bool, true, false, List, length, Option, IfSome}
+use Rattle.std.specs.Prelude.{◌≡◌, ◌≢◌, ◌⊎◌, ℕ, ◌<◌, nat_le, ◌&&◌, Bool, true, false, List, length, Option, Some, None, IfSome}
 use Rattle.std.specs.List.{list_any}
 use Rattle.wasm_types.specs.Module.{Module}
 use Rattle.wasm_types.specs.declared.types.MemoryType.{MemoryType}
 use Rattle.wasm_module.specs.Fault.{IsModuleFault}
 use Rattle.wasm_module.specs.Module.{Layout, IsModule}
+use Rattle.module_changes.specs.Placed.{RefusesAt}
 use Rattle.module_changes.specs.Times.{IsRefusal}
+use Rattle.module_changes.specs.declared.placed.ChangeAt.{ChangeAt}
+use Rattle.module_changes.specs.declared.refusal.Refusal.{Refusal}
 use Rattle.module_changes.specs.declared.refusal.Refusal.TheVariants as refusals
 use Rattle.module_rewrites.specs.Attempt.{IsForSize, IsReason, RefusesIndexOf}
 use Rattle.module_rewrites.specs.Chosen.{GivesUp}
@@ -83,12 +86,16 @@ FailsToRewrite options bytes e = FailsToReport e
 abbrev pub IsReasonToChangeNone : Options → (bytes : List ℕ) → Reason → Type 0
 IsReasonToChangeNone options bytes reason = (IsReason (scope_of options) bytes reason × IsOfReading reason) ⊎ FailsToRead bytes (Nothing reason)
 
--- The module isn't written changed: for such a reason, for the one why none of the changes is made, as the seed chooses them, or as reporting or writing
--- fails.
+-- why none of the changes is made: of the operators that the options name, or as their seed chooses them
+abbrev pub IsWhyUnchanged : (place : Option ChangeAt) → Options → (bytes : List ℕ) → Refusal → Type 0
+IsWhyUnchanged None options bytes refusal = IsRefusal (change_scope_of options) bytes (seeded options.seed) refusal
+IsWhyUnchanged (Some at) options bytes refusal = RefusesAt at options.max_size bytes refusal
+
+-- The module isn't written changed: for such a reason, for the one why none of the changes is made, or as reporting or writing fails.
 abbrev pub FailsToChange : Options → (bytes : List ℕ) → Failure → Type 0
 FailsToChange options bytes (Nothing reason) = IsReasonToChangeNone options bytes reason
 FailsToChange options bytes (Unchanged refusal) =
-    (refusal ≢ refusals.Memory) × IsRefusal (change_scope_of options) bytes (seeded options.seed) refusal
+    (refusal ≢ refusals.Memory) × IsWhyUnchanged options.place options bytes refusal
 FailsToChange options bytes e = FailsToReport e
 
 -- why nothing is listed: no function is looked at, or the module can't be read

@@ -1,5 +1,5 @@
 -- The options that the matches of a command line are (this project).
-use Rattle.std.specs.Prelude.{◌≡◌, ◌≢◌, ◌⊎◌, ◌∷◌, ◌<◌, ◌^◌, ◌&&◌, ◌||◌, ℕ, Bool, true, false, List, [], ◌++◌, map, slice_get, codes, Option, Some, None, is_some, option_and_then, option_map, string_bytes, unwrap_or, not, IfSome, if◌then◌else◌}
+use Rattle.std.specs.Prelude.{◌≡◌, ◌≢◌, ◌⊎◌, ◌∷◌, ◌+◌, ◌<◌, min, ◌^◌, ◌&&◌, ◌||◌, ℕ, Bool, true, false, List, [], ◌++◌, map, slice_get, codes, Option, Some, None, is_some, option_and_then, option_map, string_bytes, unwrap_or, not, IfSome, if◌then◌else◌}
 use Rattle.std.specs.List.{list_any}
 use Rattle.std.specs.Option.{option_map_or}
 use Rattle.std.specs.Str.{bytes_eq}
@@ -16,13 +16,14 @@ use Rattle.body_changes.specs.declared.change.TheConstants.{CHANGES}
 use Rattle.rewrite_rules.specs.Rule.{AreAllRules, rule_name}
 use Rattle.rewrite_rules.specs.declared.rule.Rule.{Rule}
 use Rattle.body_rewrites.specs.Listing.{AreThose}
+use Rattle.module_changes.specs.declared.placed.ChangeAt.{ChangeAt}
 use Rattle.module_rewrites.specs.Dose.{IsOneOrMore}
 use Rattle.module_rewrites.specs.declared.dose.Dose.{Dose}
 use Rattle.module_rewrites.specs.declared.dose.Dose.TheVariants.{Times, Percent}
 use Rattle.module_commands.specs.Front.{begins_with}
 use Rattle.module_commands.specs.declared.options.Flags.{Flags}
 use Rattle.module_commands.specs.declared.options.Misuse.{Misuse}
-use Rattle.module_commands.specs.declared.options.Misuse.TheVariants.{Conflict, Ignored, NothingToTell, Plus, NoSeed, NoCount, NoForm, UnknownRule, UnknownChange, Memory}
+use Rattle.module_commands.specs.declared.options.Misuse.TheVariants.{Conflict, Ignored, NothingToTell, Plus, NoSeed, NoCount, NoForm, UnknownRule, UnknownChange, Unplaced, Memory}
 use Rattle.module_commands.specs.declared.options.Options.{Options}
 use Rattle.module_commands.specs.declared.options.Task.{Task}
 use Rattle.module_commands.specs.declared.options.Task.TheVariants.{Rewrite, Change as Changed, List as Lists, Blocks, Rules, Changes}
@@ -43,6 +44,10 @@ first_of name rows = option_and_then (λ values. slice_get values 0) (all_of nam
 abbrev pub is_given : (name : Text) → List Row → Bool
 is_given name rows = is_some (first_of name rows)
 
+-- operators are named
+abbrev pub is_placed : List Row → Bool
+is_placed rows = is_given (codes "from") rows || is_given (codes "to") rows
+
 -- the flags; one that isn't given is false
 abbrev pub flags_of : List Row → Flags
 flags_of rows = record {
@@ -50,6 +55,7 @@ flags_of rows = record {
   blocks = is_set (codes "blocks") rows;
   rules = is_given (codes "list-rules") rows;
   change = is_given (codes "change") rows;
+  placed = is_placed rows;
   changes = is_set (codes "list-changes") rows;
   stats = is_set (codes "stats") rows;
   reach = is_set (codes "reach") rows;
@@ -75,11 +81,13 @@ abbrev pub task_of : Flags → (form : Option Text) → Option Task
 task_of flags None = Some (module_task flags)
 task_of flags (Some name) = option_map Rules (form_named name)
 
--- they ask for two tasks, for something of a module that is written where none is, or for the rules' reach where it is changed
+-- they ask for two tasks, for something of a module that is written where none is, for the rules' reach where it is changed, or name operators where it isn't,
+-- or what is shown of them
 abbrev pub exclude : Flags → Bool
 exclude flags =
     (flags.list && flags.blocks) || (flags.rules && flags.changes) || ((flags.rules || flags.changes) && (flags.list || flags.blocks))
     || (flags.change && (flags.list || flags.blocks || flags.rules || flags.changes || flags.reach))
+    || (flags.placed && (not flags.change || flags.show))
     || ((flags.stats || flags.reach || flags.show || flags.strip_debug) && (flags.list || flags.blocks || flags.rules || flags.changes))
 
 -- they ask for JSON, and for nothing that is written in it
@@ -118,10 +126,15 @@ abbrev pub have_plus : List Row → Bool
 have_plus rows =
     has_plus (first_of (codes "seed") rows) || has_plus (first_of (codes "count") rows)
     || has_plus (first_of (codes "function") rows) || has_plus (first_of (codes "max-size") rows)
+    || has_plus (first_of (codes "from") rows) || has_plus (first_of (codes "to") rows)
 
 -- what chooses a rewrite, or bounds rewrites, is given
 abbrev pub choose : List Row → Bool
 choose rows = is_given (codes "seed") rows || is_given (codes "count") rows || is_given (codes "max-size") rows
+
+-- what draws changes, or says how many, is given
+abbrev pub draw : List Row → Bool
+draw rows = is_given (codes "seed") rows || is_given (codes "count") rows
 
 -- what chooses rules, or which of their rewrites are made, is given
 abbrev pub choose_rules : List Row → Bool
@@ -133,12 +146,13 @@ abbrev pub choose_module : List Row → Bool
 choose_module rows = is_given (codes "input") rows || is_given (codes "function") rows
 
 -- an option is given that the task ignores: one that chooses a rewrite where anything is listed, or rules where neither rewrites are made nor listed, one that
--- is of one module where rules or changes are listed, or JSON where rules are, whose form is asked for otherwise
+-- is of one module where rules or changes are listed, one that draws changes where operators are named, or JSON where rules are listed, whose form is asked
+-- for otherwise
 abbrev pub ignore : Flags → List Row → Bool
 ignore flags rows =
     ((flags.list || flags.blocks || flags.rules || flags.changes) && choose rows)
     || ((flags.blocks || flags.rules || flags.changes || flags.change) && choose_rules rows)
-    || ((flags.rules || flags.changes) && choose_module rows) || (flags.rules && flags.json)
+    || ((flags.rules || flags.changes) && choose_module rows) || (flags.placed && draw rows) || (flags.rules && flags.json)
 
 -- the text writes that number in decimal digits, or behind `0x` in hexadecimal ones
 pub data WritesSeed (text : Text) (n : ℕ) : Type 0 where
@@ -240,6 +254,30 @@ IsDose shrink (Some text) dose = WritesDose text dose
 abbrev pub IsNoDose : Text → Type 0
 IsNoDose text = (found : Option Dose) × IsDoseOf text found × IfSome found (λ dose. ¬ (IsOneOrMore dose))
 
+-- the change of the function's operators from the first one that is given up to the other one, where there is one change and a function
+abbrev pub placed : List Change → (function from to : Option ℕ) → Option ChangeAt
+placed (change ∷ []) (Some function) from to =
+    Some (record { change = change; function = function; first = unwrap_or from 0; end = min (unwrap_or to 18446744073709551615 + 1) 18446744073709551615 })
+placed changes function from to = None
+
+-- the operators that are changed, where any are named
+pub record IsPlace (rows : List Row) (changes : List Change) (function : Option ℕ) (place : Option ChangeAt) : Type 0 where
+  pub from : Option ℕ
+  pub from_is : IsNumberOf (one_of (codes "from") rows) from
+  pub to : Option ℕ
+  pub to_is : IsNumberOf (one_of (codes "to") rows) to
+  pub none : is_placed rows ≡ false → place ≡ None
+  pub some : is_placed rows ≡ true → (is_some place ≡ true) × (place ≡ placed changes function from to)
+
+-- operators are named, and there is no change of its own, or no function
+pub record IsUnplaced (rows : List Row) : Type 0 where
+  pub named : is_placed rows ≡ true
+  pub changes : List Change
+  pub are_changes : AreChanges (first_of (codes "change") rows) changes
+  pub function : Option ℕ
+  pub is_function : IsNumberOf (one_of (codes "function") rows) function
+  pub none : (from to : Option ℕ) → placed changes function from to ≡ None
+
 -- ---- options
 
 -- The options that the matches are.
@@ -256,6 +294,7 @@ pub record AreOptions (rows : List Row) (options : Options) : Type 0 where
   pub function : IsNumberOf (one_of (codes "function") rows) options.function
   pub rules : AreRules (all_of (codes "rule") rows) (all_of (codes "not-rule") rows) options.rules.items
   pub changes : AreChanges (first_of (codes "change") rows) options.changes.items
+  pub place : IsPlace rows options.changes.items options.function options.place
   pub max_size : IsNumberOr 18446744073709551615 (one_of (codes "max-size") rows) options.max_size
   pub shrink : options.shrink ≡ is_set (codes "shrink") rows
   pub exact : options.exact ≡ is_set (codes "exact") rows
@@ -277,6 +316,7 @@ AreMisused rows NoCount = IfSome (first_of (codes "count") rows) IsNoDose
 AreMisused rows NoForm = IfSome (first_of (codes "list-rules") rows) (λ name. form_named name ≡ None)
 AreMisused rows UnknownRule = IfSome (all_of (codes "rule") rows) NamesNone
 AreMisused rows UnknownChange = IfSome (first_of (codes "change") rows) NamesNoChange
+AreMisused rows Unplaced = IsUnplaced rows
 AreMisused rows Memory = Unit {0}
 
 -- how that is told
@@ -290,6 +330,7 @@ kind_for NoCount = ValueValidation
 kind_for NoForm = InvalidValue
 kind_for UnknownRule = InvalidValue
 kind_for UnknownChange = InvalidValue
+kind_for Unplaced = MissingRequiredArgument
 kind_for Memory = OutOfMemory
 
 -- The word as clap reads it: `--change` without a name is asked for by its own name, `any`, so that the word behind it is none.

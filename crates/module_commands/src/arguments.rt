@@ -108,6 +108,30 @@ fn change_argument<'a>(alloc: Global) -> Arg<'a>
         )
 }
 
+fn from_argument<'a>(alloc: Global) -> Arg<'a>
+    ensures rule { rule_of result ≡ valued (codes "from") number }
+    ensures local { result.global ≡ false }
+{
+    Arg::new(alloc, "from")
+        .long("from")
+        .value_name("OPERATOR")
+        .value_parser(value_parser!(usize))
+        .help(
+            "With --change=NAME and --function: that change of each operator of the function from this one on of which it makes anything, counted from 0 [default: 0]",
+        )
+}
+
+fn to_argument<'a>(alloc: Global) -> Arg<'a>
+    ensures rule { rule_of result ≡ valued (codes "to") number }
+    ensures local { result.global ≡ false }
+{
+    Arg::new(alloc, "to")
+        .long("to")
+        .value_name("OPERATOR")
+        .value_parser(value_parser!(usize))
+        .help("The last one of these [default: the last operator]")
+}
+
 // A flag with the name.
 fn flag_argument<'a>(alloc: Global, name: &'a str, help: &'a str) -> Arg<'a>
     ensures rule { rule_of result ≡ flag name.entry.now }
@@ -292,6 +316,8 @@ pub fn command<'a>(alloc: Global, names: &'a [&'a str]) -> Result<Command<'a>, A
         .arg(blocks_argument(alloc))?
         .arg(rules_argument(alloc))?
         .arg(change_argument(alloc))?
+        .arg(from_argument(alloc))?
+        .arg(to_argument(alloc))?
         .arg(changes_argument(alloc))?
         .arg(stats_argument(alloc))?
         .arg(reach_argument(alloc))?

@@ -26,7 +26,7 @@ fn summary(change: Change) -> &'static str
         Change::Local => "an access to a local becomes one to another of its type",
         Change::Draw => "a value is drawn anew, by at most eight instructions",
         Change::Copy =>
-            "code becomes a copy of other code of the function that leaves the same types",
+            "code becomes a copy of other code of the module that leaves the same types",
         Change::FirstOperand => "the first of two operands stands for the whole",
         Change::LastOperand => "the last operand stands for the whole",
         Change::ExchangeOperands => "two operands of one type change places",

@@ -1,8 +1,8 @@
 //! The module changed as the options say, and what is told of that.
-ghost use Rattle.std.specs.Prelude.{◌≡◌, ◌≢◌, ◌||◌, ◌++◌, Bool, ℕ, List, [], true, false, IfErr, IfOk, OnOk};
+ghost use Rattle.std.specs.Prelude.{◌≡◌, ◌≢◌, ◌||◌, ◌++◌, Bool, ℕ, List, [], None, Some, true, false, IfErr, IfOk, OnOk};
 ghost use Rattle.std.specs.Io.KnownBytes.{Appends};
 ghost use Rattle.module_rewrites.specs.DoesAsBefore.{DoesAsBefore};
-ghost use Rattle.module_commands.specs.Changing.{AreShown, IsChangedAs, TellsChanged, TellsModule, WritesChanged, change_ending, failure_by, report_asked};
+ghost use Rattle.module_commands.specs.Changing.{are_shown, AreShown, IsChangedAs, TellsChanged, TellsModule, WritesChanged, change_ending, failure_by, report_asked};
 ghost use Rattle.module_commands.specs.Failures.{FailsToChange, FailsToInform};
 ghost use Rattle.module_commands.specs.Form.{form_of};
 ghost use Rattle.module_commands.specs.Writes.{IsWrittenAs};
@@ -15,7 +15,9 @@ use crate::mutating::stripped;
 use crate::options::Options;
 use crate::reporting::report_module;
 use crate::writing::{show, write_bytes};
-use module_changes::{ChangedModule, MadeChange, Refusal, Watch, change_module};
+use module_changes::{
+    ChangeAt, ChangedModule, MadeChange, Refusal, Watch, change_at, change_module,
+};
 use module_rewrites::count_of_dose;
 use module_rewrites::laws::rewritten_modules_do_as_before;
 use module_showing::write_shown_change;
@@ -119,7 +121,8 @@ fn failure_by(refusal: Refusal) -> Failure
 // The module changed as many times as the options say, by their changes, with a generator made from their seed, and what is shown of the
 // changes where the options ask for it.
 #[tactic(auto, using(crate::proofs::FaultsLemmas::changing_fails))]
-fn changed(alloc: Global, bytes: &[u8], options: &Options) -> Result<ChangeOutcome, Failure>
+fn drawn(alloc: Global, bytes: &[u8], options: &Options) -> Result<ChangeOutcome, Failure>
+    requires { options.now.place ≡ None }
     ensures outcome { IfOk result (λ o. IsChangedAs options.now o.count bytes.now
         o.module.made.items o.module.stopped o.module.bytes.items) }
     ensures shown { IfOk result (λ o.
@@ -144,6 +147,48 @@ fn changed(alloc: Global, bytes: &[u8], options: &Options) -> Result<ChangeOutco
             })
         }
         Err(refusal) => Err(failure_by(refusal)),
+    }
+}
+
+// The module changed at the operators that are named.
+#[tactic(auto, using(crate::proofs::FaultsLemmas::placing_fails))]
+fn placed(
+    alloc: Global,
+    bytes: &[u8],
+    options: &Options,
+    at: ChangeAt,
+) -> Result<ChangeOutcome, Failure>
+    requires { options.now.place ≡ Some at }
+    ensures outcome { IfOk result (λ o. IsChangedAs options.now o.count bytes.now
+        o.module.made.items o.module.stopped o.module.bytes.items) }
+    ensures shown { IfOk result (λ o. o.shown.items ≡ []) }
+    ensures fails { IfErr result (FailsToChange options.now bytes.now) }
+{
+    match change_at(alloc, bytes, at, options.max_size) {
+        Ok(new) => {
+            let count = new.made.len();
+            let module = finished(alloc, options.strip_debug, new)?;
+            Ok(ChangeOutcome {
+                module,
+                shown: Vec::new(alloc),
+                count,
+            })
+        }
+        Err(refusal) => Err(failure_by(refusal)),
+    }
+}
+
+// The module changed as the options say, and what is shown of the changes where they ask for it.
+fn changed(alloc: Global, bytes: &[u8], options: &Options) -> Result<ChangeOutcome, Failure>
+    ensures outcome { IfOk result (λ o. IsChangedAs options.now o.count bytes.now
+        o.module.made.items o.module.stopped o.module.bytes.items) }
+    ensures shown { IfOk result (λ o.
+        AreShown (are_shown options.now) o.module.made.items o.shown.items) }
+    ensures fails { IfErr result (FailsToChange options.now bytes.now) }
+{
+    match options.place {
+        Some(at) => placed(alloc, bytes, options, at),
+        None => drawn(alloc, bytes, options),
     }
 }
 
@@ -206,13 +251,13 @@ fn is_told(options: &Options) -> bool
     options.stats || options.show
 }
 
-/// Writes the module changed as many times as the options say, by their changes, with a generator made from their seed: it is valid
-/// where it was. Where the options say so, its custom sections that name places in the code are dropped then. Where the options ask for
+/// Writes the module changed as many times as the options say, by their changes, with a generator made from their seed, or at the
+/// operators that they name: it is valid where it was. Where the options say so, its custom sections that name places in the code are dropped then. Where the options ask for
 /// it, the notes tell of the module first, then show the changes, and report them and the sizes. What is told of them is made before the
 /// module is written, so that nothing is written where memory is refused to it.
 ///
-/// `Nothing` as `count_of_dose` refuses, and where the module that is to be told of can't be read; `Unchanged` as `change_module`
-/// refuses.
+/// `Nothing` as `count_of_dose` refuses, and where the module that is to be told of can't be read; `Unchanged` as `change_module` or
+/// `change_at` refuses.
 pub fn write_changed<W: Write, E: Write>(
     alloc: Global,
     options: &Options,

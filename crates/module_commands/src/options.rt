@@ -3,7 +3,7 @@ ghost use Rattle.module_rewrites.specs.Dose.{IsOneOrMore};
 
 use crate::form::Form;
 use body_changes::Change;
-use module_changes::Scope as ChangeScope;
+use module_changes::{ChangeAt, Scope as ChangeScope};
 use module_rewrites::{Dose, Scope};
 use rewrite_rules::Rule;
 use rule_listing::Form as RulesForm;
@@ -60,6 +60,8 @@ pub struct Options {
     pub rules: Vec<Rule>,
     /// The changes that change it.
     pub changes: Vec<Change>,
+    /// The operators that are changed, by which change and of which function, where any are named.
+    pub place: Option<ChangeAt>,
     /// The most bytes that the new module may have.
     pub max_size: usize,
     /// Whether each rewrite makes the module smaller: it leaves no more operators, and fewer bytes, or as many that come earlier in the
@@ -141,6 +143,8 @@ pub enum Misuse {
     UnknownRule,
     /// The name is no change's.
     UnknownChange,
+    /// Operators are named, and no change or function of theirs is.
+    Unplaced,
     /// No memory is left.
     Memory,
 }
@@ -174,6 +178,8 @@ pub struct Flags {
     pub blocks: bool,
     pub rules: bool,
     pub change: bool,
+    /// Operators are named.
+    pub placed: bool,
     pub changes: bool,
     pub stats: bool,
     pub reach: bool,

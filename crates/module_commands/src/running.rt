@@ -209,7 +209,7 @@ pub fn run<R: Read, W: Write, E: Write, P: Watch + Drop>(
     ensures untouched { IfErr result (λ e. IsOfInput e
         → (output.new ≡ output.old) × (notes.new ≡ notes.old)) }
     // Why it fails: with `NoRule`, only where no rule applies in a function that can be read; with `Unreadable`, only where none can;
-    // with `NoChange`, only where no change makes anything by the words that the seed gives;
+    // with `NoChange`, only where sixteen times no change makes anything by the words that the seed gives;
     // for a reason of the module, only where the input is neither a component nor a text, each of which is told so.
     ensures fails { IfErr result (λ e. IfSome (R.remaining input.old.device) (λ bytes. FailsToDo
         options.now.task options.now bytes e)) }

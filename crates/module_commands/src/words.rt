@@ -16,6 +16,7 @@ use crate::options::{Flags, Misuse, Options, Task};
 use body_changes::{CHANGES, Change};
 use clap::error::ErrorKind;
 use clap::{ArgMatches, Command, Error};
+use module_changes::ChangeAt;
 use module_rewrites::Dose;
 use rewrite_rules::{Rule, all_rules};
 use rule_listing::Form as RulesForm;
@@ -29,6 +30,15 @@ fn is_set(matches: &ArgMatches<'_>, name: &str) -> bool
     matches.get_one::<bool>(name).unwrap_or(false)
 }
 
+// Whether operators are named.
+fn is_placed(matches: &ArgMatches<'_>) -> bool
+    ensures { result ≡ options.is_placed (rows_of (found_of matches.now)) }
+{
+    let from = is_given(matches, "from");
+    let to = is_given(matches, "to");
+    from || to
+}
+
 fn flags_of(matches: &ArgMatches<'_>) -> Flags
     ensures { result ≡ options.flags_of (rows_of (found_of matches.now)) }
 {
@@ -37,6 +47,7 @@ fn flags_of(matches: &ArgMatches<'_>) -> Flags
         blocks: is_set(matches, "blocks"),
         rules: is_given(matches, "list-rules"),
         change: is_given(matches, "change"),
+        placed: is_placed(matches),
         changes: is_set(matches, "list-changes"),
         stats: is_set(matches, "stats"),
         reach: is_set(matches, "reach"),
@@ -76,6 +87,7 @@ fn exclude(flags: Flags) -> bool
         || (flags.rules && flags.changes)
         || (unread && lists)
         || (flags.change && (lists || unread || flags.reach))
+        || (flags.placed && (!flags.change || flags.show))
         || (of_module && (lists || unread))
 }
 
@@ -120,6 +132,15 @@ fn choose(matches: &ArgMatches<'_>) -> bool
     seed || count || size
 }
 
+// Whether what draws changes, or says how many, is given.
+fn draw(matches: &ArgMatches<'_>) -> bool
+    ensures { result ≡ options.draw (rows_of (found_of matches.now)) }
+{
+    let seed = is_given(matches, "seed");
+    let count = is_given(matches, "count");
+    seed || count
+}
+
 // Whether what chooses rules, or which of their rewrites are made, is given.
 fn choose_rules(matches: &ArgMatches<'_>) -> bool
     ensures { result ≡ options.choose_rules (rows_of (found_of matches.now)) }
@@ -147,11 +168,13 @@ fn ignore(flags: Flags, matches: &ArgMatches<'_>) -> bool
     let chooses = choose(matches);
     let chooses_rules = choose_rules(matches);
     let chooses_module = choose_module(matches);
+    let draws = draw(matches);
     let unread = flags.rules || flags.changes;
     let ruleless = flags.blocks || unread || flags.change;
     ((flags.list || flags.blocks || unread) && chooses)
         || (ruleless && chooses_rules)
         || (unread && chooses_module)
+        || (flags.placed && draws)
         || (flags.rules && flags.json)
 }
 
@@ -206,7 +229,9 @@ fn have_plus(matches: &ArgMatches<'_>) -> bool
     let count = has_plus(matches, "count");
     let function = has_plus(matches, "function");
     let size = has_plus(matches, "max-size");
-    seed || count || function || size
+    let from = has_plus(matches, "from");
+    let to = has_plus(matches, "to");
+    seed || count || function || size || from || to
 }
 
 // The number that a text writes, in decimal digits, or behind `0x` in hexadecimal ones.
@@ -372,6 +397,51 @@ fn changes_of(alloc: Global, matches: &ArgMatches<'_>) -> Result<Vec<Change>, Mi
     }
 }
 
+// The change of the function's operators from the one that is given up to the other one, where there is one change and a function.
+fn placed(
+    changes: &[Change],
+    function: Option<usize>,
+    from: Option<usize>,
+    to: Option<usize>,
+) -> Option<ChangeAt>
+    ensures { result ≡ options.placed changes.now function from to }
+{
+    match (changes, function) {
+        ([change], Some(function)) => Some(ChangeAt {
+            change: *change,
+            function,
+            first: from.unwrap_or(0),
+            end: to.unwrap_or(usize::MAX).saturating_add(1),
+        }),
+        _ => None,
+    }
+}
+
+// The operators that are changed, where any are named.
+fn place_of(
+    matches: &ArgMatches<'_>,
+    changes: &[Change],
+    function: Option<usize>,
+) -> Result<Option<ChangeAt>, Misuse>
+    requires changes { options.AreChanges
+        (options.first_of (codes "change") (rows_of (found_of matches.now))) changes.now }
+    requires function { options.IsNumberOf
+        (one_of (codes "function") (rows_of (found_of matches.now))) function }
+    ensures place { IfOk result (options.IsPlace (rows_of (found_of matches.now)) changes.now
+        function) }
+    ensures misuse { IfErr result (options.AreMisused (rows_of (found_of matches.now))) }
+{
+    if !is_placed(matches) {
+        return Ok(None);
+    }
+    let from = size_of(matches, "from");
+    let to = size_of(matches, "to");
+    match placed(changes, function, from, to) {
+        Some(place) => Ok(Some(place)),
+        None => Err(Misuse::Unplaced),
+    }
+}
+
 // How many rewrites are made where no count is given.
 fn default_dose(shrink: bool) -> Dose
     ensures { result ≡ options.default_dose shrink }
@@ -458,15 +528,19 @@ pub fn options_from(alloc: Global, matches: &ArgMatches<'_>) -> Result<Options, 
         return Err(Misuse::Plus);
     }
     let dose = dose_of(matches)?;
+    let function = size_of(matches, "function");
+    let changes = changes_of(alloc, matches)?;
+    let place = place_of(matches, &changes, function)?;
     Ok(Options {
         task: task_of(flags, matches)?,
         input: file_of(alloc, matches, "input")?,
         output: file_of(alloc, matches, "output")?,
         seed: seed_of(matches)?,
         dose,
-        function: size_of(matches, "function"),
+        function,
         rules: wanted_rules(alloc, matches)?,
-        changes: changes_of(alloc, matches)?,
+        changes,
+        place,
         max_size: size_of(matches, "max-size").unwrap_or(usize::MAX),
         shrink: is_set(matches, "shrink"),
         exact: is_set(matches, "exact"),
@@ -493,6 +567,7 @@ fn kind_for(misuse: Misuse) -> ErrorKind
         Misuse::NoForm => ErrorKind::InvalidValue,
         Misuse::UnknownRule => ErrorKind::InvalidValue,
         Misuse::UnknownChange => ErrorKind::InvalidValue,
+        Misuse::Unplaced => ErrorKind::MissingRequiredArgument,
         Misuse::Memory => ErrorKind::OutOfMemory,
     }
 }
@@ -501,10 +576,10 @@ fn kind_for(misuse: Misuse) -> ErrorKind
 fn text_for(misuse: Misuse) -> &'static str {
     match misuse {
         Misuse::Conflict => {
-            "--change, --list, --blocks, --list-rules and --list-changes exclude each other; the lists exclude --stats, --reach, --show and --strip-debug, and --change excludes --reach"
+            "--change, --list, --blocks, --list-rules and --list-changes exclude each other; the lists exclude --stats, --reach, --show and --strip-debug, and --change excludes --reach; --from and --to go with --change alone, and exclude --show"
         }
         Misuse::Ignored => {
-            "lists ignore --seed, --count and --max-size; all but --list, and --change, ignore --rule, --not-rule, --shrink and --exact; --list-rules and --list-changes ignore a module and --function, and --list-rules --json: leave them out"
+            "lists ignore --seed, --count and --max-size; all but --list, and --change, ignore --rule, --not-rule, --shrink and --exact; --list-rules and --list-changes ignore a module and --function, and --list-rules --json; --from and --to ignore --seed and --count: leave them out"
         }
         Misuse::NothingToTell =>
             "--json goes with --list, --blocks, --list-changes, --stats or --reach",
@@ -518,6 +593,8 @@ fn text_for(misuse: Misuse) -> &'static str {
         Misuse::UnknownRule => "--rule names no rule",
         Misuse::UnknownChange =>
             "--change names no change, as in --change=delete: --list-changes names them all",
+        Misuse::Unplaced =>
+            "--from and --to name operators of a function: they want --change with a name, as in --change=delete, and --function",
         Misuse::Memory => "no memory is left",
     }
 }

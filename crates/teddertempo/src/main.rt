@@ -3,9 +3,9 @@
 //! `--blocks` write lines about the module instead; `--list-rules` and `--list-changes` read none, and write the rules or the changes.
 //!
 //! Exit status: 0 on success, and for `--help` and `--version`; 1 where the module is refused, the input can't be read, the output
-//! can't be written, or no memory is left; 2 where no rule applies, nothing can be changed, or the module has no function of its own; 3 where no function can
-//! be read, or `--function` names none of the module's own, or one whose index isn't known; 64 where the options can't be read, or a
-//! module would go to a terminal.
+//! can't be written, or no memory is left; 2 where no rule applies, nothing can be changed, or the module has no function of its own; 3
+//! where no function can be read, or `--function` names none of the module's own, or one whose index isn't known; 64 where the options
+//! can't be read, or a module would go to a terminal.
 #![tactic(auto)]
 
 mod beside;

@@ -119,6 +119,17 @@ a.wasm --list-rules | ArgumentConflict
 --change --stats --json --show --strip-debug | Change 0 1 None stats json show strip-debug all
 --count 20% --max-size 9 --change=constant | Change 0 20% None constant all
 --change=melt | InvalidValue
+--change=delete --function 2 --from 3 | Change 0 1 Some(2) delete all
+--change=delete --function 2 --to 9 --max-size 70 --stats | Change 0 1 Some(2) stats delete all
+--from 3 --to 9 | ArgumentConflict
+--list --function 2 --from 3 | ArgumentConflict
+--change=delete --from 3 --to 9 | MissingRequiredArgument
+--change --function 2 --from 3 | MissingRequiredArgument
+--change=delete --function 2 --from 3 --seed 1 | ArgumentConflict
+--change=delete --function 2 --to 3 --count 1 | ArgumentConflict
+--change=delete --function 2 --to 3 --show | ArgumentConflict
+--change=delete --function 2 --from +3 | ValueValidation
+--change=delete --function 2 --to x | ValueValidation
 --change --change | ArgumentConflict
 --change --list | ArgumentConflict
 --change --blocks | ArgumentConflict

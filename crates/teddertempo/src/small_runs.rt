@@ -418,6 +418,18 @@ const RUNS: &str = r#"
 ! {"stopped":"NoChange"}
 ! {"bytes":27,"new":24}
 
+--change=delete --function 0 --from 0 --to 1 --stats | DROPPED | Ok(Whole)
+> NOTHING
+! functions  1          unreadable 0
+! function 0      operator 1      change delete
+! bytes      27         new 24
+
+--change=delete --function 0 --to 0 | DROPPED | Err(Unchanged(NoChange))
+
+--change=delete --function 1 --from 0 | DROPPED | Err(Unchanged(NoFunction(1)))
+
+--change=double --function 0 --from 1 --max-size 27 | DROPPED | Err(Unchanged(TooLarge))
+
 --change=delete | SUM | Err(Unchanged(NoChange))
 
 --change | EMPTY | Err(Unchanged(NoChange))
@@ -437,7 +449,7 @@ const RUNS: &str = r#"
 > operator: an operator becomes another one of the same types
 > local: an access to a local becomes one to another of its type
 > draw: a value is drawn anew, by at most eight instructions
-> copy: code becomes a copy of other code of the function that leaves the same types
+> copy: code becomes a copy of other code of the module that leaves the same types
 > first_operand: the first of two operands stands for the whole
 > last_operand: the last operand stands for the whole
 > exchange_operands: two operands of one type change places

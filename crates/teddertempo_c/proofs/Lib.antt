@@ -9,3 +9,4 @@ pub mod RefusalLemmas
 pub mod WritesLemmas
 pub mod ChangesLemmas
 pub mod ChangeReportsLemmas
+pub mod SplicesLemmas

@@ -1,9 +1,9 @@
 -- What a call that changes a module by options leaves in the buffer, and what it reports (this project).
-use Rattle.std.specs.Prelude.{◌≡◌, ◌≢◌, ◌↔◌, ℕ, ◌≤◌, List, [], ◌∷◌, ◌++◌, Option, length, take}
+use Rattle.std.specs.Prelude.{◌≡◌, ◌≢◌, ◌↔◌, false, true, ℕ, ◌≤◌, List, [], ◌∷◌, ◌++◌, Option, length, take}
 use Rattle.rand_core.specs.Stream.{Stream}
 use Rattle.wasm_sections.specs.declared.fault.ModuleFault.TheVariants as faults
 use Rattle.wasm_module.specs.Fault.{IsModuleFault}
-use Rattle.module_changes.specs.Chosen.{ChangesNothing, GivesUp}
+use Rattle.module_changes.specs.Chosen.{GivesUp}
 use Rattle.module_changes.specs.Scope.{Scope}
 use Rattle.module_changes.specs.Times.{ChangesTimes}
 use Rattle.module_changes.specs.Valid.{StaysValidModule}
@@ -52,9 +52,9 @@ IsOutcome scope bytes s offset Rewritten = ⊥
 IsOutcome scope bytes s offset NotAModule = IsNoModule bytes offset
 IsOutcome scope bytes s offset LinkableObject = IsModuleFault bytes faults.Linkable offset
 IsOutcome scope bytes s offset Unreadable = ⊥
-IsOutcome scope bytes s offset NoRule = (offset ≡ 0) × ChangesNothing scope bytes s
+IsOutcome scope bytes s offset NoRule = (offset ≡ 0) × GivesUp scope bytes false s
 IsOutcome scope bytes s offset NoFunction = (offset ≡ 0) × ((reason : Reason) × RefusesIndexOf scope.function bytes reason)
-IsOutcome scope bytes s offset TooLarge = (offset ≡ 0) × GivesUp scope bytes s
+IsOutcome scope bytes s offset TooLarge = (offset ≡ 0) × GivesUp scope bytes true s
 IsOutcome scope bytes s offset NoMemory = offset ≡ 0
 IsOutcome scope bytes s offset BadOptions = ⊥
 

@@ -9,3 +9,4 @@ pub mod Changes
 pub mod ChangeOptions
 pub mod ChangeReports
 pub mod Either
+pub mod Splices

@@ -13,6 +13,7 @@ ghost use Rattle.teddertempo_c.specs.Changes.{ChangesOnce};
 ghost use Rattle.teddertempo_c.specs.Either.{EitherOnce};
 ghost use Rattle.teddertempo_c.specs.Naming.{HoldsName, WritesName};
 ghost use Rattle.teddertempo_c.specs.Reports.{MutatesWith};
+ghost use Rattle.teddertempo_c.specs.Splices.{SplicesOnce};
 ghost use Rattle.teddertempo_c.specs.Writes.{MutatesOnce};
 
 mod attempt;
@@ -24,6 +25,7 @@ mod options;
 mod outcome;
 mod report;
 mod rules;
+mod splicing;
 
 pub use change_options::ChangeOptions;
 use changing::{change_in, change_with_in};
@@ -33,6 +35,7 @@ pub use options::Options;
 pub use report::Report;
 use rewrite_rules::laws::rows_are_few;
 use rewrite_rules::{Rule, rule_count};
+use splicing::splice_in;
 use std::alloc::Global;
 
 /// Rewrites the module that the first `size` of the `max_size` bytes at `data` are, once and by any rule in any function, under a
@@ -119,6 +122,42 @@ pub unsafe extern "C" fn teddertempo_change(
         alloc,
         std::slice::from_raw_parts_mut(data, max_size),
         size,
+        seed,
+    )
+}
+
+/// Puts code of another module into the module that the first `size` of the `max_size` bytes at `data` are, under a seed, and writes the
+/// new module over them. Answers the new module's size, which is `max_size` at most.
+///
+/// The code is that of an operator of one of the other module's functions and of its operands, which comes in the place of such code
+/// that gives the same type; of it the standard asks nothing beyond types, and its locals and globals are there in the new place too.
+///
+/// Answers 0, and leaves the bytes as they were, where `size` is above `max_size`, or for one of the reasons for which
+/// `splice_module` refuses. One of these is that no memory is left, which may be so at any time: so no contract can tell this
+/// call from one that always answers 0.
+///
+/// The new module is valid where the old one was, and computes something else, of which nothing is promised. Equal modules, seeds and
+/// `max_size` give equal bytes. C passes `data`, `size` and `max_size`, then a pointer to the other module, which isn't null and doesn't
+/// overlap these bytes, and how many bytes that has, and `seed`; the bytes at `data` may be read and written, and `data` isn't null.
+#[unsafe(no_mangle)]
+pub unsafe extern "C" fn teddertempo_splice(
+    alloc: Global,
+    data: *mut u8,
+    size: usize,
+    max_size: usize,
+    other: &[u8],
+    seed: u64,
+) -> usize
+    ghost old: { List ℕ }
+    requires* { sem 𝓛 (bytes_at «data» max_size old) ∗ ⌜ max_size < 2 ^ 63 ⌝ }
+    ensures* { ∃ₛ (λ new. sem 𝓛 (bytes_at «data» max_size new) ∗
+        ⌜ SplicesOnce seed size other.now old result new ⌝) }
+{
+    splice_in(
+        alloc,
+        std::slice::from_raw_parts_mut(data, max_size),
+        size,
+        other,
         seed,
     )
 }

@@ -15,7 +15,7 @@ pub enum Change {
     Local,
     /// A value is drawn anew: a constant, a local, a global, or operators on such.
     Draw,
-    /// A value, or a statement, becomes a copy of another one of the same function.
+    /// A value, or a statement, becomes a copy of another one.
     Copy,
     /// The first of two operands stands for the whole.
     FirstOperand,

@@ -3,7 +3,8 @@
 //!
 //! [`mutate`] is one rewrite of any kind, [`mutate_with`] takes [`Options`] and answers a [`Report`], and [`mutate_slice`] rewrites
 //! in place, as a fuzzer's mutator does; [`change_slice`] changes in place, and [`change_with`] takes [`ChangeOptions`] and answers a
-//! [`ChangeReport`]; [`either_slice`] rewrites or changes in place. With cargo-fuzz, for coverage:
+//! [`ChangeReport`]; [`either_slice`] rewrites or changes in place, and [`splice_slice`] takes code of another module. With cargo-fuzz,
+//! for coverage:
 //!
 //! ```ignore
 //! libfuzzer_sys::fuzz_mutator!(|data: &mut [u8], size: usize, max_size: usize, seed: u32| {
@@ -103,6 +104,28 @@ pub fn either_slice(data: &mut [u8], size: usize, seed: u64, keep: u32) -> Optio
     // SAFETY: as of `change_slice`.
     let new_size =
         unsafe { raw::teddertempo_either(data.as_mut_ptr(), size, data.len(), seed, keep) };
+    (new_size != 0).then_some(new_size)
+}
+
+/// Puts code of the other module into the module in `data[..size]`, in place, so that it stays valid, and answers the new size: an
+/// operator with its operands, in the place of such code that leaves the same. None where nothing is done: the bytes are as they were.
+///
+/// ```
+/// let mut module = *b"\0asm\x01\0\0\0";
+/// assert_eq!(teddertempo::splice_slice(&mut module, 8, b"\0asm\x01\0\0\0", 7), None);
+/// ```
+pub fn splice_slice(data: &mut [u8], size: usize, other: &[u8], seed: u64) -> Option<usize> {
+    // SAFETY: as of `change_slice`; the other pointer is that of a slice too, whose length is handed over, and which lies apart.
+    let new_size = unsafe {
+        raw::teddertempo_splice(
+            data.as_mut_ptr(),
+            size,
+            data.len(),
+            other.as_ptr(),
+            other.len(),
+            seed,
+        )
+    };
     (new_size != 0).then_some(new_size)
 }
 

@@ -76,6 +76,14 @@ unsafe extern "C" {
         seed: u64,
         keep: u32,
     ) -> usize;
+    pub fn teddertempo_splice(
+        data: *mut u8,
+        size: usize,
+        max_size: usize,
+        other: *const u8,
+        other_size: usize,
+        seed: u64,
+    ) -> usize;
     pub fn teddertempo_change_with(
         data: *mut u8,
         size: usize,

@@ -4,7 +4,7 @@ use std::fs;
 use std::thread;
 use teddertempo::{
     Change, ChangeOptions, MadeChange, Options, Outcome, Report, Rule, change_slice, change_with,
-    either_slice, mutate, mutate_slice, mutate_with,
+    either_slice, mutate, mutate_slice, mutate_with, splice_slice,
 };
 
 /// The bytes with which each module begins: the magic and the version.
@@ -91,6 +91,32 @@ fn either_rewrites_or_changes() {
         assert!(changed_size == change_slice(&mut other, module.len(), seed) && changed == other);
     }
     assert_eq!(either_slice(&mut [0; 8], 9, 7, 50), None);
+}
+
+#[test]
+fn splices_code_of_another_module() {
+    let (module, other) = (module(), module_named("hashes"));
+    let mut news = std::collections::HashSet::new();
+    for seed in 0..50 {
+        let mut new = module.clone();
+        new.resize(module.len() + 4096, 0);
+        let Some(size) = splice_slice(&mut new, module.len(), &other, seed) else {
+            continue;
+        };
+        new.truncate(size);
+        assert!(new != module && new.starts_with(&PREAMBLE));
+        let mut again = module.clone();
+        again.resize(module.len() + 4096, 0);
+        assert_eq!(splice_slice(&mut again, module.len(), &other, seed), Some(size));
+        assert_eq!(again[..size], new);
+        news.insert(new);
+    }
+    assert!(news.len() > 30);
+    let mut new = module.clone();
+    assert_eq!(splice_slice(&mut new, module.len(), &[0; 8], 7), None);
+    assert_eq!(splice_slice(&mut [0; 8], 8, &other, 7), None);
+    assert_eq!(splice_slice(&mut [0; 8], 9, &other, 7), None);
+    assert_eq!(new, module);
 }
 
 #[test]

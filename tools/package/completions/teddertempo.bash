@@ -1,4 +1,4 @@
-# Completions of teddertempo and teddertempo-diff for bash.
+# Completions of teddertempo, teddertempo-diff and teddertempo-reduce for bash.
 
 # The names of the rules, as the program knows them.
 _teddertempo_rules() { teddertempo --help 2> /dev/null | tr -d '\n' | sed -n 's/.*\[possible values: \([a-z_0-9, ]*\)\].*/\1/p' | tr -d ','; }
@@ -23,12 +23,12 @@ _teddertempo()
         --change=) mapfile -t COMPREPLY < <(compgen -W "$(_teddertempo_changes)" -- "$word") ;;
         --rule | --not-rule) _teddertempo_words "$(_teddertempo_rules)" ;;
         --list-rules) _teddertempo_words "text json markdown" ;;
-        --seed | --count | --function | --max-size) COMPREPLY=() ;;
+        --seed | --count | --from | --function | --max-size | --to) COMPREPLY=() ;;
         -o | --output) mapfile -t COMPREPLY < <(compgen -f -- "$word") ;;
         *)
             if [[ $word == -* ]]; then
-                _teddertempo_words "--blocks --change --count --exact --function --help --json --list --list-changes --list-rules --max-size --not-rule --output
-                    --quiet --reach --rule --seed --show --shrink --stats --strip-debug --version"
+                _teddertempo_words "--blocks --change --count --exact --from --function --help --json --list --list-changes --list-rules --max-size --not-rule --output
+                    --quiet --reach --rule --seed --show --shrink --stats --strip-debug --to --version"
             else
                 _teddertempo_modules "$word"
             fi
@@ -36,15 +36,23 @@ _teddertempo()
     esac
 }
 
-_teddertempo_diff()
+# Whether the word stands behind `--`; the first one there is a command.
+_teddertempo_behind_options()
 {
-    local word=${COMP_WORDS[COMP_CWORD]} before=${COMP_WORDS[COMP_CWORD - 1]} place
+    local place
     for ((place = 1; place < COMP_CWORD; place++)); do
         if [[ ${COMP_WORDS[place]} == -- ]]; then
-            if ((place == COMP_CWORD - 1)); then mapfile -t COMPREPLY < <(compgen -c -- "$word"); fi
-            return
+            if ((place == COMP_CWORD - 1)); then mapfile -t COMPREPLY < <(compgen -c -- "$1"); fi
+            return 0
         fi
     done
+    return 1
+}
+
+_teddertempo_diff()
+{
+    local word=${COMP_WORDS[COMP_CWORD]} before=${COMP_WORDS[COMP_CWORD - 1]}
+    if _teddertempo_behind_options "$word"; then return; fi
     case $before in
         --rule | --not-rule) _teddertempo_words "$(_teddertempo_rules)" ;;
         --as) _teddertempo_words "node plain spectest-interp wasmer wasmtime" ;;
@@ -62,5 +70,26 @@ _teddertempo_diff()
     esac
 }
 
+_teddertempo_reduce()
+{
+    local word=${COMP_WORDS[COMP_CWORD]} before=${COMP_WORDS[COMP_CWORD - 1]}
+    if _teddertempo_behind_options "$word"; then return; fi
+    case $before in
+        --jobs | --max-runs | --time | --timeout) COMPREPLY=() ;;
+        --state) mapfile -t COMPREPLY < <(compgen -d -- "$word") ;;
+        --validator) mapfile -t COMPREPLY < <(compgen -c -- "$word") ;;
+        -o | --output | --json | --program) mapfile -t COMPREPLY < <(compgen -f -- "$word") ;;
+        *)
+            if [[ $word == -* ]]; then
+                _teddertempo_words "--help --jobs --json --keep-names --max-runs --no-validator --output --program --quiet --state --time
+                    --timeout --validator --version --"
+            else
+                _teddertempo_modules "$word"
+            fi
+            ;;
+    esac
+}
+
 complete -o filenames -F _teddertempo teddertempo
 complete -o filenames -F _teddertempo_diff teddertempo-diff
+complete -o filenames -F _teddertempo_reduce teddertempo-reduce

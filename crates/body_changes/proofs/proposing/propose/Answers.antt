@@ -1,7 +1,8 @@
 -- Change by change.
+use Rattle.std.proofs.Common.{ℕ, subst}
 use Rattle.body_changes.specs.declared.change.Change.TheVariants as change
 use Rattle.body_changes.specs.declared.kinds.accesses.Indexed.TheVariants as indexed
-use Rattle.body_changes.specs.Kinds.{copied, MakesCopy, MakesExchanged, MakesFirst, MakesLast, MakesOperator, MakesTurned, MakesTwice}
+use Rattle.body_changes.specs.Kinds.{MakesCopy, MakesExchanged, MakesFirst, MakesLast, MakesOperator, MakesTurned, MakesTwice}
 use Rattle.body_changes.specs.Proposals.{context_at, operators_of, IsNewFrom, MakesOther, NamesAt}
 use Rattle.body_changes.proofs.ProposalLemmas.{named_in, named_of, named_only, named_there, new_there, none_in, one_in}
 use Rattle.body_changes.proofs.ProposalLemmas.{one_copy, one_exchanged, one_first, one_last, one_turned, one_twice}
@@ -33,22 +34,22 @@ pub returns-in_ok-copied-in-Copy-clause-new : goal.returns-in_ok-copied-in-Copy-
 returns-in_ok-copied-in-Copy-clause-new c =
     let place = c.args.place.now in
     rw c.in-Copy.is (one_in (λ code. code.items)
-    (MakesCopy (context_at place) (operators_of place) (copied (operators_of place) c.args.words.now) place.unit)
-    (one_copy (context_at place) (operators_of place) (copied (operators_of place) c.args.words.now) place.unit)
+    (MakesCopy place.copied.code.now) (one_copy place.copied.code.now)
     place.unit.start c.in_place-in-Copy.result c.in_ok-copied-in-Copy.field-0 c.in_place-in-Copy.ensures.some c.in_place-in-Copy.ensures.there
     c.in_ok-copied-in-Copy.ensures.made (IsNewFrom place))
 
 pub returns-in_ok-copied-in-Copy-clause-none : goal.returns-in_ok-copied-in-Copy-clause-none
 returns-in_ok-copied-in-Copy-clause-none c =
-    rw c.in-Copy.is (none_in c.in_place-in-Copy.result c.in_ok-copied-in-Copy.field-0 (λ never start code makes new. never code makes.1)
+    let place = c.args.place.now in
+    rw c.in-Copy.is (none_in c.in_place-in-Copy.result c.in_ok-copied-in-Copy.field-0
+    (λ never start code makes new. never code makes.1 (subst (λ (s : ℕ). IsNewFrom place s code) makes.0 new))
     c.in_place-in-Copy.ensures.none c.in_ok-copied-in-Copy.ensures.none)
 
 pub returns-in_ok-copied-in-Copy-clause-named : goal.returns-in_ok-copied-in-Copy-clause-named
 returns-in_ok-copied-in-Copy-clause-named c =
     let place = c.args.place.now in
     rw c.in-Copy.is (named_in (λ code. code.items)
-    (MakesCopy (context_at place) (operators_of place) (copied (operators_of place) c.args.words.now) place.unit)
-    (one_copy (context_at place) (operators_of place) (copied (operators_of place) c.args.words.now) place.unit)
+    (MakesCopy place.copied.code.now) (one_copy place.copied.code.now)
     place.unit.start c.in_place-in-Copy.result c.in_ok-copied-in-Copy.field-0 c.in_place-in-Copy.ensures.some c.in_place-in-Copy.ensures.there
     c.in_ok-copied-in-Copy.ensures.made (IsNewFrom place)
     (λ start code. NamesAt place change.Copy c.args.words.now code))

@@ -1,7 +1,8 @@
 -- What was read of the module.
 use Rattle.std.proofs.lemmas.Result.{IfErr-weaker, IfOk-weaker}
 use Rattle.module_changes.specs.Chosen.{ChoosesLater, ChoosesOne}
-use Rattle.module_changes.specs.Entry.{GivesNone}
+use Rattle.module_changes.specs.Donor.{itself}
+use Rattle.module_changes.specs.Entry.{RefusesFrom}
 use Rattle.module_changes.specs.Times.{IsRefusal}
 use Rattle.module_changes.specs.declared.attempt.Step.{Step}
 use Rattle.module_changes.proofs.TimesLemmas.{refuses}
@@ -9,11 +10,11 @@ use Rattle.module_changes.proofs.attempt.change_once.Goals as goal
 
 pub returns-clause-chosen : goal.returns-clause-chosen
 returns-clause-chosen g c =
-    IfOk-weaker c.change_read.result
-    (λ (m : Step). ChoosesLater c.args.scope.now c.args.bytes.now c.in-Ok.module.info c.in-Ok.module.layout (g.R.Rng.stream c.args.generator.now) m.made
-    m.bytes.items (g.R.Rng.stream c.change_read.new.generator))
+    IfOk-weaker c.change_chosen.result
+    (λ (m : Step). ChoosesLater (itself c.args.bytes.now c.in-Ok.module.info c.in-Ok.module.layout) c.args.scope.now c.args.bytes.now c.in-Ok.module.info c.in-Ok.module.layout (g.R.Rng.stream c.args.generator.now) m.made
+    m.bytes.items (g.R.Rng.stream c.change_chosen.new.generator))
     (λ (m : Step). ChoosesOne c.args.scope.now c.args.bytes.now (g.R.Rng.stream c.args.generator.now) m.made m.bytes.items
-    (g.R.Rng.stream c.change_read.new.generator))
+    (g.R.Rng.stream c.change_chosen.new.generator))
     (λ m chosen. record {
       info = c.in-Ok.module.info;
       layout = c.in-Ok.module.layout;
@@ -21,13 +22,13 @@ returns-clause-chosen g c =
       exact = c.in-Ok.ensures.unmarked;
       chooses = chosen;
     })
-    c.change_read.ensures.chosen
+    c.change_chosen.ensures.chosen
 
 pub returns-clause-fails : goal.returns-clause-fails
 returns-clause-fails g c =
-    IfErr-weaker c.change_read.result
-    (GivesNone c.args.scope.now c.args.bytes.now c.in-Ok.module.info c.in-Ok.module.layout (g.R.Rng.stream c.args.generator.now))
+    IfErr-weaker c.change_chosen.result
+    (RefusesFrom (itself c.args.bytes.now c.in-Ok.module.info c.in-Ok.module.layout) c.args.scope.now c.args.bytes.now c.in-Ok.module.info c.in-Ok.module.layout (g.R.Rng.stream c.args.generator.now))
     (IsRefusal c.args.scope.now c.args.bytes.now (g.R.Rng.stream c.args.generator.now))
     (refuses c.args.scope.now c.args.bytes.now c.in-Ok.module.info c.in-Ok.module.layout (g.R.Rng.stream c.args.generator.now) c.in-Ok.ensures.read
     c.in-Ok.ensures.unmarked)
-    c.change_read.ensures.none
+    c.change_chosen.ensures.none

@@ -4,7 +4,7 @@ use Rattle.body_splices.specs.OwnBytes.{IsBodyIn}
 use Rattle.wasm_declarations.specs.declared.entries.Entry.{Entry}
 use Rattle.module_rewrites.specs.Mutated.{IsBehindLocals}
 use Rattle.std.proofs.lemmas.Option.{same_Some}
-use Rattle.module_changes.specs.Entry.{IsLarge}
+use Rattle.module_changes.specs.Entry.{choice_of, IsLarge}
 use Rattle.module_changes.proofs.EntryLemmas.{does_not_fit, makes, none_here}
 use Rattle.module_changes.proofs.entry.change_function.Goals as goal
 
@@ -16,7 +16,7 @@ change_body-requires-clause-body c =
 
 pub returns-in_default-clause-tried : goal.returns-in_default-clause-tried
 returns-in_default-clause-tried c =
-    none_here c.args.scope.now c.args.reading.now.bytes.now c.args.reading.now.info.now c.args.reading.now.layout.now c.args.words.now c.args.n
+    none_here (choice_of c.args.trial.now) c.args.reading.now.bytes.now c.args.reading.now.info.now c.args.reading.now.layout.now c.args.trial.now.words.now c.args.n
     c.args.function.now.locals.items c.deref.result.now c.args.function.now.operators.items c.deref-2.result.now c.deref.ensures.value
     c.deref-2.ensures.value c.requires.only (rw c.in_default.is at c.in_ok-changed.ensures.none)
 
@@ -29,7 +29,7 @@ locals_of-locals-requires c =
 
 pub returns-in-Some-2-clause-tried : goal.returns-in-Some-2-clause-tried
 returns-in-Some-2-clause-tried c =
-    makes c.args.scope.now c.args.reading.now.bytes.now c.args.reading.now.info.now c.args.reading.now.layout.now c.args.words.now c.args.n
+    makes (choice_of c.args.trial.now) c.args.reading.now.bytes.now c.args.reading.now.info.now c.args.reading.now.layout.now c.args.trial.now.words.now c.args.n
     (record { function = c.function_index.result; change = c.in-Some.changed.change; operator = c.in-Some.changed.at; start = c.in-Some.changed.start })
     c.args.function.now.locals.items c.deref.result.now c.args.function.now.expression c.args.function.now.operators.items c.deref-2.result.now
     c.entry_at.result c.new-body.result c.change_body.new.sink c.locals_of-locals.result.now c.bytes.result.now c.requires.function c.deref.ensures.value
@@ -45,7 +45,7 @@ returns-in-Some-2-clause-tried c =
 
 pub returns-clause-tried : goal.returns-clause-tried
 returns-clause-tried c =
-    does_not_fit c.args.scope.now c.args.reading.now.bytes.now c.args.reading.now.info.now c.args.reading.now.layout.now c.args.words.now c.args.n
+    does_not_fit (choice_of c.args.trial.now) c.args.reading.now.bytes.now c.args.reading.now.info.now c.args.reading.now.layout.now c.args.trial.now.words.now c.args.n
     (record { function = 0; change = c.in-Some.changed.change; operator = c.in-Some.changed.at; start = c.in-Some.changed.start })
     c.args.function.now.locals.items c.deref.result.now c.args.function.now.expression c.args.function.now.operators.items c.deref-2.result.now
     c.entry_at.result c.new-body.result c.change_body.new.sink c.locals_of-locals.result.now c.bytes.result.now c.requires.function c.deref.ensures.value

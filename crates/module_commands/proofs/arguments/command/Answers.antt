@@ -21,10 +21,12 @@ returns c =
     let twelve = one_more _ _ _ _ _ eleven c.in_ok-arg-12.ensures c.blocks_argument.ensures.local c.blocks_argument.ensures.rule in
     let thirteen = one_more _ _ _ _ _ twelve c.in_ok-arg-13.ensures c.rules_argument.ensures.local c.rules_argument.ensures.rule in
     let fourteen = one_more _ _ _ _ _ thirteen c.in_ok-arg-14.ensures c.change_argument.ensures.local c.change_argument.ensures.rule in
-    let fifteen = one_more _ _ _ _ _ fourteen c.in_ok-arg-15.ensures c.changes_argument.ensures.local c.changes_argument.ensures.rule in
-    let sixteen = one_more _ _ _ _ _ fifteen c.in_ok-arg-16.ensures c.stats_argument.ensures.local c.stats_argument.ensures.rule in
-    let seventeen = one_more _ _ _ _ _ sixteen c.in_ok-arg-17.ensures c.reach_argument.ensures.local c.reach_argument.ensures.rule in
-    let eighteen = one_more _ _ _ _ _ seventeen c.in_ok-arg-18.ensures c.json_argument.ensures.local c.json_argument.ensures.rule in
-    let nineteen = one_more _ _ _ _ _ eighteen c.in_ok-arg-19.ensures c.show_argument.ensures.local c.show_argument.ensures.rule in
-    let twenty = one_more _ _ _ _ _ nineteen c.in_ok-arg-20.ensures c.strip_argument.ensures.local c.strip_argument.ensures.rule in
-    IfOk-weaker c.arg-21.result _ _ (λ r h. one_more _ r _ _ _ twenty h c.quiet_argument.ensures.local c.quiet_argument.ensures.rule) c.arg-21.ensures
+    let fifteen = one_more _ _ _ _ _ fourteen c.in_ok-arg-15.ensures c.from_argument.ensures.local c.from_argument.ensures.rule in
+    let sixteen = one_more _ _ _ _ _ fifteen c.in_ok-arg-16.ensures c.to_argument.ensures.local c.to_argument.ensures.rule in
+    let seventeen = one_more _ _ _ _ _ sixteen c.in_ok-arg-17.ensures c.changes_argument.ensures.local c.changes_argument.ensures.rule in
+    let eighteen = one_more _ _ _ _ _ seventeen c.in_ok-arg-18.ensures c.stats_argument.ensures.local c.stats_argument.ensures.rule in
+    let nineteen = one_more _ _ _ _ _ eighteen c.in_ok-arg-19.ensures c.reach_argument.ensures.local c.reach_argument.ensures.rule in
+    let twenty = one_more _ _ _ _ _ nineteen c.in_ok-arg-20.ensures c.json_argument.ensures.local c.json_argument.ensures.rule in
+    let twenty_one = one_more _ _ _ _ _ twenty c.in_ok-arg-21.ensures c.show_argument.ensures.local c.show_argument.ensures.rule in
+    let twenty_two = one_more _ _ _ _ _ twenty_one c.in_ok-arg-22.ensures c.strip_argument.ensures.local c.strip_argument.ensures.rule in
+    IfOk-weaker c.arg-23.result _ _ (λ r h. one_more _ r _ _ _ twenty_two h c.quiet_argument.ensures.local c.quiet_argument.ensures.rule) c.arg-23.ensures

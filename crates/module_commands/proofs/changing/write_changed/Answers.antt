@@ -25,8 +25,8 @@ returns-clause-told g c =
       between = between;
       before = c.in_ok-report_asked_module.ensures.tells;
       shown = new.shown.items;
-      are_shown = c.in_ok-new.ensures.shown;
-      changes = told_text options.stats options.show (form_of options) c.args.bytes.now new.module.made.items new.module.stopped new.module.bytes.items
+      shown_are = c.in_ok-new.ensures.shown;
+      changes = told_text options.stats options.show options.place (form_of options) c.args.bytes.now new.module.made.items new.module.stopped new.module.bytes.items
           new.shown.items c.deref-2.result.now between behind c.in_ok-new.ensures.shown (c.deref-2.ensures.value ∙ c.in_ok-told.ensures.told)
           (λ wanted. c.in_ok-show.ensures.shown (c.is_told.ensures ∙ wanted))
           (λ wanted. ap g.E.Write.contents (c.in_ok-show.ensures.quiet (c.is_told.ensures ∙ wanted)));

@@ -4,7 +4,7 @@ use Rattle.rand.specs.contracts.rngs.StdRngRng.TheImpl as generator
 use Rattle.module_changes.specs.declared.entry.MadeChange.{MadeChange}
 use Rattle.module_commands.specs.Changing.{AreShown}
 use Rattle.module_commands.proofs.ChangeShownLemmas.{are_shown}
-use Rattle.module_commands.proofs.changing.changed.Goals as goal
+use Rattle.module_commands.proofs.changing.drawn.Goals as goal
 
 pub returns-in_ok-module-in-Ok-change_module-clause-shown : goal.returns-in_ok-module-in-Ok-change_module-clause-shown
 returns-in_ok-module-in-Ok-change_module-clause-shown c =

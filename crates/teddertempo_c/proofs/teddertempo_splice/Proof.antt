@@ -1,0 +1,138 @@
+-- `teddertempo_splice` meets its contract: a walk of its MIR, by hand. The bytes are lent as a slice for a lifetime that is made for
+-- the call of `splice_in`, and come back once it is ended. The other module is handed on.
+use Rattle.std.proofs.Common.{ℕ, ◌^◌, ◌<◌, List, [], ◌∷◌, ◌++◌, length, refl, sym, ap, arith, w64, Bor}
+use Rattle.std.proofs.raw_atomic.Walks.{proved}
+use base.Fraction.{full_share}
+use base.Logic.{id⊢, sep}
+use base.Fml.{Lft, GName, flft}
+use mir.Syntax.{named}
+use mir.Val.{Val, vint}
+use contract.Monad.{fact}
+use contract.Running.{tables}
+use prog.Wp.{WpFn}
+use types.Logic.{sem}
+use types.Kit.{‵, raw, ◌⊛◌, some, later, prop, ◌$◌, ◌∵◌, !, qed, done, move, keep, drop, use1, use3, split, join, fsplit, fjoin, feq_l}
+use types.Kit.{Goal, pick, await, regoal, suffices, frame, group, show}
+use types.Part.{agg}
+use types.Run.{and_then, no_more, returns, enter}
+use types.ByLocal.{alloc_all, pass_all, free_all, look_at, get, sets, lands_as, is}
+use types.Tokens.{lft_new, lft_end}
+use denote.Builtin.{u8, u64, usize}
+use denote.Exit.{yes}
+use denote.Laws.{Is, shows}
+use denote.Plain.{uint_vals, uint_Tells, uint_Makes, uint_Lawful}
+use denote.RattleType.{owns}
+use denote.RawPtr.{Ptr, RawPtr, block_ptr, ptr_val, in_a_block, rawptr_vals, rawptr_Tells}
+use denote.Signature.{plain, shr_slice_of, types_at}
+use denote.Slice.{slice_val, shr_slice_vals, shr_slice_Tells}
+use denote.Steps.{nothing, owned, peeks, heard}
+use denote.Struct.Laws as of_fields
+use denote.Triple.Call.{calls_at}
+use denote.Triple.Clauses.{lasts}
+use denote.Triple.Entry.{alive}
+use denote.Triple.Spec.{triple_of}
+use denote.Triple.Table.{framed}
+use denote.Triple.Walked.{says, Stays, stay_dropped, walk_of, ends_at, Goes-dropped}
+use Rattle.std.specs.contracts.alloc.Global as G
+use Rattle.std.proofs.alloc.Global.TheLaws as L
+use Rattle.teddertempo_c.specs.Buffer.{bytes_at}
+use Rattle.teddertempo_c.specs.Splices.{SplicesOnce}
+use Rattle.teddertempo_c.proofs.BufferLemmas.{Bytes, slice_at, Slice, Behind, bytes_out, lends_bytes, bytes_back}
+use Rattle.teddertempo_c.specs.contracts.splicing.splice_in as g
+use Rattle.teddertempo_c.proofs.splicing.splice_in.Met.{met}
+use Rattle.teddertempo_c.specs.contracts.teddertempo_splice as f
+use Rattle.teddertempo_c.proofs.teddertempo_splice.Statement.{statement}
+use Rattle.teddertempo_c.proofs.teddertempo_splice.Code as code
+
+-- nothing is said of a parameter at the return
+abbrev stayed : Stays f.ended.signature.params f.ended.kept
+stayed = (stay_dropped _ yes, (stay_dropped _ yes, (stay_dropped _ yes, (stay_dropped _ yes, (stay_dropped _ yes, (stay_dropped _ yes, tt))))))
+
+-- what the call may have changed: of its five parameters the slice alone
+abbrev Lasts : Type 0
+Lasts = Unit {0} × (List ℕ × (Unit {0} × (Unit {0} × (Unit {0} × Unit {0}))))
+
+pub teddertempo_splice_spec : {M : Type 1} → statement M
+teddertempo_splice_spec 𝓤 𝓛 𝓜 𝓡 wired =
+    let c = f.clauses 𝓛 𝓜.mem 𝓡.returns in let W = walk_of 𝓛 f.ended stayed c in let 𝓣 = tables 𝓤 𝓛.H 𝓜 𝓡 𝓡.env in
+    let handle = Goes-dropped 𝓛 1 (plain (λ _. G.the_row)) yes (λ κs x w. refl) in
+    let pointer = Goes-dropped 𝓛 1 (plain (λ _. RawPtr)) yes (λ κs x w. refl) in
+    let number = Goes-dropped 𝓛 1 (plain (λ _. usize)) yes (λ κs x w. refl) in
+    let lent = Goes-dropped 𝓛 1 (shr_slice_of (0 ∷ []) tt (plain (λ _. u8))) yes (λ κs x w. refl) in
+    proved 𝓛 f.ended stayed c 𝓜 𝓡 (handle, (pointer, (number, (number, (lent, (number, tt)))))) f.Key.name code.function (code.unfolded 𝓤 𝓛.H 𝓜 𝓡 wired)
+    (λ κs. (of_fields.vals G.the_type L.the_laws, (rawptr_vals, (uint_vals w64, (uint_vals w64, (shr_slice_vals, (uint_vals w64, tt)))))))
+    (λ κs. (
+      of_fields.tells G.the_type L.the_laws,
+      (rawptr_Tells, (uint_Tells w64, (uint_Tells w64, (shr_slice_Tells (named 0) κs.0 u8, (uint_Tells w64, tt))))),
+    ))
+    (λ κs qs bounds a old are.
+    let size : ℕ = a.1.1.0 in let n : ℕ = a.1.1.1.0 in let other : Bor (List ℕ) = a.1.1.1.1.0 in let seed : ℕ = a.1.1.1.1.1.0 in
+    let h : Val = of_fields.val G.the_type L.the_laws a.0 in
+    let y : Ptr → W.Ghost = λ p. (
+      (
+        κs,
+        qs,
+        bounds,
+        (a.0, (p, (size, (n, (other, (seed, tt)))))),
+        (h ∷ [], (rawptr_vals p, (uint_vals w64 size, (uint_vals w64 n, (shr_slice_vals other, (uint_vals w64 seed, tt)))))),
+      ),
+      old,
+    ) in
+    let Called : Ptr → Goal 𝓤 𝓛.H = λ p. prop
+    (WpFn 𝓤 𝓛.H 𝓣.C 𝓣.Λ code.function (h ∷ ptr_val p ∷ vint w64 size ∷ vint w64 n ∷ (shr_slice_vals other ++ vint w64 seed ∷ [])) (W.post (y p))) in
+    qed 𝓛 (
+    (raw (alive 𝓛 f.signature κs qs) ⊛ ‵ (owns (types_at f.signature.params κs) a (y a.1.0).0.4)) ∷
+    ‵ (bytes_at a.1.0 n old) ∷ raw (fact 𝓤 (n < 2 ^ 63)) ∷ []
+    ) ∵
+    split ! $ move ! (1 ∷ []) $ fsplit ! $ drop ! $ fsplit ! $ drop ! $ fsplit ! $ drop ! $ fsplit ! $ drop ! $
+    -- [the other module and the seed; their token; the bytes; their bound]
+    move ! (3 ∷ []) $ heard ! (n < 2 ^ 63) (λ low. move ! (2 ∷ []) $
+    in_a_block ! a.1.0 (λ p. bytes_at p n old) (id⊢ 𝓤 _) (λ b o e. regoal ! Called e refl $
+    use1 𝓛 (‵ (Bytes n b o old)) (bytes_out 𝓛 n b o old) $ fsplit ! $ feq_l ! (λ count.
+    let fits : length old < 2 ^ 64 = omega arith in let fits_n : n < 2 ^ 64 = omega arith in
+    enter ! _ _ _ _ _ $
+    alloc_all ! (λ l. pass_all ! refl (
+      ((of_fields.lawful G.the_type L.the_laws 𝓛).typed a.0 _ are.0).0,
+      ((tt, tt), ((tt, record { fits = are.1.1.0.1 }), ((tt, record { fits = fits_n }), ((tt, (tt, (record { fits = are.1.1.1.1.0.0.1.0 }, tt))), ((tt, record { fits = are.1.1.1.1.1.0.1 }), tt))))),
+    ) $
+    -- [the bytes; the references; their tokens; the locals]
+    -- from_raw_parts_mut(data, max_size)
+    sets ! (is ! (agg ! (and_then ! (get ! refl) (and_then ! (get ! refl) (no_more !)))) (ap (slice_val (b, o)) (sym count))) refl
+    (tt, (tt, (record { fits = fits }, tt))) $
+    lft_new ! tt (λ α. let κ : Lft = α ∷ [] in move ! (1 ∷ []) $
+    use1 𝓛 (later (some (λ (γ : GName). ‵ (Slice κ b o γ old) ⊛ ‵ (Behind κ b o γ old)))) (lends_bytes 𝓛 n b o old count low κ) $
+    await ! tt $ pick ! (λ γ. split ! $
+    -- [the slice; the right to the bytes; its token; the references; their tokens; the locals]
+    let Of = triple_of 𝓛 g.signature (g.spec 𝓛 𝓜.mem 𝓡.returns) in
+    let z : Of.Ghost = (
+      (
+        (κ, κs),
+        (full_share, qs),
+        tt,
+        (a.0, (slice_at b o γ old, (size, (other, (seed, tt))))),
+        (h ∷ [], (slice_val (b, o) (length old) ∷ [], (uint_vals w64 size, (shr_slice_vals other, (uint_vals w64 seed, tt))))),
+      ),
+      tt,
+    ) in
+    move ! (3 ∷ []) $ owned ! usize (Is usize) (uint_Makes 𝓛 w64) size _ (refl, are.1.1.0.1) $ fjoin ! $ move ! (1 ∷ 0 ∷ []) $ fjoin ! $
+    owned ! G.the_row (Is G.the_row) (of_fields.makes G.the_type L.the_plain 𝓛) a.0 _ are.0 $ fjoin ! $
+    -- [the arguments; the right to the bytes; the slice's token; the references' tokens; the locals]
+    move ! (2 ∷ 3 ∷ []) $ join ! $ join ! $ nothing ! $ move ! (1 ∷ 0 ∷ []) $ join ! $ use1 𝓛 (raw (Of.pre z)) (id⊢ 𝓤 _) $
+    -- splice_in(alloc, .., size, other, seed)
+    calls_at ! (framed 𝓤 𝓛.H 𝓜 𝓣) Of (met 𝓤 𝓛 𝓜 𝓡 (code.calls-teddertempo_c::splicing::splice_in 𝓡.env wired)) z
+    (and_then ! (get ! refl) (and_then ! (get ! refl) (and_then ! (get ! refl) (and_then ! (get ! refl) (and_then ! (get ! refl) (no_more !)))))) (λ v.
+    use1 𝓛 (later (some (λ (r : ℕ). ((‵ (flft κ full_share) ⊛ raw (alive 𝓛 f.signature κs qs)) ⊛ ‵ (usize.own_val r (v ∷ []))) ⊛
+    some (λ (ws : Lasts). ‵ (lasts g.ended z.0.0 z.0.3 ws) ⊛ raw (fact 𝓤 (SplicesOnce seed size other.now old r ws.1.0)))))) (id⊢ 𝓤 _) $
+    await ! tt $ pick ! (λ r. split ! $ split ! $ split ! $ lft_end ! tt $
+    move ! (3 ∷ []) $ pick ! (λ ws. let new : List ℕ = ws.1.0 in split ! $ fsplit ! $ drop ! $ fsplit ! $ fsplit ! $ fsplit ! $
+    -- [the slice's last value; its length; its borrow; the others; the clause; the lifetime is over; the tokens; the result; the right to the bytes; ..]
+    move ! (5 ∷ 8 ∷ 0 ∷ []) $ use3 𝓛 (later (‵ (bytes_at (block_ptr b o) n new))) (bytes_back 𝓛 n b o old count low κ γ new) $ await ! tt $
+    move ! (4 ∷ []) $ heard ! _ (λ changes. move ! (5 ∷ []) $
+    -- [the result; the bytes; the slice's length; its borrow; the other last values; the tokens; the locals]
+    peeks ! usize (Is usize) (shows 𝓛 usize) r (v ∷ []) (λ is. lands_as ! refl refl ((uint_Lawful 𝓛 w64).typed r _ is).0 $
+    returns ! (look_at ! 0 refl) $ free_all ! refl $ keep ! (0 ∷ 1 ∷ 5 ∷ []) $
+    suffices ! _ (ends_at 𝓛 f.ended stayed c (y (block_ptr b o)) v r (tt, (tt, (tt, (tt, (tt, (tt, tt)))))) (tt, (tt, (tt, (tt, (tt, (tt, tt))))))) $
+    nothing ! $ nothing ! $ join ! $ nothing ! $ join ! $ nothing ! $ join ! $ nothing ! $ join ! $ nothing ! $ join ! $ nothing ! $ join ! $
+    move ! (3 ∷ 0 ∷ 1 ∷ []) $ group ! 3 $ frame ! $
+    show ! (λ (bytes : List ℕ). sep 𝓤 (sem 𝓛 (bytes_at (block_ptr b o) n bytes)) (fact 𝓤 (SplicesOnce seed size other.now old r bytes))) new $
+    says ! changes $ done !))))))))))))

@@ -1,0 +1,1 @@
+"""teddertempo-reduce: finds a small WebAssembly module of which a predicate still holds."""

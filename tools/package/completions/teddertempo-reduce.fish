@@ -1,0 +1,16 @@
+# Completions of teddertempo-reduce for fish.
+
+complete -c teddertempo-reduce -s o -l output -r -F -d 'Where the smallest module goes'
+complete -c teddertempo-reduce -l jobs -x -d 'How many candidates are tried side by side'
+complete -c teddertempo-reduce -l timeout -x -d 'End a run of the predicate behind that time'
+complete -c teddertempo-reduce -l time -x -d 'End behind that time'
+complete -c teddertempo-reduce -l max-runs -x -d 'End behind so many runs of the predicate'
+complete -c teddertempo-reduce -l state -r -d 'Keep what was tried there, and go on from it'
+complete -c teddertempo-reduce -l validator -r -d 'Judge candidates before the predicate does'
+complete -c teddertempo-reduce -l no-validator -d 'Let the predicate judge alone'
+complete -c teddertempo-reduce -l keep-names -d 'Keep the custom section of names'
+complete -c teddertempo-reduce -l program -r -d 'The program that makes changes'
+complete -c teddertempo-reduce -l json -r -d 'Write a report as JSON'
+complete -c teddertempo-reduce -l quiet -d 'Tell errors alone'
+complete -c teddertempo-reduce -s h -l help -d 'Print the options'
+complete -c teddertempo-reduce -s V -l version -d 'Print the version'
