@@ -4,8 +4,9 @@
 #     with options of its own: both say the same and write the same bytes, which wasm-validate accepts, where it is there; and both
 #     refuse options that are for rewrites alone where they are to change;
 #   - code of one module comes into another, and what is made is valid;
-#   - the header is compiled as C++, the fuzz target and the mutator for AFL++ with KEEP, and the tests of the Rust crate are run;
-#   - where clang has libFuzzer, 2,000 runs of the fuzz target;
+#   - the header is compiled as C++, the fuzz target with KEEP, and the tests of the Rust crate are run;
+#   - the mutator for AFL++, with KEEP too, is called as AFL++ calls it (by Python), trimming too, and what it makes is valid;
+#   - where clang has libFuzzer, 2,000 runs of the fuzz target in C, and of the one in Rust;
 #   - where AFL++ is there, three instances of afl-fuzz for a minute (or AFL_SECONDS; none where that is 0): two over one output
 #     folder, and one that changes inputs by the custom mutator alone. Each has run the target, and what the mutator made was kept.
 # The last line is `N passed, N failed`.
@@ -68,11 +69,11 @@ options_of() {
     case $(($1 % 8)) in
         1) echo "--count 5" ;;
         2) echo "--rule $rule" ;;
-        3) echo "--growth 0" ;;
+        3) echo "--growth 0 --strip" ;;
         4) echo "--function $(($1 / 8))" ;;
         5) echo "--count 100 --growth 40" ;;
         6) echo "--rule no_such_rule" ;;
-        7) echo "--exact --percent 5" ;;
+        7) echo "--exact --shrink --percent 5" ;;
     esac
 }
 
@@ -81,7 +82,7 @@ change_options_of() {
     echo "--change --seed $1"
     case $(($1 % 4)) in
         1) echo "--count 3" ;;
-        2) echo "--growth 0" ;;
+        2) echo "--growth 0 --strip" ;;
         3) echo "--function $(($1 / 4))" ;;
     esac
 }
@@ -143,6 +144,7 @@ compile() {
 judge "c/mutate.c" compile c/mutate.c "${CC:-cc}" -pedantic -O2 "$library" -o "$work/mutate"
 judge "c/splice.c" compile c/splice.c "${CC:-cc}" -pedantic -O2 "$library" -o "$work/splice"
 judge "c/fuzz.c with KEEP" compile c/fuzz.c "${CC:-cc}" -DKEEP -pedantic -O2 -c -o "$work/keep.o"
+judge "afl/mutator.c" compile afl/mutator.c "${CC:-cc}" -pedantic -O2 -shared -fPIC "$library" -o "$work/teddertempo_afl.so"
 judge "afl/mutator.c with KEEP" compile afl/mutator.c "${CC:-cc}" -DKEEP -pedantic -O2 -shared -fPIC "$library" -o "$work/keep.so"
 if command -v "${CXX:-c++}" > /dev/null; then
     judge "the header in C++" "${CXX:-c++}" -x c++ -std=c++11 -Wall -Wextra -Werror -fsyntax-only - < include/teddertempo.h
@@ -180,6 +182,27 @@ splices() {
 }
 for seed in $(seq 0 $((seeds - 1))); do judge "code of hashes in numbers with seed $seed" splices "$seed" numbers hashes; done
 
+# The calls of AFL++, without it: what they make of some modules is valid.
+calls_of_afl() {
+    local module
+    rm -rf "$work/made"
+    mkdir "$work/made"
+    python3 examples/afl/calls.py "$1" "$work/made" tests/modules/{numbers,forms,hashes,mixes,sorting}.wasm || return 1
+    if ! command -v wasm-validate > /dev/null; then return; fi
+    for module in "$work"/made/*.wasm; do wasm-validate --enable-all "$module" || return 1; done
+}
+judge "the calls of AFL++" calls_of_afl "$work/teddertempo_afl.so"
+judge "the calls of AFL++ with KEEP" calls_of_afl "$work/keep.so"
+
+# Builds the Rust crate's target for libFuzzer, with counters for coverage.
+build_fuzz_rust() {
+    local target=x86_64-unknown-linux-gnu
+    local counters="-Cpasses=sancov-module -Cllvm-args=-sanitizer-coverage-level=4"
+    counters+=" -Cllvm-args=-sanitizer-coverage-inline-8bit-counters -Cllvm-args=-sanitizer-coverage-pc-table"
+    RUSTFLAGS=$counters cargo build "${cargo[@]}" --release --example fuzz --target "$target" || return 1
+    clang -fsanitize=fuzzer "$work/target/$target/release/examples/libfuzz.a" -o "$work/fuzz_rust"
+}
+
 mkdir "$work/corpus"
 cp tests/modules/*.wasm "$work/corpus"
 if command -v clang > /dev/null && echo 'int LLVMFuzzerTestOneInput(const char *d, long n) { return d && n < 0; }' \
@@ -188,13 +211,17 @@ if command -v clang > /dev/null && echo 'int LLVMFuzzerTestOneInput(const char *
     cp -r "$work/corpus" "$work/fuzzed"
     judge "2,000 runs of the fuzz target" timeout 300 \
         "$work/fuzz" -runs=2000 -seed=1 -max_len=65536 -artifact_prefix="$work/" "$work/fuzzed"
+    judge "the fuzz target of examples/rust" build_fuzz_rust
+    cp -r "$work/corpus" "$work/fuzzed_rust"
+    judge "2,000 runs of it" timeout 300 \
+        "$work/fuzz_rust" -runs=2000 -seed=1 -max_len=65536 -artifact_prefix="$work/" "$work/fuzzed_rust"
 fi
 
 # Becomes an instance of AFL++ that ends by itself.
 run_afl() {
     local folder=$1 name=$2
     shift 2
-    exec env AFL_SKIP_CPUFREQ=1 AFL_I_DONT_CARE_ABOUT_MISSING_CRASHES=1 AFL_NO_AFFINITY=1 AFL_NO_UI=1 AFL_DISABLE_TRIM=1 \
+    exec env AFL_SKIP_CPUFREQ=1 AFL_I_DONT_CARE_ABOUT_MISSING_CRASHES=1 AFL_NO_AFFINITY=1 AFL_NO_UI=1 \
         AFL_CUSTOM_MUTATOR_LIBRARY=$work/teddertempo_afl.so timeout $((afl_seconds + 120)) \
         afl-fuzz -i "$work/corpus" -o "$work/$folder" -V "$afl_seconds" "$@" -- "$work/target_afl" > "$work/$folder-$name.log" 2>&1
 }
@@ -217,7 +244,6 @@ kept_alone() { ! find "$work/alone/default/queue" -maxdepth 1 -name 'id:*' | gre
 
 if command -v afl-fuzz > /dev/null && command -v afl-cc > /dev/null && [ "$afl_seconds" -gt 0 ]; then
     judge "afl/target.c" compile afl/target.c afl-cc -O1 -o "$work/target_afl"
-    judge "afl/mutator.c" compile afl/mutator.c "${CC:-cc}" -pedantic -O2 -shared -fPIC "$library" -o "$work/teddertempo_afl.so"
     run_afl together main -M main & instances=($!)
     run_afl together second -S second & instances+=($!)
     AFL_CUSTOM_MUTATOR_ONLY=1 run_afl alone default & instances+=($!)

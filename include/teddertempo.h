@@ -6,8 +6,8 @@
  *
  * A valid module stays valid, by types: that is proved of every call. Of a module that is rewritten each function that can be
  * read, called with any arguments in any memory, tables and globals, does what it did: that is proved too. Of what a module
- * computes that is changed (teddertempo_change, teddertempo_change_with, teddertempo_splice, and teddertempo_either where it
- * changes) nothing is promised, nor that it ends. Whether the module is valid to begin with, no call checks.
+ * computes that is changed (teddertempo_change, teddertempo_change_with, teddertempo_change_at, teddertempo_splice, and
+ * teddertempo_either where it changes) nothing is promised, nor that it ends. Whether the module is valid to begin with, no call checks.
  *
  * Where an engine shows a difference between a module and a rewritten one it is wrong, with the exceptions that docs/PROMISES.md
  * of the sources has: a host that lists globals, counts them or compares bytes; limits of stack, time, fuel and memory, of which
@@ -66,8 +66,8 @@ size_t teddertempo_either(uint8_t *data, size_t size, size_t max_size, uint64_t 
 /*
  * Code of another module, for a fuzzer's cross-over: an operator of the module in other[0..other_size], with its operands, takes the
  * place of such code in the module in data[0..size]. Both give a value of one type, or both none. Only code comes over of which
- * nothing is asked but types, so that it has no load, store or call; a local or a global in it keeps its index, and has to have the
- * same type in the new place. The seed chooses the code and the place. What is valid stays valid; of what the new module computes
+ * nothing is asked but types, so that it has no load, store or call, and of at most 100 instructions; a local or a global in it keeps
+ * its index, and has to have the same type in the new place. The seed chooses the code and the place. What is valid stays valid; of what the new module computes
  * nothing is promised. Returns the new size, at most max_size, or 0, and data is as it was: for a reason of teddertempo_change, or
  * other is no module that can be read, or none of the code that the seed draws fits.
  */
@@ -81,7 +81,7 @@ enum {
     TEDDERTEMPO_UNREADABLE = 3,      /* none of the functions that may be rewritten can be read */
     TEDDERTEMPO_NO_RULE = 4,         /* no rule applies in them, or the module has no function of its own */
     TEDDERTEMPO_NO_FUNCTION = 5,     /* the module has no function of its own with that index, or an import isn't known */
-    TEDDERTEMPO_TOO_LARGE = 6,       /* no rewrite that was tried fits */
+    TEDDERTEMPO_TOO_LARGE = 6,       /* no rewrite that was tried fits, or, with TEDDERTEMPO_SHRINK, makes the module smaller */
     TEDDERTEMPO_NO_MEMORY = 7,       /* malloc failed */
     TEDDERTEMPO_BAD_OPTIONS = 8      /* a struct_size is too small, size is above max_size, a flag is none, or no rule is named that there is */
 };
@@ -91,6 +91,12 @@ enum {
  * on these rewrite too, and the new module does as before in every engine that does so, which is what a tester of engines wants.
  */
 #define TEDDERTEMPO_EXACT UINT64_C(1)
+
+/*
+ * Each rewrite makes the module smaller: it leaves no more operators, and fewer bytes, or as many that come earlier in the dictionary.
+ * Where none that the seed draws does, the outcome is TEDDERTEMPO_TOO_LARGE, or TEDDERTEMPO_NO_RULE.
+ */
+#define TEDDERTEMPO_SHRINK UINT64_C(2)
 
 #define TEDDERTEMPO_ANY_FUNCTION UINT64_MAX
 #define TEDDERTEMPO_ANY_GROWTH UINT64_MAX
@@ -110,7 +116,7 @@ struct teddertempo_options {
     uint64_t max_growth;  /* the new module has at most so many bytes more than the old one; or TEDDERTEMPO_ANY_GROWTH */
     uint64_t percent;     /* where it isn't 0, in place of count: at most so many rewrites as this percentage of the operators, each
                              end counted, of the functions that may be rewritten and can be read, rounded down, at least 1 */
-    uint64_t flags;       /* TEDDERTEMPO_EXACT or 0; another bit is refused */
+    uint64_t flags;       /* TEDDERTEMPO_EXACT, TEDDERTEMPO_SHRINK, both or 0; another bit is refused */
 };
 
 struct teddertempo_report {
@@ -162,6 +168,49 @@ struct teddertempo_change_options {
 size_t teddertempo_change_with(uint8_t *data, size_t size, size_t max_size, const struct teddertempo_change_options *options,
                                struct teddertempo_report *report);
 
+/* Operators of a function, and a change; its size first, as above. */
+struct teddertempo_place {
+    uint64_t struct_size; /* sizeof(struct teddertempo_place) */
+    uint64_t change;      /* its number; one of no change is refused */
+    uint64_t function;    /* imported ones counted first */
+    uint64_t first;       /* the first operator of its body, counted from 0, ends of blocks too */
+    uint64_t end;         /* the operator behind the last one; what there isn't of these is left out, so UINT64_MAX is to the last */
+    uint64_t max_growth;  /* the new module has at most so many bytes more than the old one; or TEDDERTEMPO_ANY_GROWTH */
+};
+
+/*
+ * That change of each of these operators of which it makes anything, from the last one to the first one, by no seed: for a reducer, a
+ * trimmer, or a list of all that there are. Code that is replaced isn't looked at again; a value that is drawn becomes the constant 0 (1
+ * in the place of that), a local, a global or a function that with the index 0, and nothing is copied. Reports as
+ * teddertempo_change_with does: where it makes nothing of any of them the outcome is TEDDERTEMPO_NO_RULE. Each change takes time
+ * linear in the module.
+ */
+size_t teddertempo_change_at(uint8_t *data, size_t size, size_t max_size, const struct teddertempo_place *place,
+                             struct teddertempo_report *report);
+
+/* An operator that teddertempo_change_at can change, and by which change. */
+struct teddertempo_site {
+    uint64_t function;       /* imported ones counted first */
+    uint64_t operator_index; /* of its body, counted from 0 */
+    uint64_t change;         /* its number */
+};
+
+/*
+ * Lists what teddertempo_change_at can change of a module: of the changes and in the function that the options name, whose other fields
+ * aren't looked at; in the order of the functions, the operators, and the numbers of the changes. Writes the first room of them, and
+ * returns how many there are; 0 where there are none, data is no module that can be read, it has no function of its own with the index,
+ * a bit of no change is set, struct_size is too small, or no memory is left.
+ */
+size_t teddertempo_sites(const uint8_t *data, size_t size, const struct teddertempo_change_options *options,
+                         struct teddertempo_site *sites, size_t room);
+
+/*
+ * Drops the custom sections that name places in the code (.debug_*, sourceMappingURL, external_debug_info, metadata.code.*), which
+ * are others once the module is rewritten. Returns the new size, which is no larger, or 0, and data is as it was: the bytes are no
+ * preamble and whole sections in order, or an object file, or no memory is left. Nothing else of the module is read.
+ */
+size_t teddertempo_strip(uint8_t *data, size_t size);
+
 /* The version as a number, 0x000300 for 0.3.0. */
 uint32_t teddertempo_version(void);
 
@@ -173,6 +222,9 @@ uint64_t teddertempo_rule_count(void);
  * there is no such rule.
  */
 size_t teddertempo_rule_name(uint32_t rule, char *name, size_t room);
+
+/* The same of a change, by the numbers above. */
+size_t teddertempo_change_name(uint32_t change, char *name, size_t room);
 
 #define TEDDERTEMPO_NO_SUCH_RULE UINT64_MAX
 

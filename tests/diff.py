@@ -238,6 +238,37 @@ class Test:
         done, _ = self.run_mode("same", "--quiet")
         self.tally.judge("--quiet", (done.stdout, done.stderr) == ("", ""), done.stdout + done.stderr)
 
+    def test_reduce(self) -> None:
+        """A finding gets smaller, and stays one; the predicate tells it from other modules."""
+        done, output = self.run_mode("value", *RULES, "--reduce", "20s", "--json")
+        lines = [json.loads(line) for line in done.stdout.splitlines()]
+        self.tally.judge("what is reduced is told", [list(line)[0] for line in lines] == ["finding", "reduced", "summary"], (lines, done.stderr))
+        folder = next(output.glob("0001-*"))
+        if not (folder / "reduced_bad.wasm").exists():
+            self.tally.judge("a finding is reduced", False, (done.stdout, done.stderr))
+            return
+        reduced, mutant = folder / "reduced.wasm", folder / "reduced_bad.wasm"
+        sizes = [file.stat().st_size for file in (reduced, folder / "good.wasm")]
+        self.tally.judge("a finding gets smaller", 2 * sizes[0] < sizes[1] and lines[1]["after"] == sizes[0], (sizes, lines[1]))
+        said = [subprocess.run([sys.executable, str(self.engine), "value", str(file)], capture_output=True, text=True).stdout
+                for file in (reduced, mutant)]
+        self.tally.judge("it stays one", said == ["one\n", "other\n"], said)
+        words = shlex.split(lines[1]["command"])
+        again = subprocess.run([str(PROGRAM), *words[1:-2]], capture_output=True)
+        self.tally.judge("the command makes its mutant again", again.stdout == mutant.read_bytes(), words)
+        self.tally.judge("it is explained", "through_global" in (folder / "reduced.txt").read_text())
+        empty = self.folder / "empty.wasm"
+        empty.write_bytes(b"\0asm\1\0\0\0")
+        statuses = [self.differs(folder, module).returncode for module in (reduced, folder / "good.wasm", empty)]
+        self.tally.judge("the predicate", statuses == [0, 0, 1], statuses)
+        done = self.differs(output, empty)
+        self.tally.judge("the predicate of no finding", done.returncode == 2 and "has no finding" in done.stderr, done)
+
+    @staticmethod
+    def differs(finding: Path, module: Path):
+        words = [sys.executable, str(DRIVER), "--teddertempo", str(PROGRAM), "--differs", str(finding), str(module)]
+        return subprocess.run(words, capture_output=True, text=True, timeout=100)
+
     # ---- stopping and going on
 
     def test_stop(self) -> None:
@@ -350,7 +381,7 @@ def main() -> int:
     with tempfile.TemporaryDirectory(prefix="diff ") as folder:
         test = Test(Path(folder))
         for part in (test.test_rows, test.test_finding, test.test_once, test.test_swarm, test.test_json, test.test_stop, test.test_two,
-                     test.test_calls, test.test_traps, test.test_wrong_engines):
+                     test.test_reduce, test.test_calls, test.test_traps, test.test_wrong_engines):
             part()
         for engine in ENGINES_ASKED:
             if shutil.which(engine[0]):

@@ -3,7 +3,7 @@
 #   - the archive, unpacked into an empty folder: the programs run, teddertempo-diff finds an engine that falls over rewrites and none
 #     where there is none, teddertempo-reduce leaves what a predicate asks for, the C example is linked by pkg-config alone and
 #     rewrites a module, header and library have one version, the shared library exports the calls of the header and changes a module,
-#     the mutator for AFL++ does so too, and man pages and completions have the options that the programs have;
+#     the mutator for AFL++ answers the calls that AFL++ makes, and man pages and completions have the options that the programs have;
 #   - the Debian package: installed, the same programs, example and libraries; then removed, and nothing of it is left.
 # Before, each place of tools/package/versions.sh has the version of the file VERSION. The last line is `N passed, N failed`.
 #
@@ -78,7 +78,7 @@ done
 
 # All that the tests use, beside the packages, stands in one folder.
 mkdir "$work/here"
-cp examples/c/mutate.c tests/modules/numbers.wasm "$work/here/"
+cp examples/c/mutate.c examples/afl/calls.py tests/modules/numbers.wasm "$work/here/"
 cp crates/peephole_run/stdin crates/peephole_run/stdout "$work/here/"
 tar -C "$work" -xzf "$packages/$name.tar.gz"
 cd "$work/here"
@@ -157,27 +157,13 @@ END
     test -s new.wasm && ! cmp -s new.wasm numbers.wasm && is_valid new.wasm
 }
 
-# The mutator for AFL++ is called as AFL++ calls it.
+# The mutator for AFL++ is called as AFL++ calls it, and what it makes is valid.
 afl_mutator_runs() {
-    rm -f new.wasm
-    python3 - "$1" <<'END' || return 1
-import ctypes
-import sys
-
-mutator = ctypes.CDLL(sys.argv[1])
-mutator.afl_custom_init.restype = ctypes.c_void_p
-mutator.afl_custom_fuzz.restype = ctypes.c_size_t
-mutator.afl_custom_fuzz.argtypes = [
-    ctypes.c_void_p, ctypes.c_char_p, ctypes.c_size_t, ctypes.c_void_p, ctypes.c_char_p, ctypes.c_size_t, ctypes.c_size_t]
-mutator.afl_custom_deinit.argtypes = [ctypes.c_void_p]
-module = open("numbers.wasm", "rb").read()
-state = mutator.afl_custom_init(None, 7)
-made = ctypes.c_void_p()
-size = mutator.afl_custom_fuzz(state, module, len(module), ctypes.byref(made), None, 0, 65536)
-open("new.wasm", "wb").write(ctypes.string_at(made, size))
-mutator.afl_custom_deinit(state)
-END
-    test -s new.wasm && ! cmp -s new.wasm numbers.wasm && is_valid new.wasm
+    local module
+    rm -rf made
+    mkdir made
+    python3 calls.py "$1" made numbers.wasm || return 1
+    for module in made/*.wasm; do is_valid "$module" || return 1; done
 }
 
 # The driver finds nothing in an engine that says nothing, and the rewrite where an engine says how long a module is.

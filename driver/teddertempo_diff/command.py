@@ -14,11 +14,15 @@ from pathlib import Path
 from .campaign import Campaign, Settings, Summary, find_modules
 from .engines import ENGINES, engine_of
 from .mutator import Choice, Dose, Mutator, MutatorFailure, MutatorMisuse, find_program
+from .reducing import NoFinding, Reducer, differs
 from .report import Reporter
-from .running import Runner
+from .running import Runner, Stopped
 from .store import Store, StoreRefusal
 
 FOUND, NOTHING_RUN, MISUSED, FAILED, STOPPED = 1, 2, 64, 70, 130
+
+# Of --differs: whether the module differs.
+DIFFERS, SAME = 0, 1
 
 # How much is rewritten if nothing else is said (docs/TESTED.md tells why).
 USUAL_DOSE = "400"
@@ -89,6 +93,10 @@ def parser() -> Parser:
     made.add_argument("-o", "--output", type=Path, default=Path("teddertempo-findings"), metavar="FOLDER",
                       help="keeps the findings there (teddertempo-findings)")
     made.add_argument("--continue", dest="goes_on", action="store_true", help="goes on with the run in FOLDER")
+    made.add_argument("--reduce", type=duration, metavar="TIME",
+                      help="makes the module of each finding smaller, by teddertempo-reduce, each for at most that time")
+    made.add_argument("--differs", type=Path, metavar="FINDING",
+                      help="only tells whether rewrites of MODULE differ as those of the finding in that folder do, by status 0; 1: they don't")
     made.add_argument("--rule", action="append", default=[], metavar="NAME", help="uses only this rule (again for more)")
     made.add_argument("--not-rule", action="append", default=[], metavar="NAME", help="uses all rules but this (again for more)")
     made.add_argument("--swarm", type=positive, default=1, metavar="N",
@@ -156,10 +164,42 @@ def run(options: argparse.Namespace, engine: list[str]) -> int:
     try:
         campaign = Campaign(settings_of(options), engine_of(engine, options.engine, options.calls), mutator, runner, store, reporter)
         summary = campaign.run(find_modules(options.modules))
+        if options.reduce:
+            reduce(options, runner, mutator.program, summary, reporter)
     finally:
         store.close()
     reporter.end(summary)
     return status_of(summary, store)
+
+
+def reduce(options: argparse.Namespace, runner: Runner, program: str, summary: Summary, reporter: Reporter) -> None:
+    """Makes what was found smaller, until the runner is told to stop."""
+    reducer = Reducer(runner, program, options.reduce, options.jobs)
+    try:
+        for finding, folder in summary.findings:
+            reporter.reduced(finding, reducer.reduce(folder))
+    except Stopped:
+        summary.stopped = True
+
+
+def tell_difference(options: argparse.Namespace) -> int:
+    """Whether the module differs as the finding does, as a predicate tells."""
+    runner = Runner(options.timeout)
+    stop_on_signals(runner)
+    found = differs(options.differs, Path(options.modules[0]), find_program(options.teddertempo), runner)
+    return DIFFERS if found else SAME
+
+
+def check(options: argparse.Namespace, engine: list[str], made: Parser) -> None:
+    """Refuses options that can't be meant."""
+    if not options.modules:
+        made.error("no MODULE")
+    if options.differs and len(options.modules) > 1:
+        made.error("more than one MODULE")
+    if options.differs and engine:
+        made.error("an ENGINE: --differs asks that of the finding")
+    if not options.differs and not engine:
+        made.error("no ENGINE: it stands behind --")
 
 
 def main(words: list[str]) -> int:
@@ -167,16 +207,16 @@ def main(words: list[str]) -> int:
     own, engine = split_engine(words)
     made = parser()
     options = made.parse_intermixed_args(own)
-    if not options.version and not options.modules:
-        made.error("no MODULE")
-    if not options.version and not engine:
-        made.error("no ENGINE: it stands behind --")
+    if not options.version:
+        check(options, engine, made)
     try:
-        return run(options, engine)
+        return tell_difference(options) if options.differs and not options.version else run(options, engine)
     except MutatorMisuse as misuse:
         print(misuse, file=sys.stderr)
         return MISUSED
-    except (MutatorFailure, StoreRefusal) as refusal:
+    except Stopped:
+        return STOPPED
+    except (MutatorFailure, StoreRefusal, NoFinding) as refusal:
         print(f"teddertempo-diff: {refusal}", file=sys.stderr)
         return NOTHING_RUN
     except Exception:

@@ -151,6 +151,10 @@ class Mutator:
                 return report["rewritable"]
         return 0
 
+    def places(self, module: Path) -> int:
+        """How many rewrites there are of the module."""
+        return self.run([*self.words(module, self.choice.words()), "--list", str(module)]).output.count(b"\n")
+
     def rewrite(self, module: Path, seed: int, count: int, new: Path) -> bool:
         """Writes the module rewritten; answers whether there was something to rewrite."""
         arguments = [*self.words_by(module, seed), "--seed", str(seed), "--count", str(count), str(module), "-o", str(new)]

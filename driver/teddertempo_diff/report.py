@@ -11,6 +11,7 @@ from dataclasses import asdict
 from pathlib import Path
 
 from .campaign import Listener, Summary
+from .reducing import Reduced
 from .store import Finding
 
 # A line on a terminal is written anew once in so many seconds.
@@ -53,6 +54,16 @@ class Reporter(Listener):
         else:
             self.say(f"{finding.rule} ({finding.kind}): {finding.module}, seed {finding.seed}, rewrite {finding.count}",
                      f"  before  {finding.before}", f"  behind  {finding.behind}", f"  in {folder}")
+
+    def reduced(self, finding: Finding, reduced: Reduced) -> None:
+        """Tells what became of a finding."""
+        self.clear()
+        if self.as_json:
+            self.say(json.dumps({"reduced": finding.name(), **asdict(reduced)}))
+        elif reduced.trouble:
+            self.say(f"{finding.name()} isn't reduced: {reduced.trouble}")
+        else:
+            self.say(f"{finding.name()} reduced from {reduced.before:,} bytes to {reduced.after:,}", f"  {reduced.command}")
 
     def say(self, *lines: str) -> None:
         """Prints lines; where nobody reads any more, the run goes on."""

@@ -1,12 +1,12 @@
 /*
  * Rewrites a module and says what was done, or why nothing was; or changes it, so that it computes something else:
  *
- *     mutate [--exact] [--seed N] [--count N] [--percent N] [--function N] [--growth N] [--rule NAME].. MODULE NEW
- *     mutate --change [--seed N] [--count N] [--function N] [--growth N] MODULE NEW
+ *     mutate [--exact] [--shrink] [--seed N] [--count N] [--percent N] [--function N] [--growth N] [--rule NAME].. [--strip] MODULE NEW
+ *     mutate --change [--seed N] [--count N] [--function N] [--growth N] [--strip] MODULE NEW
  *
- * Numbers are decimal. Without --rule all rules are meant; --growth is how many bytes NEW may have more than MODULE. The status
- * is 2 where the library writes no module, and 1 where the options can't be read or don't go together, or a file can't be read or
- * written.
+ * Numbers are decimal. Without --rule all rules are meant; --growth is how many bytes NEW may have more than MODULE; --strip drops the
+ * custom sections of NEW that name places in its code. The status is 2 where the library writes no module, and 1 where the options
+ * can't be read or don't go together, or a file can't be read or written.
  */
 #include <teddertempo.h>
 
@@ -16,26 +16,8 @@
 #include <stdlib.h>
 #include <string.h>
 
-/* How many bytes more than the old module the new one may have, and how many the name of a rule. */
+/* How many bytes more than the old module the new one may have, and how many the name of a rule or a change. */
 enum { EXTRA = 1 << 16, LONGEST_NAME = 64 };
-
-/* The names of the changes, by number. */
-static const char *const changes[] = {
-    [TEDDERTEMPO_CHANGE_CONSTANT] = "constant",
-    [TEDDERTEMPO_CHANGE_OPERATOR] = "operator",
-    [TEDDERTEMPO_CHANGE_LOCAL] = "local",
-    [TEDDERTEMPO_CHANGE_DRAW] = "draw",
-    [TEDDERTEMPO_CHANGE_COPY] = "copy",
-    [TEDDERTEMPO_CHANGE_FIRST_OPERAND] = "first_operand",
-    [TEDDERTEMPO_CHANGE_LAST_OPERAND] = "last_operand",
-    [TEDDERTEMPO_CHANGE_EXCHANGE_OPERANDS] = "exchange_operands",
-    [TEDDERTEMPO_CHANGE_DELETE] = "delete",
-    [TEDDERTEMPO_CHANGE_DOUBLE] = "double",
-    [TEDDERTEMPO_CHANGE_EXCHANGE_STATEMENTS] = "exchange_statements",
-    [TEDDERTEMPO_CHANGE_GLOBAL] = "global",
-    [TEDDERTEMPO_CHANGE_CALL] = "call",
-    [TEDDERTEMPO_CHANGE_MEMORY_ARGUMENT] = "memory_argument",
-};
 
 /* Why nothing was done, by the outcome. */
 static const char *const reasons[] = {
@@ -107,7 +89,8 @@ static int add_rule(const char *text, struct teddertempo_options *options)
 /* Whether an option is for rewrites alone. */
 static int is_for_rewrites(const char *option)
 {
-    return strcmp(option, "--exact") == 0 || strcmp(option, "--percent") == 0 || strcmp(option, "--rule") == 0;
+    return strcmp(option, "--exact") == 0 || strcmp(option, "--shrink") == 0 || strcmp(option, "--percent") == 0
+           || strcmp(option, "--rule") == 0;
 }
 
 /* Reads an option and its value; 0 where there is no such option, or the value is none for it. */
@@ -161,9 +144,11 @@ static size_t change(uint8_t *data, size_t size, const struct teddertempo_option
 {
     struct teddertempo_change_options asked = {sizeof asked, options->seed, 0, options->function, options->count, options->max_growth};
     struct teddertempo_report report = {sizeof report, 0, 0, 0, 0, 0};
+    char name[LONGEST_NAME + 1] = "";
     size_t new_size = teddertempo_change_with(data, size, size + EXTRA, &asked, &report);
 
-    tell(&report, size, new_size, "changes", changes[report.rule]);
+    teddertempo_change_name(report.rule, name, LONGEST_NAME);
+    tell(&report, size, new_size, "changes", name);
     return new_size;
 }
 
@@ -173,14 +158,20 @@ int main(int count, char **arguments)
     const char *for_rewrites = NULL;
     uint8_t *data;
     size_t size = 0, new_size;
-    int at = 1, is_change = 0, status = 0;
+    int at = 1, is_change = 0, is_stripped = 0, status = 0;
 
     while (at < count) {
         if (is_for_rewrites(arguments[at])) {
             for_rewrites = arguments[at];
         }
         if (strcmp(arguments[at], "--exact") == 0) {
-            options.flags = TEDDERTEMPO_EXACT;
+            options.flags |= TEDDERTEMPO_EXACT;
+            at += 1;
+        } else if (strcmp(arguments[at], "--shrink") == 0) {
+            options.flags |= TEDDERTEMPO_SHRINK;
+            at += 1;
+        } else if (strcmp(arguments[at], "--strip") == 0) {
+            is_stripped = 1;
             at += 1;
         } else if (strcmp(arguments[at], "--change") == 0) {
             is_change = 1;
@@ -192,7 +183,7 @@ int main(int count, char **arguments)
         }
     }
     if (count - at != 2) {
-        fprintf(stderr, "usage: mutate [--change] [--exact] [--seed N] [--count N] [--percent N] [--function N] [--growth N] [--rule NAME].. MODULE NEW\n");
+        fprintf(stderr, "usage: mutate [--change] [--exact] [--shrink] [--seed N] [--count N] [--percent N] [--function N] [--growth N] [--rule NAME].. [--strip] MODULE NEW\n");
         return 1;
     }
     if (is_change && for_rewrites != NULL) {
@@ -205,6 +196,9 @@ int main(int count, char **arguments)
         return 1;
     }
     new_size = is_change ? change(data, size, &options) : rewrite(data, size, &options);
+    if (new_size != 0 && is_stripped) {
+        new_size = teddertempo_strip(data, new_size);
+    }
     if (new_size == 0) {
         status = 2;
     } else if (!write_file(arguments[at + 1], data, new_size)) {

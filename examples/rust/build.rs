@@ -2,7 +2,7 @@
 
 use std::env;
 use std::path::Path;
-use std::process::Command;
+use std::process::{exit, Command};
 
 /// The folders and libraries that `pkg-config` names for the linker, if they are of this crate's version.
 fn ask_pkg_config() -> Result<String, String> {
@@ -20,19 +20,25 @@ fn ask_pkg_config() -> Result<String, String> {
     }
 }
 
+/// Says why nothing is built.
+fn fail(message: &str) -> ! {
+    eprintln!("{message}");
+    exit(1)
+}
+
 fn main() {
     for variable in ["TEDDERTEMPO_LIB", "PKG_CONFIG", "PKG_CONFIG_PATH"] {
-        println!("cargo::rerun-if-env-changed={variable}");
+        println!("cargo:rerun-if-env-changed={variable}");
     }
     if let Ok(folder) = env::var("TEDDERTEMPO_LIB") {
-        println!("cargo::rerun-if-changed={folder}/libteddertempo.a");
+        println!("cargo:rerun-if-changed={folder}/libteddertempo.a");
         if !Path::new(&folder).join("libteddertempo.a").is_file() {
-            println!(
-                "cargo::error=TEDDERTEMPO_LIB is {folder}, and there is no {folder}/libteddertempo.a"
-            );
+            fail(&format!(
+                "TEDDERTEMPO_LIB is {folder}, and there is no {folder}/libteddertempo.a"
+            ));
         }
-        println!("cargo::rustc-link-search=native={folder}");
-        println!("cargo::rustc-link-lib=static=teddertempo");
+        println!("cargo:rustc-link-search=native={folder}");
+        println!("cargo:rustc-link-lib=static=teddertempo");
         return;
     }
     match ask_pkg_config() {
@@ -41,15 +47,13 @@ fn main() {
                 .split_whitespace()
                 .filter_map(|w| w.strip_prefix("-L"))
             {
-                println!("cargo::rustc-link-search=native={folder}");
+                println!("cargo:rustc-link-search=native={folder}");
             }
-            println!("cargo::rustc-link-lib=teddertempo");
+            println!("cargo:rustc-link-lib=teddertempo");
         }
-        Err(message) => {
-            println!(
-                "cargo::error=libteddertempo.a isn't found: set TEDDERTEMPO_LIB to its folder, or install \
-                 Teddertempo's package, or set PKG_CONFIG_PATH to the folder of teddertempo.pc ({message})"
-            );
-        }
+        Err(message) => fail(&format!(
+            "libteddertempo.a isn't found: set TEDDERTEMPO_LIB to its folder, or install Teddertempo's package, or set \
+             PKG_CONFIG_PATH to the folder of teddertempo.pc ({message})"
+        )),
     }
 }

@@ -1,5 +1,5 @@
 -- The code that words name of a function of a module.
-use Rattle.std.proofs.Common.{◌≡◌, ℕ, zero, suc, ◌<◌, List, [], ◌∷◌, length, Some, sym, subst, arith}
+use Rattle.std.proofs.Common.{◌≡◌, ◌≤◌, ℕ, zero, suc, ◌<◌, List, [], ◌∷◌, length, Some, sym, subst, arith}
 use Rattle.std.specs.Prelude.{get_or, slice_get, IsTrue}
 use Rattle.wasm_code.specs.Instruction.{Instruction}
 use Rattle.wasm_code.specs.declared.operator.Operator.{Operator}
@@ -8,7 +8,7 @@ use Rattle.peephole_machine.specs.Values.{context_in}
 use Rattle.body_changes.specs.Copied.{IsUnitNamed}
 use Rattle.body_changes.specs.Drawing.{AskTypesAlone}
 use Rattle.module_rewrites.specs.Function.{IsFunction}
-use Rattle.module_changes.specs.Donor.{Copies, Donor}
+use Rattle.module_changes.specs.Donor.{most_copied, Copies, Donor}
 
 pub got_inside : {X : Type 0} (xs : List X) (k : ℕ) (x : X) → slice_get xs k ≡ Some x → k < length xs
 got_inside [] zero x e = absurd cc
@@ -35,10 +35,15 @@ module _ (donor : Donor) (words : List ℕ) (n : ℕ) (locals : List PrimitiveTy
   pub none_named : ((code : List Instruction) → IsNamed code → ⊥) → (code : List Instruction) → Copies donor words n code → ⊥
   none_named never code m = never code (named_here code m)
 
-  pub not_plain : (code : List Instruction) → ((other : List Instruction) → IsNamed other → code ≡ other) →
-      ((IsTrue donor.plain → AskTypesAlone code) → ⊥) → (other : List Instruction) → Copies donor words n other → ⊥
-  not_plain code one never other m = never (λ p. subst AskTypesAlone (sym (one other (named_here other m))) (m.plain p))
+  -- it may be copied
+  abbrev pub May : List Instruction → Type 0
+  May code = (length code ≤ most_copied) × (IsTrue donor.plain → AskTypesAlone code)
+
+  pub may_not : (code : List Instruction) → ((other : List Instruction) → IsNamed other → code ≡ other) → (May code → ⊥) →
+      (other : List Instruction) → Copies donor words n other → ⊥
+  may_not code one never other m = never (subst May (sym (one other (named_here other m))) (m.few, m.plain))
 
   pub copies : (x : ℕ) → IsFunction donor.bytes donor.info donor.layout n locals x operators → (code : List Instruction) → IsNamed code →
-      (IsTrue donor.plain → AskTypesAlone code) → Copies donor words n code
-  copies x f code named plain = record { locals = locals; expression = x; operators = operators; function = f; is = named; plain = plain }
+      May code → Copies donor words n code
+  copies x f code named may =
+      record { locals = locals; expression = x; operators = operators; function = f; is = named; few = may.0; plain = may.1 }

@@ -4,4 +4,5 @@ pub mod EntryLemmas
 pub mod ChoosingLemmas
 pub mod TimesLemmas
 pub mod PlacedLemmas
+pub mod SitesLemmas
 pub mod CopyingLemmas

@@ -1,14 +1,15 @@
 -- Changes as a generator's words choose them, one after another.
-use Rattle.std.proofs.Common.{◌≡◌, ◌⊎◌, inl, inr, Bool, false, ℕ, suc, ◌+◌, ◌<◌, List, [], ◌∷◌, ◌++◌, length, Option, Some, None, Result, Ok, Err, true, refl, sym, ap, subst, ◌∙◌, arith, length-append}
+use Rattle.std.proofs.Common.{◌≡◌, ◌⊎◌, ◌↔◌, ◌≤◌, inl, inr, Bool, false, ℕ, suc, ◌+◌, ◌<◌, List, [], ◌∷◌, ◌++◌, length, Option, Some, None, Result, Ok, Err, true, refl, sym, ap, subst, ◌∙◌, arith, length-append}
 use Rattle.std.proofs.lemmas.Bool.{true≢false}
 use Rattle.std.specs.Prelude.{OnErr, OnOk, is_err}
 use Rattle.rand_core.specs.Stream.{Stream}
 use Rattle.wasm_types.specs.Module.{Module}
 use Rattle.wasm_module.specs.Module.{Layout, IsModule}
 use Rattle.module_rewrites.specs.Attempt.{RefusesIndex}
+use Rattle.module_rewrites.specs.Mutated.{IsChosen}
 use Rattle.module_rewrites.specs.declared.attempt.Reason.{Reason}
 use Rattle.module_rewrites.specs.declared.attempt.Reason.TheVariants as reasons
-use Rattle.module_changes.specs.Chosen.{draws, AreInVain, ChoosesLarge, ChoosesNothing, ChoosesOne, IsInVain}
+use Rattle.module_changes.specs.Chosen.{draws, AreInVain, ChoosesLarge, ChoosesNothing, ChoosesOne, IsInVain, SomeMayChange}
 use Rattle.module_changes.specs.Donor.{itself, Donor}
 use Rattle.module_changes.specs.Entry.{refusal_by, RefusesFrom}
 use Rattle.module_changes.specs.Scope.{words_count, Scope}
@@ -56,20 +57,32 @@ module _ (donor : Donor) (scope : Scope) (bytes : List ℕ) (info : Module) (lay
     pub nothing_more : ChoosesNothing donor scope bytes info layout words → VainSoFar (count + 1) refusal after
     nothing_more nothing = (before.0, once_more (is_large refusal) (inr (nothing, refl)))
 
-  pub gives_up : (count : ℕ) (refusal : Refusal) (after : Stream) → count ≡ draws → VainSoFar count refusal after →
+  pub gives_up : (count : ℕ) (refusal : Refusal) (after : Stream) → SomeMayChange scope.function layout → count ≡ draws → VainSoFar count refusal after →
       RefusesFrom donor scope bytes info layout s refusal
-  gives_up count refusal after all (inl e, vain) =
+  gives_up count refusal after there all (inl e, vain) =
       subst (RefusesFrom donor scope bytes info layout s) (sym e) (record {
+        there = there;
         after = after;
         vain = subst (λ (n : ℕ). AreInVain donor scope bytes info layout n false s after) all
             (subst (λ (r : Refusal). AreInVain donor scope bytes info layout count (is_large r) s after) e vain);
       })
-  gives_up count refusal after all (inr e, vain) =
+  gives_up count refusal after there all (inr e, vain) =
       subst (RefusesFrom donor scope bytes info layout s) (sym e) (record {
+        there = there;
         after = after;
         vain = subst (λ (n : ℕ). AreInVain donor scope bytes info layout n true s after) all
             (subst (λ (r : Refusal). AreInVain donor scope bytes info layout count (is_large r) s after) e vain);
       })
+
+-- one may be changed
+pub some_chosen : (only : Option ℕ) (layout : Layout) (start end : ℕ) →
+    ((n : ℕ) → ((start ≤ n) × (n < end)) ↔ ((n < length layout.entries) × IsChosen only (layout.imported_functions + n))) →
+    (only ≡ None) ⊎ (start < end) → (only ≡ None) ⊎ (layout.unknown.imports ≡ None) → SomeMayChange only layout
+some_chosen only layout start end each (inl none) known = inl none
+some_chosen only layout start end each (inr some) (inl none) = inl none
+some_chosen only layout start end each (inr some) (inr known) =
+    let own = (each start).0 (omega arith, some) in
+    inr (known, start, own.0, own.1)
 
 -- why no function may be changed
 pub refuses_index : (donor : Donor) (scope : Scope) (bytes : List ℕ) (info : Module) (layout : Layout) (s : Stream) (reason : Reason) →

@@ -1,5 +1,5 @@
 -- Which function of a module words of the generator change, and how, and which code is copied (this project).
-use Rattle.std.specs.Prelude.{◌≡◌, ◌⊎◌, Bool, true, false, ℕ, zero, suc, ◌+◌, ◌<◌, ◌≤◌, List, length, drop, get_or}
+use Rattle.std.specs.Prelude.{◌≡◌, ◌⊎◌, Bool, true, false, ℕ, zero, suc, ◌+◌, ◌<◌, ◌≤◌, List, length, drop, get_or, Option, None}
 use Rattle.rand_core.specs.Stream.{Stream}
 use Rattle.wasm_code.specs.Instruction.{Instruction}
 use Rattle.wasm_types.specs.Module.{Module}
@@ -85,8 +85,14 @@ pub record ChoosesLater (donor : Donor) (scope : Scope) (bytes : List ℕ) (info
   pub chooses : ChoosesBy donor scope bytes info layout (words_of before (words_count scope)) made new
   pub after_is : after ≡ after_words before (words_count scope)
 
--- So many times words choose nothing that can be made.
+-- a function may be changed, where one is named: indices are known, and the module has one of its own with that
+abbrev pub SomeMayChange : Option ℕ → Layout → Type 0
+SomeMayChange only layout =
+    (only ≡ None) ⊎ ((layout.unknown.imports ≡ None) × (n : ℕ) × (n < length layout.entries) × IsChosen only (layout.imported_functions + n))
+
+-- So many times words choose nothing that can be made, and that isn't for want of a function.
 pub record GivesUpOn (donor : Donor) (scope : Scope) (bytes : List ℕ) (info : Module) (layout : Layout) (large : Bool) (s : Stream) : Type 0 where
+  pub there : SomeMayChange scope.function layout
   pub after : Stream
   pub vain : AreInVain donor scope bytes info layout draws large s after
 

@@ -1,5 +1,5 @@
 -- Code that is copied: of which module, and which of its code (this project).
-use Rattle.std.specs.Prelude.{◌≡◌, ℕ, Bool, false, List, [], length, get_or, Some, slice_get, IsTrue}
+use Rattle.std.specs.Prelude.{◌≡◌, ◌≤◌, ℕ, Bool, false, List, [], length, get_or, Some, slice_get, IsTrue}
 use Rattle.wasm_code.specs.Instruction.{Instruction}
 use Rattle.wasm_code.specs.declared.operator.Operator.{Operator}
 use Rattle.wasm_types.specs.Module.{Module}
@@ -24,6 +24,10 @@ pub record Donor : Type 0 where
 abbrev pub itself : (bytes : List ℕ) → Module → Layout → Donor
 itself bytes info layout = record { bytes = bytes; info = info; layout = layout; plain = false }
 
+-- how many instructions code that is copied may have at most, since each function that is tried looks at it
+abbrev pub most_copied : ℕ
+most_copied = 100
+
 -- That is the code of the unit of an operator of the n-th code entry's function, which the fifth word names.
 pub record Copies (donor : Donor) (words : List ℕ) (n : ℕ) (code : List Instruction) : Type 0 where
   pub locals : List PrimitiveTypeInfo
@@ -31,6 +35,7 @@ pub record Copies (donor : Donor) (words : List ℕ) (n : ℕ) (code : List Inst
   pub operators : List (Operator × ℕ)
   pub function : IsFunction donor.bytes donor.info donor.layout n locals expression operators
   pub is : IsUnitNamed (context_in donor.info locals) operators (get_or words 4 0) code
+  pub few : length code ≤ most_copied
   pub plain : IsTrue donor.plain → AskTypesAlone code
 
 -- The code that may be copied, by these words: the fourth one names a code entry by its size, and of that it is the code that the fifth one names, or none

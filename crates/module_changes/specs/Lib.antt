@@ -7,5 +7,6 @@ pub mod Times
 pub mod Valid
 pub mod Spliced
 pub mod Placed
+pub mod Sites
 pub mod Entry
 pub mod Watched

@@ -1,6 +1,6 @@
 //! A module changed once, as a generator's words choose it.
 ghost use Rattle.std.specs.Prelude.{◌≡◌, ◌<◌, ◌≤◌, IfErr, IfOk};
-ghost use Rattle.module_changes.specs.Chosen.{ChoosesLater, ChoosesOne};
+ghost use Rattle.module_changes.specs.Chosen.{ChoosesLater, ChoosesOne, SomeMayChange};
 ghost use Rattle.module_changes.specs.Entry.{donor_of, refusal_by, IsReading, RefusesFrom};
 ghost use Rattle.module_changes.specs.Times.{IsRefusal};
 
@@ -36,6 +36,7 @@ fn change_read<R: Rng>(
     requires reading { IsReading reading.now }
     requires source { IsReading source.now.reading }
     requires most { (0 < scope.now.most) × (scope.now.most ≤ 1000) }
+    requires there { SomeMayChange scope.now.function reading.now.layout.now }
     ensures chosen { IfOk result (λ m. ChoosesLater (donor_of source.now) scope.now
         reading.now.bytes.now reading.now.info.now reading.now.layout.now
         (R.stream generator.old) m.made m.bytes.items (R.stream generator.new)) }
@@ -84,10 +85,10 @@ pub(crate) fn change_chosen<R: Rng>(
         reading.now.bytes.now reading.now.info.now reading.now.layout.now
         (R.stream generator.old)) }
 {
-    if let Err(reason) = chosen_entries(reading.layout, scope.function()) {
-        return Err(refusal_by(reason));
+    match chosen_entries(reading.layout, scope.function()) {
+        Ok(_) => change_read(alloc, reading, source, generator, scope),
+        Err(reason) => Err(refusal_by(reason)),
     }
-    change_read(alloc, reading, source, generator, scope)
 }
 
 /// The module with a change, by a generator that then stands behind the words that were drawn, or why there is none.

@@ -1,9 +1,9 @@
 //! The code that may be copied: which module it is of, and which of its code the words name.
-ghost use Rattle.std.specs.Prelude.{◌≡◌, ◌↔◌, ◌<◌, false, List, Some, get_or, length, slice_get, IfErr, IfNone, IfOk, IfSome, IsTrue};
+ghost use Rattle.std.specs.Prelude.{◌≡◌, ◌↔◌, ◌<◌, ◌≤◌, false, List, Some, get_or, length, slice_get, IfErr, IfNone, IfOk, IfSome, IsTrue};
 ghost use Rattle.wasm_code.specs.Instruction.{Instruction};
 ghost use Rattle.body_changes.specs.Drawing.{AskTypesAlone};
 ghost use Rattle.body_changes.specs.declared.change.Change.TheVariants.{Copy};
-ghost use Rattle.module_changes.specs.Donor.{Copies, IsCopiedBy, MayCopy};
+ghost use Rattle.module_changes.specs.Donor.{most_copied, Copies, IsCopiedBy, MayCopy};
 ghost use Rattle.module_changes.specs.Entry.{donor_of, IsReading};
 ghost use Rattle.module_changes.specs.declared.refusal.Refusal.TheVariants.{Memory};
 
@@ -13,6 +13,9 @@ use body_changes::{Change, ask_types_alone, unit_named};
 use module_rewrites::read_function;
 use std::alloc::Global;
 use wasm_code::Instr;
+
+// How many instructions code that is copied may have at most, since each function that is tried looks at it.
+const MOST_COPIED: usize = 100;
 
 /// A module of which code is copied.
 #[derive(Clone, Copy)]
@@ -31,8 +34,12 @@ fn word_at(words: &[u64], index: usize) -> u64
 
 // Whether the code may be copied.
 fn may_be_copied(plain: bool, code: &[Instr]) -> bool
-    ensures { IsTrue result ↔ (IsTrue plain → AskTypesAlone code.now) }
+    ensures { IsTrue result ↔ ((length code.now ≤ most_copied)
+        × (IsTrue plain → AskTypesAlone code.now)) }
 {
+    if code.len() > MOST_COPIED {
+        return false;
+    }
     if plain { ask_types_alone(code) } else { true }
 }
 

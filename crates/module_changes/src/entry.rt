@@ -16,6 +16,7 @@ ghost use Rattle.module_changes.specs.declared.refusal.Refusal.TheVariants.{Memo
 
 use crate::refusal::Refusal;
 use crate::scope::Scope;
+use crate::sites::Site;
 use body_changes::{
     Body, Change, Changed, Source, change_of_words, copied_into, replace_code, units_of,
 };
@@ -39,6 +40,21 @@ pub struct MadeChange {
     pub operator: usize,
     /// The operator with which that began.
     pub start: usize,
+}
+
+impl MadeChange {
+    ghost use Rattle.std.specs.Prelude.{◌≡◌};
+    ghost use Rattle.module_changes.specs.Sites.{site_of};
+
+    /// The operator and the change.
+    pub fn site(&self) -> Site
+        ensures { result ≡ site_of self.now }
+    {
+        Site {
+            operator: self.operator,
+            change: self.change,
+        }
+    }
 }
 
 /// A module, and what was read of it.

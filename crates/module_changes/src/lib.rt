@@ -10,6 +10,7 @@ pub mod laws;
 mod placed;
 mod refusal;
 mod scope;
+mod sites;
 mod splicing;
 #[cfg(test)]
 mod tests;
@@ -21,6 +22,7 @@ pub use entry::MadeChange;
 pub use placed::{ChangeAt, change_at};
 pub use refusal::Refusal;
 pub use scope::Scope;
+pub use sites::{Site, sites_of};
 pub use splicing::{SpliceRefusal, SplicedModule, splice_module};
 pub use times::{ChangedModule, change_module};
 pub use watch::{Unwatched, Watch};

@@ -1,13 +1,13 @@
 //! Small modules changed, each written by hand.
 
 use crate::{
-    ChangeAt, ChangedModule, Refusal, Scope, SpliceRefusal, Unwatched, change_at, change_module,
-    splice_module,
+    ChangeAt, ChangedModule, Refusal, Scope, Site, SpliceRefusal, Unwatched, change_at,
+    change_module, sites_of, splice_module,
 };
 use body_changes::{CHANGES, Change};
 use given_words::Words;
 use std::test::Fail;
-use wasm_module::{ModuleError, ModuleFault};
+use wasm_module::{ModuleError, ModuleFault, read_module};
 
 /// A function that gives an i32: `i32.const 5; end`
 const FIVE: &[u8] =
@@ -236,5 +236,33 @@ fn changes_operators_that_are_named(rt: HostRuntime) -> Result<(), Fail> {
         end: 5,
     };
     assert!(rt; change_at(rt.alloc(), DROPS, at, DROPS.len()).err() == Some(Refusal::TooLarge));
+    Ok(())
+}
+
+#[test]
+fn lists_sites(rt: HostRuntime) -> Result<(), Fail> {
+    let alloc = rt.alloc();
+    let Ok(module) = read_module(alloc, DROPS) else {
+        return Err("no module".into());
+    };
+    assert!(rt; module.layout.entries.len() == 1);
+    let sites = sites_of(alloc, DROPS, &module, 0, &[Change::Delete, Change::Draw])?;
+    let wanted = [
+        (0, Change::Draw),
+        (1, Change::Delete),
+        (2, Change::Draw),
+        (3, Change::Delete),
+        (4, Change::Delete),
+    ];
+    assert!(rt; sites.len() == wanted.len());
+    for (site, (operator, change)) in sites.iter().zip(&wanted) {
+        assert!(rt;
+            *site
+                == Site {
+                    operator: *operator,
+                    change: *change
+                }
+        );
+    }
     Ok(())
 }

@@ -32,7 +32,7 @@ use Rattle.module_commands.specs.declared.failure.Failure.TheVariants.{Nothing, 
 use Rattle.module_commands.specs.declared.form.Form.{Form}
 use Rattle.module_commands.specs.declared.options.Options.{Options}
 use Rattle.module_commands.specs.declared.options.Task.{Task}
-use Rattle.module_commands.specs.declared.options.Task.TheVariants.{Rewrite, Change, List as Lists, Blocks, Rules, Changes}
+use Rattle.module_commands.specs.declared.options.Task.TheVariants.{Rewrite, Change, List as Lists, Sites, Blocks, Rules, Changes}
 use Rattle.module_commands.proofs.TurnLemmas.{appends_more}
 
 abbrev Types : Type 0
@@ -130,24 +130,28 @@ task_fails task options bytes Input none h = tt
 task_fails Rewrite options bytes TooLong none h = absurd h
 task_fails Change options bytes TooLong none h = absurd h
 task_fails Lists options bytes TooLong none h = absurd h
+task_fails Sites options bytes TooLong none h = absurd h
 task_fails Blocks options bytes TooLong none h = absurd h
 task_fails (Rules form) options bytes TooLong none h = absurd h
 task_fails Changes options bytes TooLong none h = absurd h
 task_fails Rewrite options bytes Component none h = absurd h
 task_fails Change options bytes Component none h = absurd h
 task_fails Lists options bytes Component none h = absurd h
+task_fails Sites options bytes Component none h = absurd h
 task_fails Blocks options bytes Component none h = absurd h
 task_fails (Rules form) options bytes Component none h = absurd h
 task_fails Changes options bytes Component none h = absurd h
 task_fails Rewrite options bytes TextFormat none h = absurd h
 task_fails Change options bytes TextFormat none h = absurd h
 task_fails Lists options bytes TextFormat none h = absurd h
+task_fails Sites options bytes TextFormat none h = absurd h
 task_fails Blocks options bytes TextFormat none h = absurd h
 task_fails (Rules form) options bytes TextFormat none h = absurd h
 task_fails Changes options bytes TextFormat none h = absurd h
 task_fails Rewrite options bytes SharedMemory none h = absurd h
 task_fails Change options bytes SharedMemory none h = absurd h
 task_fails Lists options bytes SharedMemory none h = absurd h
+task_fails Sites options bytes SharedMemory none h = absurd h
 task_fails Blocks options bytes SharedMemory none h = absurd h
 task_fails (Rules form) options bytes SharedMemory none h = absurd h
 task_fails Changes options bytes SharedMemory none h = absurd h

@@ -1,10 +1,9 @@
 -- A module that a run changes: what it writes, and what it tells of that (this project).
 use Rattle.std.specs.Prelude.{◌≡◌, ℕ, List, [], ◌∷◌, ◌++◌, length, Bool, true, false, ◌&&◌, codes, Option, Some, None, is_none, option_map, if◌then◌else◌}
 use Rattle.std.specs.Io.KnownBytes.{Appends}
-use Rattle.serde_json.specs.Data.{Data, no_members, object}
-use Rattle.body_changes.specs.Change.{change_name}
 use Rattle.wasm_sections.specs.Fault.{fault_name}
 use Rattle.module_changes.specs.Placed.{ChangesAt}
+use Rattle.module_changes.specs.Sites.{site_of}
 use Rattle.module_changes.specs.Times.{ChangesTimes}
 use Rattle.module_changes.specs.Valid.{StaysValidModule}
 use Rattle.module_changes.specs.declared.entry.MadeChange.{MadeChange}
@@ -17,9 +16,10 @@ use Rattle.module_rewrites.specs.Seeded.{seeded}
 use Rattle.module_showing.specs.Changed.{change_line as first_line}
 use Rattle.module_commands.specs.Ending.{is_memory_fault}
 use Rattle.module_commands.specs.Form.{form_of}
-use Rattle.module_commands.specs.Lines.{json_line, left_aligned, sizes_line, stopped_part, with_number, with_text}
+use Rattle.module_commands.specs.Lines.{sizes_line, stopped_part}
 use Rattle.module_commands.specs.Reports.{ReportsModule}
 use Rattle.module_commands.specs.Scope.{change_scope_of}
+use Rattle.module_commands.specs.Sites.{site_line}
 use Rattle.module_commands.specs.Writes.{IsWrittenAs}
 use Rattle.module_commands.specs.declared.changing.ChangeShower.{ChangeShower}
 use Rattle.module_commands.specs.declared.ending.Ending.{Ending}
@@ -27,7 +27,6 @@ use Rattle.module_commands.specs.declared.ending.Ending.TheVariants.{OutOfMemory
 use Rattle.module_commands.specs.declared.failure.Failure.{Failure}
 use Rattle.module_commands.specs.declared.failure.Failure.TheVariants.{Unchanged, Memory as NoMemory}
 use Rattle.module_commands.specs.declared.form.Form.{Form}
-use Rattle.module_commands.specs.declared.form.Form.TheVariants.{Json, Text}
 use Rattle.module_commands.specs.declared.options.Options.{Options}
 
 -- ---- what is written
@@ -66,22 +65,9 @@ pub record WritesChanged (options : Options) (bytes : List ℕ) (ending : Ending
 
 -- ---- what is told
 
--- the function, the operator with which the code ended that was replaced, and the change
-abbrev pub change_text : MadeChange → List ℕ
-change_text made =
-    codes "function " ++ (left_aligned 6 made.function ++ (codes " operator " ++ (left_aligned 6 made.operator
-    ++ (codes " change " ++ (change_name made.change ++ codes "\n")))))
-
--- the same three as an object
-abbrev pub change_object : MadeChange → Data
-change_object made =
-    object (with_text (codes "change") (change_name made.change) (with_number (codes "function") made.function
-    (with_number (codes "operator") made.operator no_members)))
-
--- one change, in the form that was asked for
+-- the function, the operator with which the code ended that was replaced, and the change, in the form that was asked for
 abbrev pub change_line : Form → MadeChange → List ℕ
-change_line Text made = change_text made
-change_line Json made = json_line (change_object made)
+change_line form made = site_line form made.function (site_of made)
 
 -- a line for each change, in the order in which they were made
 abbrev pub change_lines : Form → List MadeChange → List ℕ

@@ -23,7 +23,7 @@ use Rattle.module_commands.specs.declared.failure.Failure.{Failure}
 use Rattle.module_commands.specs.declared.failure.Failure.TheVariants.{Nothing, Unchanged, Input, TooLong, Component, TextFormat, SharedMemory, Output, Memory}
 use Rattle.module_commands.specs.declared.options.Options.{Options}
 use Rattle.module_commands.specs.declared.options.Task.{Task}
-use Rattle.module_commands.specs.declared.options.Task.TheVariants.{Rewrite, Change, List as Lists, Blocks, Rules, Changes}
+use Rattle.module_commands.specs.declared.options.Task.TheVariants.{Rewrite, Change, List as Lists, Sites, Blocks, Rules, Changes}
 
 -- threads share one of the memories
 abbrev pub is_any_shared : List MemoryType → Bool
@@ -117,6 +117,7 @@ abbrev pub FailsAtTask : Task → Options → (bytes : List ℕ) → Failure →
 FailsAtTask Rewrite options bytes e = FailsToRewrite options bytes e
 FailsAtTask Change options bytes e = FailsToChange options bytes e
 FailsAtTask Lists options bytes e = FailsToList options.function bytes e
+FailsAtTask Sites options bytes e = FailsToList options.function bytes e
 FailsAtTask Blocks options bytes e = FailsToList options.function bytes e
 FailsAtTask (Rules form) options bytes e = FailsToReport e
 FailsAtTask Changes options bytes e = FailsToReport e

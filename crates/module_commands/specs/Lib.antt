@@ -15,5 +15,6 @@ pub mod Reports
 pub mod Rules
 pub mod Scope
 pub mod Shown
+pub mod Sites
 pub mod Status
 pub mod Writes

@@ -26,7 +26,7 @@ use Rattle.module_commands.specs.declared.options.Misuse.{Misuse}
 use Rattle.module_commands.specs.declared.options.Misuse.TheVariants.{Conflict, Ignored, NothingToTell, Plus, NoSeed, NoCount, NoForm, UnknownRule, UnknownChange, Unplaced, Memory}
 use Rattle.module_commands.specs.declared.options.Options.{Options}
 use Rattle.module_commands.specs.declared.options.Task.{Task}
-use Rattle.module_commands.specs.declared.options.Task.TheVariants.{Rewrite, Change as Changed, List as Lists, Blocks, Rules, Changes}
+use Rattle.module_commands.specs.declared.options.Task.TheVariants.{Rewrite, Change as Changed, List as Lists, Sites, Blocks, Rules, Changes}
 use Rattle.rule_listing.specs.declared.form.Form.{Form}
 use Rattle.rule_listing.specs.declared.form.Form.TheVariants.{Text as AsText, Json, Markdown}
 
@@ -65,10 +65,14 @@ flags_of rows = record {
   quiet = is_set (codes "quiet") rows;
 }
 
+-- what it lists of a module: the rewrites that there are, or where it is to be changed, the sites
+abbrev pub list_task : Flags → Task
+list_task flags = if flags.change then Sites else Lists
+
 -- what the program does, but for the list of the rules: where neither a list nor changes are asked for, it rewrites
 abbrev pub module_task : Flags → Task
 module_task flags =
-    if flags.list then Lists else if flags.blocks then Blocks else if flags.changes then Changes else if flags.change then Changed else Rewrite
+    if flags.list then list_task flags else if flags.blocks then Blocks else if flags.changes then Changes else if flags.change then Changed else Rewrite
 
 -- the form with that name
 abbrev pub form_named : Text → Option Form
@@ -82,12 +86,12 @@ task_of flags None = Some (module_task flags)
 task_of flags (Some name) = option_map Rules (form_named name)
 
 -- they ask for two tasks, for something of a module that is written where none is, for the rules' reach where it is changed, or name operators where it isn't,
--- or what is shown of them
+-- where sites are listed, or where they are to be shown
 abbrev pub exclude : Flags → Bool
 exclude flags =
     (flags.list && flags.blocks) || (flags.rules && flags.changes) || ((flags.rules || flags.changes) && (flags.list || flags.blocks))
-    || (flags.change && (flags.list || flags.blocks || flags.rules || flags.changes || flags.reach))
-    || (flags.placed && (not flags.change || flags.show))
+    || (flags.change && (flags.blocks || flags.rules || flags.changes || flags.reach))
+    || (flags.placed && (not flags.change || flags.list || flags.show))
     || ((flags.stats || flags.reach || flags.show || flags.strip_debug) && (flags.list || flags.blocks || flags.rules || flags.changes))
 
 -- they ask for JSON, and for nothing that is written in it

@@ -172,7 +172,7 @@ fn list_argument<'a>(alloc: Global) -> Arg<'a>
     flag_argument(
         alloc,
         "list",
-        "Writes no module, but a line for each rewrite that there is",
+        "Writes no module, but a line for each rewrite that there is; with --change for each change of an operator",
     )
 }
 
@@ -290,7 +290,8 @@ Exit status:
 Examples:
   teddertempo module.wasm -o rewritten.wasm --seed 7 --count 20
   teddertempo --list --rule fold < module.wasm
-  teddertempo --change module.wasm -o changed.wasm --seed 7 --count 3 --show";
+  teddertempo --change module.wasm -o changed.wasm --seed 7 --count 3 --show
+  teddertempo --change=delete --list module.wasm";
 
 /// The command line, with the names of the rules.
 pub fn command<'a>(alloc: Global, names: &'a [&'a str]) -> Result<Command<'a>, AllocError>

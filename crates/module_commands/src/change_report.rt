@@ -1,65 +1,17 @@
 //! What a run reports of a module that was changed.
-ghost use Rattle.std.specs.Prelude.{◌≡◌, List, ℕ, option_map, IfErr, IfOk, OnOk};
+ghost use Rattle.std.specs.Prelude.{◌≡◌, option_map, IfErr, IfOk, OnOk};
 ghost use Rattle.std.specs.Io.KnownBytes.{Appends};
-ghost use Rattle.serde_json.specs.View.{view};
-ghost use Rattle.module_commands.specs.Changing.{change_line, change_lines, change_object, change_text, changes_report, refusal_name};
+ghost use Rattle.module_commands.specs.Changing.{change_lines, changes_report, refusal_name};
 ghost use Rattle.module_commands.specs.Failures.{FailsToReport};
 ghost use Rattle.module_commands.specs.declared.failure.Failure.TheVariants.{Memory};
 
 use crate::failure::Failure;
 use crate::form::Form;
-use crate::objects::write_value;
+use crate::sites::write_site;
 use crate::stats::{write_sizes, write_stopped};
 use module_changes::{ChangedModule, MadeChange, Refusal};
-use serde_json::{Value, json};
-use std::alloc::{AllocError, Global};
+use std::alloc::Global;
 use std::io::Write;
-
-// Writes the text of a change.
-fn write_text<W: Write>(notes: &mut W, made: &MadeChange) -> Result<(), Failure>
-    ensures line { OnOk result (Appends (W.contents notes.old) (W.contents notes.new)
-        (change_text made.now)) }
-    ensures fails { IfErr result FailsToReport }
-{
-    let function = made.function;
-    let operator = made.operator;
-    let change = made.change.name();
-    writeln!(
-        notes,
-        "function {function:<6} operator {operator:<6} change {change}"
-    )?;
-    Ok(())
-}
-
-// The object of a change.
-fn value_of(alloc: Global, made: &MadeChange) -> Result<Value, AllocError>
-    ensures { IfOk result (λ v. view v ≡ change_object made.now) }
-{
-    let function = made.function;
-    let operator = made.operator;
-    let change = made.change.name();
-    json!(in alloc; {"change": change, "function": function, "operator": operator})
-}
-
-// Writes the line of a change.
-fn write_change<W: Write>(
-    alloc: Global,
-    notes: &mut W,
-    form: Form,
-    made: &MadeChange,
-) -> Result<(), Failure>
-    ensures line { OnOk result (Appends (W.contents notes.old) (W.contents notes.new)
-        (change_line form made.now)) }
-    ensures fails { IfErr result FailsToReport }
-{
-    match form {
-        Form::Text => write_text(notes, made),
-        Form::Json => {
-            let value = value_of(alloc, made)?;
-            write_value(alloc, notes, &value)
-        }
-    }
-}
 
 // Writes the lines of the changes that were made.
 fn write_made<W: Write>(
@@ -73,7 +25,7 @@ fn write_made<W: Write>(
     ensures fails { IfErr result FailsToReport }
 {
     for one in made {
-        write_change(alloc, notes, form, one)?;
+        write_site(alloc, notes, form, one.function, one.site())?;
     }
     Ok(())
 }

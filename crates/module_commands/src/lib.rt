@@ -27,6 +27,7 @@ mod rules;
 mod running;
 mod sharing;
 mod showing;
+mod sites;
 mod stats;
 mod words;
 mod writing;

@@ -18,6 +18,8 @@ pub enum Task {
     Change,
     /// Lists the rewrites that there are.
     List,
+    /// Lists the sites: the operators of which changes make anything.
+    Sites,
     /// Lists the blocks of its functions.
     Blocks,
     /// Lists the rules, in the form. No module is read.
@@ -36,7 +38,7 @@ impl Task {
     {
         match self {
             Task::Rewrite | Task::Change => true,
-            Task::List | Task::Blocks | Task::Rules(_) | Task::Changes => false,
+            Task::List | Task::Sites | Task::Blocks | Task::Rules(_) | Task::Changes => false,
         }
     }
 }

@@ -1,6 +1,6 @@
 //! A run: a module in, or none where rules or changes are listed, and out goes what the options ask for.
-ghost use Rattle.std.specs.Prelude.{◌≡◌, ◌≢◌, ℕ, List, true, false, OnOk, IfErr, IfOk, IfSome, IsErrOf, IsTrue};
-ghost use Rattle.std.specs.Io.KnownBytes.{Appends, Consumes, IsAtEnd};
+ghost use Rattle.std.specs.Prelude.{◌≡◌, ◌≢◌, List, true, false, OnOk, IfErr, IfOk, IfSome, IsErrOf, IsTrue};
+ghost use Rattle.std.specs.Io.KnownBytes.{Consumes, IsAtEnd};
 ghost use Rattle.module_commands.specs.Blocks.{WritesBlocks};
 ghost use Rattle.module_commands.specs.Changes.{WritesChanges};
 ghost use Rattle.module_commands.specs.Changing.{TellsChanged, WritesChanged};
@@ -12,6 +12,7 @@ ghost use Rattle.module_commands.specs.Reports.{ReportsMutated};
 ghost use Rattle.module_commands.specs.Rules.{WritesRules};
 ghost use Rattle.module_commands.specs.Scope.{scope_of};
 ghost use Rattle.module_commands.specs.Shown.{ShowsMutated};
+ghost use Rattle.module_commands.specs.Sites.{WritesSites};
 ghost use Rattle.module_commands.specs.Writes.{WritesMutated};
 ghost use Rattle.rule_listing.specs.declared.form.Form.{Form as RulesForm};
 
@@ -28,6 +29,7 @@ use crate::options::{Options, Task};
 use crate::reporting::report_module;
 use crate::rules::list_rules;
 use crate::sharing::check_exact;
+use crate::sites::list_sites;
 use crate::stats::rewrites_report;
 use crate::writing::{show, write_bytes};
 use device_tally::Tally;
@@ -167,6 +169,11 @@ pub fn run<R: Read, W: Write, E: Write, P: Watch + Drop>(
     ensures listed { options.now.task ≡ Task.List → OnOk result
         (IfSome (R.remaining input.old.device) (λ bytes. WritesList (form_of options.now)
         (scope_of options.now) bytes (W.contents output.old) (W.contents output.new))) }
+    // So has one of sites, for each operator and each of the changes that makes anything of it.
+    ensures sites { options.now.task ≡ Task.Sites → OnOk result
+        (IfSome (R.remaining input.old.device) (λ bytes. WritesSites (form_of options.now)
+        options.now.changes.items options.now.function bytes (W.contents output.old)
+        (W.contents output.new))) }
     // The blocks have a line each, of the functions that are looked at.
     ensures blocks { options.now.task ≡ Task.Blocks → OnOk result
         (IfSome (R.remaining input.old.device) (λ bytes. WritesBlocks (form_of options.now)
@@ -235,6 +242,12 @@ pub fn run<R: Read, W: Write, E: Write, P: Watch + Drop>(
         Task::List => {
             let bytes = take_module(alloc, options.exact, input)?;
             list_rewrites(alloc, &bytes, options, output)?;
+            output.flush()?;
+            Ok(Ending::Whole)
+        }
+        Task::Sites => {
+            let bytes = take_module(alloc, options.exact, input)?;
+            list_sites(alloc, &bytes, options, output)?;
             output.flush()?;
             Ok(Ending::Whole)
         }

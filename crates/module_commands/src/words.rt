@@ -58,12 +58,23 @@ fn flags_of(matches: &ArgMatches<'_>) -> Flags
     }
 }
 
+// What the program lists of a module.
+fn list_task(flags: Flags) -> Task
+    ensures { result ≡ options.list_task flags }
+{
+    if flags.change {
+        Task::Sites
+    } else {
+        Task::List
+    }
+}
+
 // What the program does, but for the list of the rules.
 fn module_task(flags: Flags) -> Task
     ensures { result ≡ options.module_task flags }
 {
     if flags.list {
-        Task::List
+        list_task(flags)
     } else if flags.blocks {
         Task::Blocks
     } else if flags.changes {
@@ -76,7 +87,7 @@ fn module_task(flags: Flags) -> Task
 }
 
 // Whether the flags ask for two tasks, for something of a module that is written where none is, or for the rules' reach where it is
-// changed.
+// changed, or name operators where none are changed.
 fn exclude(flags: Flags) -> bool
     ensures { result ≡ options.exclude flags }
 {
@@ -86,8 +97,8 @@ fn exclude(flags: Flags) -> bool
     (flags.list && flags.blocks)
         || (flags.rules && flags.changes)
         || (unread && lists)
-        || (flags.change && (lists || unread || flags.reach))
-        || (flags.placed && (!flags.change || flags.show))
+        || (flags.change && (flags.blocks || unread || flags.reach))
+        || (flags.placed && (!flags.change || flags.list || flags.show))
         || (of_module && (lists || unread))
 }
 

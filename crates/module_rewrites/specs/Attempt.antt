@@ -14,9 +14,10 @@ use Rattle.module_rewrites.specs.declared.attempt.Reason.TheVariants.{NoRule, No
 
 -- ---- the functions that may be rewritten
 
--- the module has none of its own with the index that is named
+-- the module has none of its own with the index that is named, where indices are known
 pub record LacksFunction (layout : Layout) (only : Option ℕ) (function : ℕ) : Type 0 where
   pub named : only ≡ Some function
+  pub known : layout.unknown.imports ≡ None
   pub none : (n : ℕ) → n < length layout.entries → layout.imported_functions + n ≢ function
 
 -- one is named, and an import isn't known, so that no function's index is

@@ -69,6 +69,7 @@ pub fn chosen_entries(layout: &Layout, only: Option<usize>) -> Result<Range<usiz
     ensures chosen { IfOk result (λ r. (n : ℕ) → ((r.start ≤ n) × (n < r.end))
         ↔ ((n < length layout.now.entries) × IsChosen only (layout.now.imported_functions + n))) }
     ensures named { IfOk result (λ r. (only ≡ None) ⊎ (r.start < r.end)) }
+    ensures known { IfOk result (λ _. (only ≡ None) ⊎ (layout.now.unknown.imports ≡ None)) }
     ensures refused { IfErr result (RefusesIndex layout.now only) }
 {
     let count = layout.entries.len();

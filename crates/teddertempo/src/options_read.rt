@@ -131,7 +131,12 @@ a.wasm --list-rules | ArgumentConflict
 --change=delete --function 2 --from +3 | ValueValidation
 --change=delete --function 2 --to x | ValueValidation
 --change --change | ArgumentConflict
---change --list | ArgumentConflict
+--change --list | Sites 0 1 None all
+--list --json --change=delete --function 2 | Sites 0 1 Some(2) json delete all
+--change --list --seed 1 | ArgumentConflict
+--change --list --max-size 9 | ArgumentConflict
+--change --list --stats | ArgumentConflict
+--change=delete --list --function 2 --from 3 | ArgumentConflict
 --change --blocks | ArgumentConflict
 --change --list-rules | ArgumentConflict
 --change --list-changes | ArgumentConflict

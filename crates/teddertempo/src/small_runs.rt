@@ -444,6 +444,21 @@ const RUNS: &str = r#"
 
 --change | COMPONENT | Err(Component)
 
+--change --list | SUM | Ok(Whole)
+> function 0      operator 0      change draw
+> function 0      operator 1      change local
+> function 0      operator 1      change draw
+> function 0      operator 2      change operator
+> function 0      operator 2      change draw
+> function 0      operator 2      change first_operand
+> function 0      operator 2      change last_operand
+> function 0      operator 2      change exchange_operands
+
+--change=delete --list --json | DROPPED | Ok(Whole)
+> {"change":"delete","function":0,"operator":1}
+
+--change --list --function 1 | SUM | Err(Nothing(NoFunction(1)))
+
 --list-changes | SUM | Ok(Whole)
 > constant: a constant becomes another one of its type
 > operator: an operator becomes another one of the same types

@@ -1,5 +1,5 @@
 -- A module rewritten as is asked for, and what options ask for.
-use Rattle.std.proofs.Common.{◌≡◌, ℕ, Bool, ◌+◌, List, false, Option, None, Result, Ok, Err, ap, ◌∙◌, arith}
+use Rattle.std.proofs.Common.{◌≡◌, ℕ, Bool, ◌+◌, List, false, Option, None, Result, Ok, Err, ap, arith}
 use Rattle.std.specs.Prelude.{IfOk, IfErr}
 use Rattle.std.proofs.Math.Nat.{min-le_left}
 use Rattle.rewrite_rules.specs.declared.rule.Rule.{Rule}
@@ -15,7 +15,7 @@ use Rattle.module_rewrites.specs.declared.attempt.Reason.TheVariants.{NoRule, No
 use Rattle.module_rewrites.specs.declared.dose.Dose.{Dose}
 use Rattle.module_rewrites.specs.declared.dose.Dose.TheVariants.{Times}
 use Rattle.module_rewrites.specs.declared.times.RewrittenModule.{RewrittenModule}
-use Rattle.teddertempo_c.specs.Options.{rules_of, function_of, dose_of, most_of, exact_of}
+use Rattle.teddertempo_c.specs.Options.{rules_of, function_of, dose_of, most_of, is_exact, shrinks}
 use Rattle.teddertempo_c.specs.Reports.{asked_of}
 use Rattle.teddertempo_c.specs.Rules.{every_rule}
 use Rattle.teddertempo_c.specs.Writes.{Asked, Fits, IsRefusedFor, IsRewrittenBy, once}
@@ -72,21 +72,17 @@ once_same seed rules room e = ap (λ r. once_with seed r room) e
 
 -- ---- by options
 
-abbrev pub asked_with : Options → List Rule → Option ℕ → (most : ℕ) → Dose → Bool → Asked
-asked_with options rules function most dose exact = record {
+abbrev pub asked_with : Options → List Rule → Option ℕ → (most : ℕ) → Dose → (shrinking exact : Bool) → Asked
+asked_with options rules function most dose shrinking exact = record {
   seed = options.seed;
-  scope = record { rules = rules; function = function; most = most; shrinking = false; exact = exact };
+  scope = record { rules = rules; function = function; most = most; shrinking = shrinking; exact = exact };
   dose = dose;
 }
 
-pub asked_same : (options : Options) (size room : ℕ) (rules : List Rule) (function : Option ℕ) (most : ℕ) (dose : Dose) (exact : Bool) →
-    rules ≡ rules_of options → function ≡ function_of options → most ≡ most_of options size room → dose ≡ dose_of options →
-    exact ≡ exact_of options → asked_with options rules function most dose exact ≡ asked_of options size room
-asked_same options size room rules function most dose exact a b c d e =
-    ap (λ r. asked_with options r function most dose exact) a ∙ ap (λ f. asked_with options (rules_of options) f most dose exact) b
-    ∙ ap (λ m. asked_with options (rules_of options) (function_of options) m dose exact) c
-    ∙ ap (λ n. asked_with options (rules_of options) (function_of options) (most_of options size room) n exact) d
-    ∙ ap (λ x. asked_with options (rules_of options) (function_of options) (most_of options size room) (dose_of options) x) e
+pub asked_same : (options : Options) (size room : ℕ) (rules : List Rule) (function : Option ℕ) (most : ℕ) (dose : Dose)
+    (shrinking exact : Bool) → rules ≡ rules_of options → function ≡ function_of options → most ≡ most_of options size room → dose ≡ dose_of options →
+    shrinking ≡ shrinks options → exact ≡ is_exact options → asked_with options rules function most dose shrinking exact ≡ asked_of options size room
+asked_same options size room rules function most dose shrinking exact a b c d e f = cc
 
 pub fits_room : (options : Options) (size room : ℕ) (r : Result RewrittenModule Reason) →
     IfOk r (λ m. Fits (most_of options size room) m.made.items m.bytes.items) → IfOk r (λ m. Fits room m.made.items m.bytes.items)

@@ -12,18 +12,19 @@ use Rattle.module_changes.specs.declared.entry.MadeChange.{MadeChange}
 use Rattle.module_rewrites.specs.Seeded.{seeded}
 use Rattle.module_rewrites.specs.declared.attempt.Reason.TheVariants as reasons
 use Rattle.teddertempo_c.specs.ChangeOptions.{AreBad, count_of, scope_of}
-use Rattle.teddertempo_c.specs.ChangeReports.{ChangesWith, IsAttempt, IsChangedAs, IsNone, IsOutcome, IsWhy, TellsChanges, offset_by, outcome_by}
+use Rattle.teddertempo_c.specs.ChangeReports.{ChangesWith, IsAttempt, IsChangedAs, IsOutcome, IsChangedSo, IsOutcomeFor, TellsChanges, offset_by, outcome_by}
 use Rattle.teddertempo_c.specs.Changes.{HasSize}
 use Rattle.teddertempo_c.specs.Outcome.{outcome_number}
-use Rattle.teddertempo_c.specs.Reports.{TellsNone}
+use Rattle.teddertempo_c.specs.Reported.{IsNone, TellsNone}
 use Rattle.teddertempo_c.specs.Writes.{IsPut}
 use Rattle.teddertempo_c.specs.declared.change_options.ChangeOptions.{ChangeOptions}
 use Rattle.teddertempo_c.specs.declared.outcome.Outcome.{Outcome}
-use Rattle.teddertempo_c.specs.declared.outcome.Outcome.TheVariants.{Rewritten, NotAModule, LinkableObject, Unreadable, NoRule, NoFunction, TooLarge, NoMemory, BadOptions}
+use Rattle.teddertempo_c.specs.declared.outcome.Outcome.TheVariants.{NoMemory, BadOptions}
 use Rattle.teddertempo_c.specs.declared.report.Report.{Report}
 use Rattle.teddertempo_c.proofs.ChangesLemmas.{size_of_all}
 use Rattle.teddertempo_c.proofs.OutcomeLemmas.{by_fault}
-use Rattle.teddertempo_c.proofs.WritesLemmas.{front_is, writes_front, writes_nothing}
+use Rattle.teddertempo_c.proofs.ReportedLemmas.{none_bad as none_for_bad, none_for, reports_done, reports_none}
+use Rattle.teddertempo_c.proofs.WritesLemmas.{front_is}
 
 -- ---- a new module's size
 
@@ -48,26 +49,16 @@ module _ (scope : Scope) (bytes : List ℕ) (s : Stream) where
 -- ---- an attempt
 
 module _ (options : ChangeOptions) (report_size size : ℕ) (buffer : List ℕ) where
-  why_of : (offset : ℕ) (outcome : Outcome) →
-      IsOutcome (scope_of options size (length buffer)) (take size buffer) (seeded options.seed) offset outcome →
-      IsWhy options report_size size buffer offset outcome
-  why_of offset Rewritten h = h
-  why_of offset NotAModule h = h
-  why_of offset LinkableObject h = h
-  why_of offset Unreadable h = h
-  why_of offset NoRule h = h
-  why_of offset NoFunction h = h
-  why_of offset TooLarge h = h
-  why_of offset NoMemory h = h
-  why_of offset BadOptions h = absurd h
+  abbrev Bad : Type 0
+  Bad = AreBad options report_size size (length buffer)
 
-  inside_of : ¬ (AreBad options report_size size (length buffer)) → size ≤ length buffer
+  inside_of : ¬ Bad → size ≤ length buffer
   inside_of good = elim (cases_lt (length buffer) size) [ inl outside ↦ absurd (good (inr (inl outside))) | inr inside ↦ inside ]
 
   sized : size ≤ length buffer → length (take size buffer) ≡ size
   sized inside = length-take-le size buffer inside
 
-  pub attempt_so : (made : List MadeChange) (new : List ℕ) → ¬ (AreBad options report_size size (length buffer)) →
+  pub attempt_so : (made : List MadeChange) (new : List ℕ) → ¬ Bad →
       IsChangedAs options (length (take size buffer)) (length buffer) (take size buffer) made new →
       IsAttempt options report_size size buffer made new
   attempt_so made new good is =
@@ -79,32 +70,21 @@ module _ (options : ChangeOptions) (report_size size : ℕ) (buffer : List ℕ) 
         fits = size_so options size (length buffer) (take size buffer) made new there;
       }
 
-  pub none_so : (refusal : Refusal) (outcome : Outcome) (offset : ℕ) → ¬ (AreBad options report_size size (length buffer)) →
+  pub none_so : (refusal : Refusal) (outcome : Outcome) (offset : ℕ) → ¬ Bad →
       IsRefusal (scope_of options (length (take size buffer)) (length buffer)) (take size buffer) (seeded options.seed) refusal →
-      outcome ≡ outcome_by refusal → offset ≡ offset_by refusal → IsNone options report_size size buffer outcome offset
+      outcome ≡ outcome_by refusal → offset ≡ offset_by refusal → IsNone (IsOutcomeFor options size buffer) Bad outcome offset
   none_so refusal outcome offset good is same place =
-      let why = why_of (offset_by refusal) (outcome_by refusal)
+      none_for (IsOutcomeFor options size buffer) Bad (λ n h. h) outcome (outcome_by refusal) offset (offset_by refusal) good
       (by_refusal (scope_of options size (length buffer)) (take size buffer) (seeded options.seed) refusal
-      (subst (λ (n : ℕ). IsRefusal (scope_of options n (length buffer)) (take size buffer) (seeded options.seed) refusal) (sized (inside_of good)) is)) in
-      let there = subst (λ (o : Outcome). IsWhy options report_size size buffer (offset_by refusal) o) (sym same) why in
-      record {
-        why = subst (λ (n : ℕ). IsWhy options report_size size buffer n outcome) (sym place) there;
-        bad = λ bad. absurd (good bad);
-      }
+      (subst (λ (n : ℕ). IsRefusal (scope_of options n (length buffer)) (take size buffer) (seeded options.seed) refusal) (sized (inside_of good)) is))
+      same place
 
-  pub none_memory : (outcome : Outcome) (offset : ℕ) → ¬ (AreBad options report_size size (length buffer)) → outcome ≡ NoMemory → offset ≡ 0 →
-      IsNone options report_size size buffer outcome offset
-  none_memory outcome offset good same place = record {
-    why = subst (λ (o : Outcome). IsWhy options report_size size buffer offset o) (sym same) place;
-    bad = λ bad. absurd (good bad);
-  }
+  pub none_memory : (outcome : Outcome) (offset : ℕ) → ¬ Bad → outcome ≡ NoMemory → offset ≡ 0 → IsNone (IsOutcomeFor options size buffer) Bad outcome offset
+  none_memory outcome offset good same place =
+      none_for (IsOutcomeFor options size buffer) Bad (λ n h. h) outcome NoMemory offset 0 good refl same place
 
-  pub none_bad : (outcome : Outcome) (offset : ℕ) → AreBad options report_size size (length buffer) → outcome ≡ BadOptions → offset ≡ 0 →
-      IsNone options report_size size buffer outcome offset
-  none_bad outcome offset bad same place = record {
-    why = subst (λ (o : Outcome). IsWhy options report_size size buffer offset o) (sym same) (place, bad);
-    bad = λ again. same;
-  }
+  pub none_bad : (outcome : Outcome) (offset : ℕ) → Bad → outcome ≡ BadOptions → offset ≡ 0 → IsNone (IsOutcomeFor options size buffer) Bad outcome offset
+  none_bad outcome offset bad same place = none_for_bad (IsOutcomeFor options size buffer) Bad outcome offset bad same place
 
 -- ---- the call
 
@@ -113,38 +93,18 @@ module _ (options : ChangeOptions) (size : ℕ) (old : List ℕ) (before : Repor
       IsAttempt options before.struct_size size old made bytes → IsPut bytes old result new → report.outcome ≡ 0 → TellsChanges made report →
       report.struct_size ≡ before.struct_size → ChangesWith options size old result new before report
   with_changes made bytes result new report is put number tells stays =
-      let has = is.fits in
-      record {
-        writes = writes_front bytes old result new put has.fits has.some;
-        outcome = Rewritten;
-        number = number;
-        some = ((λ some. refl), (λ same none. absurd (omega (arith, put.size, has.some, none))));
-        changed = λ same. record {
-          inside = is.inside;
-          made = made;
-          is = subst (IsChangedAs options size (length old) (take size old) made) (sym (front_is bytes old result new put)) is.is;
-          tells = tells;
-        };
-        none = λ other. absurd (other refl);
-        why = λ other. absurd (other refl);
-        bad = λ bad. absurd (is.good bad);
-        size_stays = stays;
-      }
+      reports_done (IsOutcomeFor options size old) (AreBad options before.struct_size size (length old)) (IsChangedSo options size old result new) old before
+      bytes result new report is.good put is.fits.some is.fits.fits number (record {
+        inside = is.inside;
+        made = made;
+        is = subst (IsChangedAs options size (length old) (take size old) made) (sym (front_is bytes old result new put)) is.is;
+        tells = tells;
+      }) stays
 
-  never : (offset : ℕ) (outcome : Outcome) → IsWhy options before.struct_size size old offset outcome → outcome ≡ Rewritten → ⊥
-  never offset outcome why same = subst (IsWhy options before.struct_size size old offset) same why
-
-  pub with_none : (outcome : Outcome) (offset : ℕ) (report : Report) → IsNone options before.struct_size size old outcome offset →
+  pub with_none : (outcome : Outcome) (offset : ℕ) (report : Report) →
+      IsNone (IsOutcomeFor options size old) (AreBad options before.struct_size size (length old)) outcome offset →
       report.outcome ≡ outcome_number outcome → TellsNone report → report.offset ≡ offset → report.struct_size ≡ before.struct_size →
       ChangesWith options size old 0 old before report
-  with_none outcome offset report is number tells place stays = record {
-    writes = writes_nothing old;
-    outcome = outcome;
-    number = number;
-    some = ((λ some. absurd (some refl)), (λ same. absurd (never offset outcome is.why same)));
-    changed = λ same. absurd (never offset outcome is.why same);
-    none = λ other. tells;
-    why = λ other. subst (λ at. IsWhy options before.struct_size size old at outcome) (sym place) is.why;
-    bad = is.bad;
-    size_stays = stays;
-  }
+  with_none outcome offset report is number tells place stays =
+      reports_none (IsOutcomeFor options size old) (AreBad options before.struct_size size (length old)) (IsChangedSo options size old 0 old) old before
+      outcome offset is (λ wrong. wrong) report number tells place stays

@@ -5,8 +5,12 @@ pub mod OutcomeLemmas
 pub mod FitsLemmas
 pub mod AttemptLemmas
 pub mod NamingLemmas
-pub mod RefusalLemmas
 pub mod WritesLemmas
+pub mod ReportedLemmas
+pub mod RefusalLemmas
 pub mod ChangesLemmas
 pub mod ChangeReportsLemmas
+pub mod PlacesLemmas
 pub mod SplicesLemmas
+pub mod SitesLemmas
+pub mod StripsLemmas

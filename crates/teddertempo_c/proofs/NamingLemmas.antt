@@ -25,12 +25,12 @@ holds_name name old new count result is put size = record {
       ∙ ap (λ xs. take (length old) name ++ xs) (drop_min (length name) old);
 }
 
-module _ (rule : ℕ) (old : List ℕ) (result : ℕ) (new : List ℕ) where
-  pub writes_name : (name : List ℕ) → slice_get names rule ≡ Some name → HoldsName name old result new → WritesName rule old result new
+module _ (those : List (List ℕ)) (number : ℕ) (old : List ℕ) (result : ℕ) (new : List ℕ) where
+  pub writes_name : (name : List ℕ) → slice_get those number ≡ Some name → HoldsName name old result new → WritesName those number old result new
   writes_name name is holds =
       subst (λ (o : Option (List ℕ)). MatchOption o (HoldsNone old result new) (λ name. HoldsName name old result new)) (sym is) holds
 
-  pub writes_none : slice_get names rule ≡ None → HoldsNone old result new → WritesName rule old result new
+  pub writes_none : slice_get those number ≡ None → HoldsNone old result new → WritesName those number old result new
   writes_none is holds =
       subst (λ (o : Option (List ℕ)). MatchOption o (HoldsNone old result new) (λ name. HoldsName name old result new)) (sym is) holds
 

@@ -34,7 +34,7 @@ none_at_all [] never = refl
 none_at_all (x ∷ xs) never = absurd (never (λ e. cc))
 
 module _ (options : Options) (report_size size room : ℕ) (large : OPTIONS_SIZE ≤ options.struct_size) (told : REPORT_SIZE ≤ report_size)
-    (inside : size ≤ room) (known : options.flags ≤ 1) where
+    (inside : size ≤ room) (known : options.flags ≤ 3) where
   pub bad_where : (b : Bool) → IsTrue b ↔ (rules_of options ≢ []) → IsTrue (not b) ↔ AreBad options report_size size room
   bad_where true some = ((λ never. absurd cc), (λ bad. absurd (not_bad bad)))
     where

@@ -1,5 +1,5 @@
 -- What a call that changes a module by options leaves in the buffer, and what it reports (this project).
-use Rattle.std.specs.Prelude.{◌≡◌, ◌≢◌, ◌↔◌, false, true, ℕ, ◌≤◌, List, [], ◌∷◌, ◌++◌, Option, length, take}
+use Rattle.std.specs.Prelude.{◌≡◌, false, true, ℕ, ◌≤◌, List, [], ◌∷◌, ◌++◌, Option, length, take}
 use Rattle.rand_core.specs.Stream.{Stream}
 use Rattle.wasm_sections.specs.declared.fault.ModuleFault.TheVariants as faults
 use Rattle.wasm_module.specs.Fault.{IsModuleFault}
@@ -15,9 +15,8 @@ use Rattle.module_rewrites.specs.Seeded.{seeded}
 use Rattle.module_rewrites.specs.declared.attempt.Reason.{Reason}
 use Rattle.teddertempo_c.specs.ChangeOptions.{AreBad, change_number, count_of, scope_of}
 use Rattle.teddertempo_c.specs.Changes.{HasSize}
-use Rattle.teddertempo_c.specs.Outcome.{IsNoModule, offset_by_fault, outcome_by_fault, outcome_number}
-use Rattle.teddertempo_c.specs.Reports.{TellsNone}
-use Rattle.teddertempo_c.specs.Writes.{WritesFront}
+use Rattle.teddertempo_c.specs.Outcome.{IsNoModule, offset_by_fault, outcome_by_fault}
+use Rattle.teddertempo_c.specs.Reported.{Reported}
 use Rattle.teddertempo_c.specs.declared.change_options.ChangeOptions.{ChangeOptions}
 use Rattle.teddertempo_c.specs.declared.outcome.Outcome.{Outcome}
 use Rattle.teddertempo_c.specs.declared.outcome.Outcome.TheVariants.{Rewritten, NotAModule, LinkableObject, Unreadable, NoRule, NoFunction, TooLarge, NoMemory, BadOptions}
@@ -58,24 +57,15 @@ IsOutcome scope bytes s offset TooLarge = (offset ≡ 0) × GivesUp scope bytes 
 IsOutcome scope bytes s offset NoMemory = offset ≡ 0
 IsOutcome scope bytes s offset BadOptions = ⊥
 
--- the options are bad, or that outcome is right
-abbrev pub IsWhy : ChangeOptions → (report_size size : ℕ) → (old : List ℕ) → (offset : ℕ) → Outcome → Type 0
-IsWhy options report_size size old offset BadOptions = (offset ≡ 0) × AreBad options report_size size (length old)
-IsWhy options report_size size old offset outcome =
-    IsOutcome (scope_of options size (length old)) (take size old) (seeded options.seed) offset outcome
+-- that outcome is why nothing of the first `size` bytes is changed
+abbrev pub IsOutcomeFor : ChangeOptions → (size : ℕ) → (old : List ℕ) → (offset : ℕ) → Outcome → Type 0
+IsOutcomeFor options size old = IsOutcome (scope_of options size (length old)) (take size old) (seeded options.seed)
 
--- The result is 0, and the buffer as it was, exactly where the outcome is another than that the module is changed; and the report says what was done, or why
--- nothing was. Bad options are always told. The report was `before`, and keeps its size.
-pub record ChangesWith (options : ChangeOptions) (size : ℕ) (old : List ℕ) (result : ℕ) (new : List ℕ) (before report : Report) : Type 0 where
-  pub writes : WritesFront old result new
-  pub outcome : Outcome
-  pub number : report.outcome ≡ outcome_number outcome
-  pub some : (result ≢ 0) ↔ (outcome ≡ Rewritten)
-  pub changed : outcome ≡ Rewritten → IsChangedSo options size old result new report
-  pub none : outcome ≢ Rewritten → TellsNone report
-  pub why : outcome ≢ Rewritten → IsWhy options before.struct_size size old report.offset outcome
-  pub bad : AreBad options before.struct_size size (length old) → outcome ≡ BadOptions
-  pub size_stays : report.struct_size ≡ before.struct_size
+-- what the call does and reports
+abbrev pub ChangesWith : ChangeOptions → (size : ℕ) → (old : List ℕ) → (result : ℕ) → (new : List ℕ) → (before report : Report) → Type 0
+ChangesWith options size old result new before report =
+    Reported (IsChangedSo options size old result new) (IsOutcomeFor options size old) (AreBad options before.struct_size size (length old))
+    old result new before report
 
 -- ---- for private functions
 
@@ -85,11 +75,6 @@ pub record IsAttempt (options : ChangeOptions) (report_size size : ℕ) (buffer 
   pub good : AreBad options report_size size (length buffer) → ⊥
   pub is : IsChangedAs options size (length buffer) (take size buffer) made new
   pub fits : HasSize (length buffer) new
-
--- nothing is changed, and the outcome is right
-pub record IsNone (options : ChangeOptions) (report_size size : ℕ) (buffer : List ℕ) (outcome : Outcome) (offset : ℕ) : Type 0 where
-  pub why : IsWhy options report_size size buffer offset outcome
-  pub bad : AreBad options report_size size (length buffer) → outcome ≡ BadOptions
 
 -- what a refusal comes to
 abbrev pub outcome_by : Refusal → Outcome

@@ -3,10 +3,14 @@ pub mod Rules
 pub mod Options
 pub mod Outcome
 pub mod Writes
+pub mod Reported
 pub mod Reports
 pub mod Naming
 pub mod Changes
 pub mod ChangeOptions
 pub mod ChangeReports
+pub mod Places
 pub mod Either
+pub mod Sites
 pub mod Splices
+pub mod Strips

@@ -1,6 +1,8 @@
--- What is written of a rule's name (this project).
-use Rattle.std.specs.Prelude.{◌≡◌, ℕ, List, ◌++◌, length, take, drop, slice_get, MatchOption}
+-- What is written of a name (this project).
+use Rattle.std.specs.Prelude.{◌≡◌, ℕ, List, ◌++◌, length, map, take, drop, slice_get, MatchOption}
 use Rattle.rewrite_rules.specs.Names.{names}
+use Rattle.body_changes.specs.Change.{change_name}
+use Rattle.body_changes.specs.declared.change.TheConstants.{CHANGES}
 
 -- The room holds as much of the name as fits, and behind it what it held.
 pub record HoldsName (name old : List ℕ) (result : ℕ) (new : List ℕ) : Type 0 where
@@ -12,6 +14,14 @@ pub record HoldsNone (old : List ℕ) (result : ℕ) (new : List ℕ) : Type 0 w
   pub size : result ≡ 0
   pub is : new ≡ old
 
--- The name of the rule with the number is written; nothing, where there is none.
-abbrev pub WritesName : (rule : ℕ) → (old : List ℕ) → (result : ℕ) → (new : List ℕ) → Type 0
-WritesName rule old result new = MatchOption (slice_get names rule) (HoldsNone old result new) (λ name. HoldsName name old result new)
+-- That one of the names is written which has the number; nothing, where there is none.
+abbrev pub WritesName : (names : List (List ℕ)) → (number : ℕ) → (old : List ℕ) → (result : ℕ) → (new : List ℕ) → Type 0
+WritesName names number old result new = MatchOption (slice_get names number) (HoldsNone old result new) (λ name. HoldsName name old result new)
+
+-- so that of a rule
+abbrev pub WritesRuleName : (rule : ℕ) → (old : List ℕ) → (result : ℕ) → (new : List ℕ) → Type 0
+WritesRuleName rule old result new = WritesName names rule old result new
+
+-- and that of a change
+abbrev pub WritesChangeName : (change : ℕ) → (old : List ℕ) → (result : ℕ) → (new : List ℕ) → Type 0
+WritesChangeName change old result new = WritesName (map change_name CHANGES) change old result new

@@ -19,7 +19,7 @@ names_none words = list_all (λ (word : ℕ). eqb word 0) words
 abbrev pub word_of : (words : List ℕ) → (number : ℕ) → ℕ
 word_of words number = unwrap_or (slice_get words (number / 64)) 0
 
--- the word has the bit of the rule with that number, of its 64 bits
+-- the word has the bit with that number, of its 64 bits
 abbrev pub has_bit : (word number : ℕ) → Bool
 has_bit word number = eqb ((word / 2 ^ (number % 64)) % 2) 1
 
@@ -42,11 +42,15 @@ AreSmall options report_size = (options.struct_size < OPTIONS_SIZE) ⊎ (report_
 -- so they are, or the size is above that of the buffer, or a flag is set that is none, or the options name no rule that there is
 abbrev pub AreBad : Options → (report_size size room : ℕ) → Type 0
 AreBad options report_size size room =
-    AreSmall options report_size ⊎ ((room < size) ⊎ ((1 < options.flags) ⊎ (rules_of options ≡ [])))
+    AreSmall options report_size ⊎ ((room < size) ⊎ ((3 < options.flags) ⊎ (rules_of options ≡ [])))
 
 -- what runs the module is exact: the lowest flag is set
-abbrev pub exact_of : Options → Bool
-exact_of options = eqb options.flags 1
+abbrev pub is_exact : Options → Bool
+is_exact options = has_bit options.flags 0
+
+-- each rewrite makes the module smaller: so is the next one
+abbrev pub shrinks : Options → Bool
+shrinks options = has_bit options.flags 1
 
 -- the only function that may be rewritten, if one is named
 abbrev pub function_of : Options → Option ℕ

@@ -39,8 +39,7 @@ pub record IsNoModule (bytes : List ℕ) (offset : ℕ) : Type 0 where
   pub is : IsModuleFault bytes kind offset
   pub other : IsOther kind
 
--- a rewrite is refused since its module isn't small enough: for the bytes that it may have, for sizes of 32 bits, or since it is no smaller, which no call asks
--- for
+-- a rewrite is refused since its module isn't small enough: for the bytes that it may have, for sizes of 32 bits, or since it is no smaller
 abbrev pub IsTooLarge : MutationError → Type 0
 IsTooLarge (mutations.Read e) = ⊥
 IsTooLarge mutations.Memory = ⊥

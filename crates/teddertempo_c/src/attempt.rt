@@ -1,12 +1,15 @@
 //! A module rewritten, or why nothing of it is.
 ghost use Rattle.std.specs.Prelude.{◌≡◌, length, IfOk, IfErr};
 ghost use Rattle.module_rewrites.specs.Dose.{IsOneOrMore};
-ghost use Rattle.teddertempo_c.specs.Options.{rules_of};
-ghost use Rattle.teddertempo_c.specs.Reports.{IsAttempt, IsRefusal, asked_of};
+ghost use Rattle.teddertempo_c.specs.Options.{AreBad, rules_of};
+ghost use Rattle.teddertempo_c.specs.Reported.{IsNone};
+ghost use Rattle.teddertempo_c.specs.Reports.{IsAttempt, IsOutcomeFor, asked_of};
 ghost use Rattle.teddertempo_c.specs.Rules.{every_rule};
 ghost use Rattle.teddertempo_c.specs.Writes.{Fits, IsRefusedFor, IsRewrittenBy, once};
 
-use crate::options::{Options, are_bad, dose_of, exact_of, function_of, most_of, rules_of};
+use crate::options::{
+    Options, are_bad, dose_of, function_of, is_exact, most_of, rules_of, shrinks,
+};
 use crate::outcome::{Outcome, Refusal, refusal_by};
 use module_rewrites::{
     Dose, Reason, RewrittenModule, Scope, Unwatched, count_of_dose, rewrite_module,
@@ -93,8 +96,8 @@ fn rewritten_by(
         rules,
         function: function_of(options),
         max_size: most_of(options, bytes.len(), room),
-        shrinking: false,
-        exact: exact_of(options),
+        shrinking: shrinks(options),
+        exact: is_exact(options),
     };
     rewritten(alloc, bytes, options.seed, &scope, dose_of(options))
 }
@@ -111,8 +114,8 @@ pub fn attempt(
 ) -> Result<RewrittenModule, Refusal>
     ensures made { IfOk result (λ m.
         IsAttempt options.now report_size size buffer.now m.made.items m.bytes.items) }
-    ensures refused { IfErr result (λ e.
-        IsRefusal options.now report_size size buffer.now e.outcome e.offset) }
+    ensures refused { IfErr result (λ e. IsNone (IsOutcomeFor options.now size buffer.now)
+        (AreBad options.now report_size size (length buffer.now)) e.outcome e.offset) }
 {
     if are_bad(options, report_size, size, buffer.len()) {
         return Err(without_place(Outcome::BadOptions));

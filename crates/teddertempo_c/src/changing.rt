@@ -2,9 +2,10 @@
 ghost use Rattle.std.specs.Prelude.{◌≡◌, ◌<◌, IfErr, IfOk, length};
 ghost use Rattle.module_changes.specs.Times.{IsRefusal};
 ghost use Rattle.module_rewrites.specs.Seeded.{seeded};
-ghost use Rattle.teddertempo_c.specs.ChangeOptions.{changes_of, scope_of};
-ghost use Rattle.teddertempo_c.specs.ChangeReports.{ChangesWith, IsAttempt, IsChangedAs, IsNone, TellsChanges};
+ghost use Rattle.teddertempo_c.specs.ChangeOptions.{AreBad, changes_of, scope_of};
+ghost use Rattle.teddertempo_c.specs.ChangeReports.{ChangesWith, IsAttempt, IsChangedAs, IsOutcomeFor, TellsChanges};
 ghost use Rattle.teddertempo_c.specs.Changes.{any_change, ChangesOnce, HasSize, IsChangedBy};
+ghost use Rattle.teddertempo_c.specs.Reported.{IsNone};
 
 use crate::attempt::without_place;
 use crate::change_options::{
@@ -98,8 +99,8 @@ fn attempt(
 ) -> Result<ChangedModule, outcome::Refusal>
     ensures made { IfOk result (λ m.
         IsAttempt options.now report_size size buffer.now m.made.items m.bytes.items) }
-    ensures refused { IfErr result (λ e.
-        IsNone options.now report_size size buffer.now e.outcome e.offset) }
+    ensures refused { IfErr result (λ e. IsNone (IsOutcomeFor options.now size buffer.now)
+        (AreBad options.now report_size size (length buffer.now)) e.outcome e.offset) }
 {
     if are_bad(options, report_size, size, buffer.len()) {
         return Err(without_place(Outcome::BadOptions));
@@ -114,8 +115,8 @@ fn attempt(
     }
 }
 
-// What is reported of changes to a caller whose report has `report_size` bytes.
-fn report_of(report_size: u64, made: &[MadeChange]) -> Report
+/// What is reported of changes to a caller whose report has `report_size` bytes.
+pub(crate) fn report_of(report_size: u64, made: &[MadeChange]) -> Report
     requires some { 0 < length made.now }
     ensures outcome { result.outcome ≡ 0 }
     ensures tells { TellsChanges made.now result }

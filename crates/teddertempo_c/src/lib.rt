@@ -11,9 +11,12 @@ ghost use Rattle.teddertempo_c.specs.Buffer.{bytes_at};
 ghost use Rattle.teddertempo_c.specs.ChangeReports.{ChangesWith};
 ghost use Rattle.teddertempo_c.specs.Changes.{ChangesOnce};
 ghost use Rattle.teddertempo_c.specs.Either.{EitherOnce};
-ghost use Rattle.teddertempo_c.specs.Naming.{HoldsName, WritesName};
+ghost use Rattle.teddertempo_c.specs.Naming.{HoldsName, WritesChangeName, WritesRuleName};
+ghost use Rattle.teddertempo_c.specs.Places.{ChangesPlace};
 ghost use Rattle.teddertempo_c.specs.Reports.{MutatesWith};
+ghost use Rattle.teddertempo_c.specs.Sites.{ListsSites};
 ghost use Rattle.teddertempo_c.specs.Splices.{SplicesOnce};
+ghost use Rattle.teddertempo_c.specs.Strips.{Strips};
 ghost use Rattle.teddertempo_c.specs.Writes.{MutatesOnce};
 
 mod attempt;
@@ -23,20 +26,30 @@ mod either;
 mod mutating;
 mod options;
 mod outcome;
+mod place;
+mod placing;
 mod report;
 mod rules;
+mod sites;
 mod splicing;
+mod stripping;
 
+use body_changes::CHANGES;
 pub use change_options::ChangeOptions;
 use changing::{change_in, change_with_in};
 use either::either_in;
 use mutating::{mutate_in, mutate_with_in};
 pub use options::Options;
+pub use place::Place;
+use placing::change_at_in;
 pub use report::Report;
 use rewrite_rules::laws::rows_are_few;
 use rewrite_rules::{Rule, rule_count};
+pub use sites::SiteRow;
+use sites::list_sites;
 use splicing::splice_in;
 use std::alloc::Global;
+use stripping::strip_in;
 
 /// Rewrites the module that the first `size` of the `max_size` bytes at `data` are, once and by any rule in any function, under a
 /// seed, and writes the new module over them. Answers the new module's size, which is `max_size` at most.
@@ -218,6 +231,72 @@ pub unsafe extern "C" fn teddertempo_change_with(
     )
 }
 
+/// Changes operators that are named: the change with the number in `place` of each operator of the function, from the last one that is
+/// named down to the first one, of which it makes anything, as `change_at` of `module_changes` has it: by no seed. The report is that of
+/// `teddertempo_change_with`, and tells of the last change, which is of the first operator that was changed.
+///
+/// The new module is valid where the old one was, and computes something else, of which nothing is promised. Answers its size; 0, and the
+/// bytes are as they were, where the report says why: the change makes nothing of any of these operators, there is no such function, a
+/// module with one of the changes doesn't fit, or another reason of `change_at`.
+///
+/// C passes `data`, `size`, `max_size`, and pointers to the place and the report, which aren't null and don't overlap the bytes. Both
+/// have their sizes in them: what is smaller than this version's is refused, and of what is larger nothing is read or written behind it.
+#[unsafe(no_mangle)]
+pub unsafe extern "C" fn teddertempo_change_at(
+    alloc: Global,
+    data: *mut u8,
+    size: usize,
+    max_size: usize,
+    place: &Place,
+    report: &mut Report,
+) -> usize
+    ghost old: { List ℕ }
+    requires* { sem 𝓛 (bytes_at «data» max_size old) ∗ ⌜ max_size < 2 ^ 63 ⌝ }
+    ensures* { ∃ₛ (λ new. sem 𝓛 (bytes_at «data» max_size new) ∗
+        ⌜ ChangesPlace place.now size old result new report.old report.new ⌝) }
+{
+    change_at_in(
+        alloc,
+        std::slice::from_raw_parts_mut(data, max_size),
+        size,
+        place,
+        report,
+    )
+}
+
+/// Lists what `teddertempo_change_at` can change of the module with these bytes: a row for each operator and each change that makes anything of
+/// it, by the operators of the functions in their order, and of one operator by the numbers of the changes. The options name changes and
+/// a function; the rest of them is not looked at. As many rows are written to the front of `sites` as there is room for. Answers how many
+/// there are; 0 where there are none, the bytes are no module that can be read, it has no function of its own with the index that is
+/// named, a bit is set that is no change's, the options are smaller than this version's, or for want of memory.
+///
+/// C passes a pointer to the module and how many bytes it has, a pointer to the options, and one to the rows and how many there is room
+/// for. None is null, and they don't overlap.
+#[unsafe(no_mangle)]
+pub extern "C" fn teddertempo_sites(
+    alloc: Global,
+    bytes: &[u8],
+    options: &ChangeOptions,
+    sites: &mut [SiteRow],
+) -> usize
+    ensures { ListsSites options.now bytes.now sites.old result sites.new }
+{
+    list_sites(alloc, bytes, options, sites)
+}
+
+/// Drops the custom sections of the module with these bytes that name places in its code (`.debug_*`, `sourceMappingURL`,
+/// `external_debug_info`, `metadata.code.*`), which are others once it is rewritten. Answers the new module's size, which is no larger;
+/// 0, and the bytes are as they were, where they aren't a preamble and whole sections in order, are an object file, or for want of
+/// memory. What the sections contain isn't read. The new module is valid where the old one was, and does what it did.
+///
+/// C passes a pointer to the module, which isn't null and may be read and written, and how many bytes it has.
+#[unsafe(no_mangle)]
+pub extern "C" fn teddertempo_strip(alloc: Global, bytes: &mut [u8]) -> usize
+    ensures { Strips bytes.old result bytes.new }
+{
+    strip_in(alloc, bytes)
+}
+
 /// The version as a number: 0x000300 for 0.3.0.
 #[unsafe(no_mangle)]
 pub extern "C" fn teddertempo_version() -> u32
@@ -250,10 +329,24 @@ fn hold(text: &[u8], room: &mut [u8]) -> usize
 /// C passes the rule's number, a pointer to the room, which isn't null, and how many bytes there are.
 #[unsafe(no_mangle)]
 pub extern "C" fn teddertempo_rule_name(rule: u32, name: &mut [u8]) -> usize
-    ensures { WritesName rule name.old result name.new }
+    ensures { WritesRuleName rule name.old result name.new }
 {
     match Rule::from_number(rule as usize) {
         Some(rule) => hold(rule.name().as_bytes(), name),
+        None => 0,
+    }
+}
+
+/// Writes the name of the change with the number to the front of `name`, as much of it as there is room for, and answers the name's
+/// length; 0 where no change has the number.
+///
+/// C passes the change's number, a pointer to the room, which isn't null, and how many bytes there are.
+#[unsafe(no_mangle)]
+pub extern "C" fn teddertempo_change_name(change: u32, name: &mut [u8]) -> usize
+    ensures { WritesChangeName change name.old result name.new }
+{
+    match CHANGES.get(change as usize) {
+        Some(change) => hold(change.name().as_bytes(), name),
         None => 0,
     }
 }

@@ -2,7 +2,8 @@
 ghost use Rattle.std.specs.Prelude.{◌≡◌, ◌<◌, ◌≤◌, All, Some, length};
 ghost use Rattle.rewrite_rules.specs.Names.{rule_of};
 ghost use Rattle.teddertempo_c.specs.Outcome.{outcome_number};
-ghost use Rattle.teddertempo_c.specs.Reports.{MutatesWith, TellsMade, TellsNone};
+ghost use Rattle.teddertempo_c.specs.Reported.{TellsNone};
+ghost use Rattle.teddertempo_c.specs.Reports.{MutatesWith, TellsMade};
 ghost use Rattle.teddertempo_c.specs.Writes.{HasRule, IsOfRule, IsPut, MutatesOnce};
 
 use crate::attempt::{attempt, rewritten_once};
@@ -90,7 +91,7 @@ pub(crate) fn report_on(report_size: u64, refusal: Refusal) -> Report
 }
 
 /// Rewrites the module that the first `size` bytes of the buffer are as the options say, and reports it.
-#[tactic(auto, using(crate::proofs::WritesLemmas::with_made, crate::proofs::WritesLemmas::with_refusal))]
+#[tactic(auto, using(crate::proofs::RefusalLemmas::with_made, crate::proofs::RefusalLemmas::with_refusal))]
 pub fn mutate_with_in(
     alloc: Global,
     buffer: &mut [u8],

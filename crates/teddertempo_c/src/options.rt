@@ -2,7 +2,7 @@
 ghost use Rattle.std.specs.Prelude.{◌≡◌, ◌≢◌, ◌↔◌, ◌<◌, [], IfOk, IsTrue};
 ghost use Rattle.std.specs.List.{filter};
 ghost use Rattle.module_rewrites.specs.Dose.{IsOneOrMore};
-ghost use Rattle.teddertempo_c.specs.Options.{AreBad, allows, allows_number, dose_of, exact_of, function_of, has_bit, most_of, names_none, rules_of, word_of};
+ghost use Rattle.teddertempo_c.specs.Options.{AreBad, allows, allows_number, dose_of, function_of, has_bit, is_exact, most_of, names_none, rules_of, shrinks, word_of};
 
 use crate::report::REPORT_SIZE;
 use crate::rules::every_rule;
@@ -30,8 +30,9 @@ pub struct Options {
     /// Where it isn't 0, as many rewrites are made as this percentage of the operators of the functions that may be rewritten and can be
     /// read, at least one, in place of `count`.
     pub percent: u64,
-    /// 1 where what runs the module does on floats, vectors and memories what the standard says, and no other thread writes its memories,
-    /// so that rules on these may rewrite; else 0. Other bits are of later versions.
+    /// Bit 0 says whether what runs the module does on floats, vectors and memories what the standard says, and no other thread writes its
+    /// memories, so that rules on these may rewrite; bit 1 whether each rewrite makes the module smaller: it leaves no more operators, and
+    /// fewer bytes, or as many that come earlier in the dictionary. Other bits are of later versions.
     pub flags: u64,
 }
 
@@ -57,7 +58,7 @@ fn word_of(words: &[u64], number: usize) -> u64
     }
 }
 
-/// Whether the bit of the rule with the number is set in its word.
+/// Whether the bit with the number is set in the word, modulo 64.
 pub fn has_bit(word: u64, number: usize) -> bool
     ensures { result ≡ has_bit word number }
 {
@@ -113,17 +114,24 @@ pub fn are_bad(options: &Options, report_size: u64, size: usize, room: usize) ->
     if options.struct_size < OPTIONS_SIZE || report_size < REPORT_SIZE || size > room {
         return true;
     }
-    if options.flags > 1 {
+    if options.flags > 3 {
         return true;
     }
     !allow_some(options)
 }
 
 /// Whether what runs the module is exact.
-pub fn exact_of(options: &Options) -> bool
-    ensures { result ≡ exact_of options.now }
+pub fn is_exact(options: &Options) -> bool
+    ensures { result ≡ is_exact options.now }
 {
-    options.flags == 1
+    has_bit(options.flags, 0)
+}
+
+/// Whether each rewrite makes the module smaller.
+pub fn shrinks(options: &Options) -> bool
+    ensures { result ≡ shrinks options.now }
+{
+    has_bit(options.flags, 1)
 }
 
 /// The only function that may be rewritten.

@@ -1,8 +1,8 @@
 //! Rewrites a module and says what was done, or why nothing was, or changes it, as `examples/c/mutate.c` does:
 //!
 //! ```text
-//! mutate [--exact] [--seed N] [--count N] [--percent N] [--function N] [--growth N] [--rule NAME].. MODULE NEW
-//! mutate --change [--seed N] [--count N] [--function N] [--growth N] MODULE NEW
+//! mutate [--exact] [--shrink] [--seed N] [--count N] [--percent N] [--function N] [--growth N] [--rule NAME].. [--strip] MODULE NEW
+//! mutate --change [--seed N] [--count N] [--function N] [--growth N] [--strip] MODULE NEW
 //! ```
 //!
 //! The status is 2 where the library writes no module, and 1 where the options can't be read or don't go together, or a file can't be
@@ -10,7 +10,7 @@
 
 use std::process::ExitCode;
 use std::{env, fs};
-use teddertempo::{ChangeOptions, Options, Outcome, change_with, mutate_with};
+use teddertempo::{change_with, mutate_with, strip, ChangeOptions, Options, Outcome};
 
 /// How many bytes more than the old module the new one may have.
 const EXTRA: usize = 1 << 16;
@@ -46,6 +46,8 @@ struct Arguments<'a> {
     for_rewrites: Option<&'a str>,
     /// The module is changed, so, and not rewritten.
     change: Option<ChangeOptions>,
+    /// Custom sections that name places in the code are dropped then.
+    is_stripped: bool,
     old: &'a str,
     new: &'a str,
 }
@@ -55,6 +57,7 @@ fn read_arguments(mut words: &[String]) -> Option<Arguments<'_>> {
     let mut options = Options::new();
     let mut change_options = ChangeOptions::new();
     let mut is_change = false;
+    let mut is_stripped = false;
     let mut for_rewrites = None;
     loop {
         match words {
@@ -62,8 +65,17 @@ fn read_arguments(mut words: &[String]) -> Option<Arguments<'_>> {
                 is_change = true;
                 words = rest;
             }
+            [name, rest @ ..] if name == "--strip" => {
+                is_stripped = true;
+                words = rest;
+            }
             [name, rest @ ..] if name == "--exact" => {
                 options = options.exact();
+                for_rewrites = Some(name.as_str());
+                words = rest;
+            }
+            [name, rest @ ..] if name == "--shrink" => {
+                options = options.shrink();
                 for_rewrites = Some(name.as_str());
                 words = rest;
             }
@@ -72,6 +84,7 @@ fn read_arguments(mut words: &[String]) -> Option<Arguments<'_>> {
                     options,
                     for_rewrites,
                     change: is_change.then_some(change_options),
+                    is_stripped,
                     old,
                     new,
                 });
@@ -137,11 +150,14 @@ fn run(arguments: &Arguments<'_>) -> Result<bool, String> {
         ));
     }
     let module = fs::read(old).map_err(|e| format!("{old}: {e}"))?;
-    let made = match &arguments.change {
+    let mut made = match &arguments.change {
         Some(options) => changed(module, options),
         None => rewritten(module, &arguments.options),
     };
-    if let Some(module) = &made {
+    if let Some(module) = &mut made {
+        if arguments.is_stripped {
+            strip(module);
+        }
         fs::write(new, module).map_err(|e| format!("{new}: {e}"))?;
     }
     Ok(made.is_some())
@@ -149,11 +165,14 @@ fn run(arguments: &Arguments<'_>) -> Result<bool, String> {
 
 fn main() -> ExitCode {
     let words: Vec<String> = env::args().skip(1).collect();
-    let Some(arguments) = read_arguments(&words) else {
-        eprintln!(
-            "usage: mutate [--change] [--exact] [--seed N] [--count N] [--percent N] [--function N] [--growth N] [--rule NAME].. MODULE NEW"
-        );
-        return ExitCode::from(1);
+    let arguments = match read_arguments(&words) {
+        Some(arguments) => arguments,
+        None => {
+            eprintln!(
+                "usage: mutate [--change] [--exact] [--shrink] [--seed N] [--count N] [--percent N] [--function N] [--growth N] [--rule NAME].. [--strip] MODULE NEW"
+            );
+            return ExitCode::from(1);
+        }
     };
     match run(&arguments) {
         Ok(true) => ExitCode::SUCCESS,

@@ -1,8 +1,9 @@
 //! What a call that changes a module is asked to do, and what it has done.
 
-use crate::Outcome;
 use crate::raw;
+use crate::Outcome;
 use std::fmt;
+use std::mem::size_of;
 
 /// What is made of an operator and what stands right before it. A statement is code that leaves no value.
 #[derive(Clone, Copy, Debug, PartialEq, Eq)]

@@ -1,7 +1,8 @@
 //! What a call is asked to do.
 
-use crate::Rule;
 use crate::raw::{self, Rules};
+use crate::Rule;
+use std::mem::size_of;
 
 /// Which rewrites are made: by default one, by any rule in any function, of any size, under the seed 0.
 ///
@@ -20,6 +21,7 @@ pub struct Options {
     // 0 where the count holds.
     percent: u64,
     exact: bool,
+    shrink: bool,
 }
 
 impl Default for Options {
@@ -32,6 +34,7 @@ impl Default for Options {
             max_growth: None,
             percent: 0,
             exact: false,
+            shrink: false,
         }
     }
 }
@@ -70,7 +73,7 @@ impl Options {
     /// Only this rule, and others that are named so.
     #[must_use]
     pub fn rule(mut self, rule: Rule) -> Options {
-        if let Some((word, bit)) = bit(self.rules.get_or_insert_default(), rule) {
+        if let Some((word, bit)) = bit(self.rules.get_or_insert_with(Rules::default), rule) {
             *word |= bit;
         }
         self
@@ -122,6 +125,14 @@ impl Options {
         self
     }
 
+    /// Only rewrites that make the module smaller: they leave no more operators, and fewer bytes, or as many that come earlier in the
+    /// dictionary. Where none that the seed draws does, the outcome is [`Outcome::TooLarge`](crate::Outcome::TooLarge).
+    #[must_use]
+    pub fn shrink(mut self) -> Options {
+        self.shrink = true;
+        self
+    }
+
     /// As the library reads them; none where no rule is left, which the library takes for all of them.
     pub(crate) fn raw(&self) -> Option<raw::Options> {
         if self.rules == Some(Rules::default()) {
@@ -135,7 +146,7 @@ impl Options {
             count: self.count,
             max_growth: self.max_growth.unwrap_or(raw::ANY),
             percent: self.percent,
-            flags: u64::from(self.exact),
+            flags: u64::from(self.exact) * raw::EXACT + u64::from(self.shrink) * raw::SHRINK,
         })
     }
 }

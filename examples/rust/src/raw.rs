@@ -1,6 +1,7 @@
 //! The library's own declarations, as `teddertempo.h` has them. Nothing compares the two but the sizes below, which the library is told.
 
-use std::ffi::c_char;
+use std::mem::size_of;
+use std::os::raw::c_char;
 
 /// A bit for each rule.
 pub type Rules = [u64; 16];
@@ -28,6 +29,24 @@ pub struct ChangeOptions {
 }
 
 #[repr(C)]
+pub struct Place {
+    pub struct_size: u64,
+    pub change: u64,
+    pub function: u64,
+    pub first: u64,
+    pub end: u64,
+    pub max_growth: u64,
+}
+
+#[repr(C)]
+#[derive(Clone, Copy, Default)]
+pub struct Site {
+    pub function: u64,
+    pub operator_index: u64,
+    pub change: u64,
+}
+
+#[repr(C)]
 pub struct Report {
     pub struct_size: u64,
     pub outcome: u32,
@@ -38,7 +57,7 @@ pub struct Report {
 }
 
 const _: () = assert!(size_of::<Options>() == 184 && size_of::<Report>() == 40);
-const _: () = assert!(size_of::<ChangeOptions>() == 48);
+const _: () = assert!(size_of::<ChangeOptions>() == 48 && size_of::<Place>() == 48);
 
 impl Report {
     /// One to be written.
@@ -57,10 +76,14 @@ impl Report {
 /// Any function, and any growth.
 pub const ANY: u64 = u64::MAX;
 
+/// The flags of options.
+pub const EXACT: u64 = 1;
+pub const SHRINK: u64 = 2;
+
 /// No rule has the name.
 pub const NO_SUCH_RULE: u64 = u64::MAX;
 
-unsafe extern "C" {
+extern "C" {
     pub fn teddertempo_mutate_with(
         data: *mut u8,
         size: usize,
@@ -91,6 +114,21 @@ unsafe extern "C" {
         options: *const ChangeOptions,
         report: *mut Report,
     ) -> usize;
+    pub fn teddertempo_change_at(
+        data: *mut u8,
+        size: usize,
+        max_size: usize,
+        place: *const Place,
+        report: *mut Report,
+    ) -> usize;
+    pub fn teddertempo_sites(
+        data: *const u8,
+        size: usize,
+        options: *const ChangeOptions,
+        sites: *mut Site,
+        room: usize,
+    ) -> usize;
+    pub fn teddertempo_strip(data: *mut u8, size: usize) -> usize;
     pub fn teddertempo_version() -> u32;
     pub fn teddertempo_rule_count() -> u64;
     pub fn teddertempo_rule_name(rule: u32, name: *mut c_char, room: usize) -> usize;
@@ -140,8 +178,8 @@ mod tests {
                 data.as_mut_ptr(),
                 data.len(),
                 data.len(),
-                (&raw const options).cast(),
-                (&raw mut report).cast(),
+                (&options as *const Larger<Options>).cast(),
+                (&mut report as *mut Larger<Report>).cast(),
             )
         };
         assert_eq!((size, &data), (0, b"no module"));

@@ -1,7 +1,7 @@
 //! What a call has done.
 
-use crate::Rule;
 use crate::raw;
+use crate::Rule;
 use std::fmt;
 
 /// What a call has done, or why it has done nothing, and then the module is as it was.

@@ -3,8 +3,8 @@
 use std::fs;
 use std::thread;
 use teddertempo::{
-    Change, ChangeOptions, MadeChange, Options, Outcome, Report, Rule, change_slice, change_with,
-    either_slice, mutate, mutate_slice, mutate_with, splice_slice,
+    change_at, change_slice, change_with, either_slice, mutate, mutate_slice, mutate_with, sites,
+    splice_slice, strip, Change, ChangeOptions, MadeChange, Options, Outcome, Place, Report, Rule,
 };
 
 /// The bytes with which each module begins: the magic and the version.
@@ -100,14 +100,18 @@ fn splices_code_of_another_module() {
     for seed in 0..50 {
         let mut new = module.clone();
         new.resize(module.len() + 4096, 0);
-        let Some(size) = splice_slice(&mut new, module.len(), &other, seed) else {
-            continue;
+        let size = match splice_slice(&mut new, module.len(), &other, seed) {
+            Some(size) => size,
+            None => continue,
         };
         new.truncate(size);
         assert!(new != module && new.starts_with(&PREAMBLE));
         let mut again = module.clone();
         again.resize(module.len() + 4096, 0);
-        assert_eq!(splice_slice(&mut again, module.len(), &other, seed), Some(size));
+        assert_eq!(
+            splice_slice(&mut again, module.len(), &other, seed),
+            Some(size)
+        );
         assert_eq!(again[..size], new);
         news.insert(new);
     }
@@ -160,6 +164,94 @@ fn changes_are_refused_by_their_options() {
         assert_eq!((report.outcome, report.made), (outcome, 0));
         assert_eq!(new, module);
     }
+}
+
+/// A function of no parameters and results: `i32.const 1; drop; i32.const 2; drop; nop; end`.
+const DROPS: &[u8] = b"\0asm\x01\0\0\0\x01\x04\x01\x60\0\0\x03\x02\x01\0\
+    \x0a\x0b\x01\x09\0\x41\x01\x1a\x41\x02\x1a\x01\x0b";
+
+#[test]
+fn operators_that_are_named_are_changed() {
+    let all = Place::new(Change::Delete, 0);
+    for (place, made, size) in [
+        (all.clone(), 3, 24),
+        (all.clone().operators(2..4), 1, 28),
+        (all.operators(4..5), 1, 30),
+    ] {
+        let mut new = DROPS.to_vec();
+        let report = change_at(&mut new, DROPS.len(), &place);
+        assert_eq!((report.outcome, report.made), (Outcome::Rewritten, made));
+        assert_eq!(report.last.map(|last| last.change), Some(Change::Delete));
+        assert_eq!(new.len(), size);
+    }
+}
+
+#[test]
+fn each_site_is_changed() {
+    let module = module();
+    let all = sites(&module, &ChangeOptions::new());
+    assert!(all.len() > 1000 && all.iter().all(|site| site.change != Change::Copy));
+    for site in all.iter().step_by(97) {
+        let mut new = module.clone();
+        let report = change_at(&mut new, module.len() + 64, &site.place());
+        let made = MadeChange {
+            change: site.change,
+            function: site.function,
+        };
+        assert_eq!((report.made, report.last), (1, Some(made)));
+        assert_ne!(new, module);
+    }
+    let deletions = sites(DROPS, &ChangeOptions::new().change(Change::Delete));
+    let operators: Vec<u64> = deletions.iter().map(|site| site.operator).collect();
+    assert_eq!(operators, [1, 3, 4]);
+    assert!(sites(DROPS, &ChangeOptions::new().function(1)).is_empty());
+    assert!(sites(b"no module", &ChangeOptions::new()).is_empty());
+}
+
+#[test]
+fn places_are_refused() {
+    let all = Place::new(Change::Double, 0);
+    for (place, max, outcome) in [
+        (all.clone(), DROPS.len() - 1, Outcome::BadOptions),
+        (all.clone(), DROPS.len(), Outcome::TooLarge),
+        (all.clone().max_growth(0), 4096, Outcome::TooLarge),
+        (all.operators(5..9), 4096, Outcome::NoRule),
+        (Place::new(Change::Copy, 0), 4096, Outcome::NoRule),
+        (Place::new(Change::Double, 1), 4096, Outcome::NoFunction),
+    ] {
+        let mut new = DROPS.to_vec();
+        assert_eq!(change_at(&mut new, max, &place).outcome, outcome);
+        assert_eq!(new, DROPS);
+    }
+}
+
+#[test]
+fn sections_on_debugging_are_dropped() {
+    let mut module = DROPS.to_vec();
+    assert!(strip(&mut module));
+    assert_eq!(module, DROPS);
+    module.extend_from_slice(b"\0\x0c\x0b.debug_info");
+    assert!(strip(&mut module));
+    assert_eq!(module, DROPS);
+    let mut other = b"no module".to_vec();
+    assert!(!strip(&mut other));
+    assert_eq!(other, b"no module");
+}
+
+#[test]
+fn shrinking_makes_modules_smaller() {
+    let module = module_named("forms");
+    let (sizes, count) = (0..20).fold((0, 0), |(sizes, count), seed| {
+        let mut new = module.clone();
+        let options = Options::new().seed(seed).count(20).shrink();
+        let report = mutate_with(&mut new, module.len(), &options);
+        assert!(new.len() <= module.len());
+        (
+            sizes + new.len(),
+            count + usize::from(report.is_rewritten()),
+        )
+    });
+    assert!(count > 0 && sizes < 20 * module.len());
 }
 
 #[test]

@@ -56,13 +56,13 @@ _teddertempo_diff()
     case $before in
         --rule | --not-rule) _teddertempo_words "$(_teddertempo_rules)" ;;
         --as) _teddertempo_words "node plain spectest-interp wasmer wasmtime" ;;
-        --calls | --dose | --jobs | --max-size | --seeds | --swarm | --time | --timeout) COMPREPLY=() ;;
-        -o | --output) mapfile -t COMPREPLY < <(compgen -d -- "$word") ;;
+        --calls | --dose | --jobs | --max-size | --reduce | --seeds | --swarm | --time | --timeout) COMPREPLY=() ;;
+        -o | --output | --differs) mapfile -t COMPREPLY < <(compgen -d -- "$word") ;;
         --teddertempo) mapfile -t COMPREPLY < <(compgen -f -- "$word") ;;
         *)
             if [[ $word == -* ]]; then
-                _teddertempo_words "--all --as --calls --continue --dose --first --help --jobs --json --max-size --not-rule --output --quiet
-                    --rule --seeds --strict --swarm --teddertempo --time --timeout --version --"
+                _teddertempo_words "--all --as --calls --continue --differs --dose --first --help --jobs --json --max-size --not-rule --output
+                    --quiet --reduce --rule --seeds --strict --swarm --teddertempo --time --timeout --version --"
             else
                 _teddertempo_modules "$word"
             fi

@@ -19,7 +19,7 @@ complete -c teddertempo -l not-rule -x -a '(__teddertempo_rules)' -d 'All rules 
 complete -c teddertempo -l shrink -d 'Only rewrites that make the module smaller'
 complete -c teddertempo -l exact -d 'Rules on floats, vectors and memories too'
 complete -c teddertempo -l max-size -x -d 'The most bytes of the new module'
-complete -c teddertempo -l list -d 'List the rewrites that there are'
+complete -c teddertempo -l list -d 'List the rewrites, or changes, that there are'
 complete -c teddertempo -l blocks -d 'List the blocks'
 complete -c teddertempo -l list-rules -f -a 'text json markdown' -d 'List the rules'
 complete -c teddertempo -l change -f -a '(__teddertempo_changes)' -d 'Change the module, so that it stays valid'

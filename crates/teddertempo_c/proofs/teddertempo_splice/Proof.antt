@@ -17,7 +17,7 @@ use types.Part.{agg}
 use types.Run.{and_then, no_more, returns, enter}
 use types.ByLocal.{alloc_all, pass_all, free_all, look_at, get, sets, lands_as, is}
 use types.Tokens.{lft_new, lft_end}
-use denote.Builtin.{u8, u64, usize}
+use denote.Builtin.{u8, usize}
 use denote.Exit.{yes}
 use denote.Laws.{Is, shows}
 use denote.Plain.{uint_vals, uint_Tells, uint_Makes, uint_Lawful}

@@ -36,4 +36,4 @@ pub returns-clause-none : goal.returns-clause-none
 returns-clause-none g c =
     let all : c.draws.counter ≡ draws = omega (arith, c.draws-test.false, c.draws.auto.counter-end) in
     gives_up (donor_of c.args.source.now) c.args.scope.now c.args.reading.now.bytes.now c.args.reading.now.info.now c.args.reading.now.layout.now
-    (g.R.Rng.stream c.args.generator.now) c.draws.counter c.draws.refusal (g.R.Rng.stream c.draws.generator) all c.draws.invariant
+    (g.R.Rng.stream c.args.generator.now) c.draws.counter c.draws.refusal (g.R.Rng.stream c.draws.generator) c.requires.there all c.draws.invariant

@@ -2,7 +2,7 @@
 use Rattle.std.proofs.Common.{sym, ◌∙◌}
 use Rattle.std.proofs.lemmas.Bool.{false≢true}
 use Rattle.module_changes.specs.Entry.{donor_of}
-use Rattle.module_changes.proofs.CopyingLemmas.{none_named, not_plain}
+use Rattle.module_changes.proofs.CopyingLemmas.{may_not, none_named}
 use Rattle.module_changes.proofs.copying.code_of.Goals as goal
 
 pub returns-in-Err-clause-none : goal.returns-in-Err-clause-none
@@ -16,6 +16,6 @@ returns-in_default-clause-none c =
 
 pub returns-clause-none : goal.returns-clause-none
 returns-clause-none c =
-    not_plain (donor_of c.args.source.now) c.args.words.now c.args.n c.in-Ok.function.locals.items c.in-Ok.function.operators.items c.in-Ok.ensures.only
+    may_not (donor_of c.args.source.now) c.args.words.now c.args.n c.in-Ok.function.locals.items c.in-Ok.function.operators.items c.in-Ok.ensures.only
     c.in-Some.code.items (rw (c.deref.ensures.value, c.deref-2.ensures.value, c.word_at.ensures, c.in-Some.is) at c.in_ok-code.ensures.only)
-    (λ plain. false≢true (sym c.if-may_be_copied.false ∙ c.may_be_copied.ensures.1 (rw (sym c.deref-3.ensures.value) at plain)))
+    (λ may. false≢true (sym c.if-may_be_copied.false ∙ c.may_be_copied.ensures.1 (rw (sym c.deref-3.ensures.value) at may)))

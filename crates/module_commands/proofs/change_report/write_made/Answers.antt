@@ -7,5 +7,5 @@ use Rattle.module_commands.proofs.change_report.write_made.Goals as goal
 pub loop-one-preserved : goal.loop-one-preserved
 loop-one-preserved g c =
     line_next (change_line c.args.form) (change_lines c.args.form) refl (λ m ms. refl) (g.W.Write.contents c.args.notes.now)
-    (g.W.Write.contents c.loop-one.notes) (g.W.Write.contents c.write_change.new.notes) c.args.made.now c.loop-one.one-index _ c.loop-one-test.true
-    c.loop-one.invariant c.in_ok-write_change.ensures.line
+    (g.W.Write.contents c.loop-one.notes) (g.W.Write.contents c.write_site.new.output) c.args.made.now c.loop-one.one-index _ c.loop-one-test.true
+    c.loop-one.invariant (rw c.site.ensures at c.in_ok-write_site.ensures.line)

@@ -31,6 +31,19 @@ returns-in_err-list_rewrites-in-List-clause-fails g c =
     c.deref-in-List.ensures.value (task_fails options.task options bytes e none
     (subst (λ (task : Task). FailsAtTask task options bytes e) (sym c.in-List.is) c.in_err-list_rewrites-in-List.ensures.fails)))
 
+pub returns-in_err-list_sites-in-Sites-clause-fails : goal.returns-in_err-list_sites-in-Sites-clause-fails
+returns-in_err-list_sites-in-Sites-clause-fails g c =
+    let options = c.args.options.now in
+    let bytes = c.deref-in-Sites.result.now in
+    let taken = c.in_ok-bytes-in-Sites.ensures in
+    let none : IsNoOther bytes = subst IsNoOther (sym c.deref-in-Sites.ensures.value) taken.other in
+    let e = c.in_err-list_sites-in-Sites.field-0.0 in
+    let p = err_from_is_err_and c.from_residual-in_err-list_sites-in-Sites.result c.from_residual-in_err-list_sites-in-Sites.ensures.1 in
+    rw (p.1, p.2) (of_all (λ bytes. FailsToDo options.task options bytes e) (g.R.Read.remaining c.args.input.now.device)
+    (g.R.Read.remaining c.take_module-in-Sites.new.input.device) c.in_ok-bytes-in-Sites.bytes.items bytes taken.bytes taken.end
+    c.deref-in-Sites.ensures.value (task_fails options.task options bytes e none
+    (subst (λ (task : Task). FailsAtTask task options bytes e) (sym c.in-Sites.is) c.in_err-list_sites-in-Sites.ensures.fails)))
+
 pub returns-in_err-list_blocks-in-Blocks-clause-fails : goal.returns-in_err-list_blocks-in-Blocks-clause-fails
 returns-in_err-list_blocks-in-Blocks-clause-fails g c =
     let options = c.args.options.now in
@@ -57,6 +70,12 @@ returns-in_ok-flush-in-List-clause-alone g c = λ takes exact.
     let taken = c.in_ok-bytes-in-List.ensures in
     of_all (λ bytes. ¬ (SharesMemory bytes)) (g.R.Read.remaining c.args.input.now.device) (g.R.Read.remaining c.take_module-in-List.new.input.device)
     c.in_ok-bytes-in-List.bytes.items c.in_ok-bytes-in-List.bytes.items taken.bytes taken.end refl (taken.alone exact)
+
+pub returns-in_ok-flush-in-Sites-clause-alone : goal.returns-in_ok-flush-in-Sites-clause-alone
+returns-in_ok-flush-in-Sites-clause-alone g c = λ takes exact.
+    let taken = c.in_ok-bytes-in-Sites.ensures in
+    of_all (λ bytes. ¬ (SharesMemory bytes)) (g.R.Read.remaining c.args.input.now.device) (g.R.Read.remaining c.take_module-in-Sites.new.input.device)
+    c.in_ok-bytes-in-Sites.bytes.items c.in_ok-bytes-in-Sites.bytes.items taken.bytes taken.end refl (taken.alone exact)
 
 pub returns-in_ok-flush-in-Blocks-clause-alone : goal.returns-in_ok-flush-in-Blocks-clause-alone
 returns-in_ok-flush-in-Blocks-clause-alone g c = λ takes exact.

@@ -2,7 +2,7 @@
 use Rattle.std.proofs.Common.{rules}
 use Rattle.teddertempo_c.specs.Reports.{TellsMade}
 use Rattle.teddertempo_c.specs.Writes.{IsPut}
-use Rattle.teddertempo_c.proofs.WritesLemmas.{with_made}
+use Rattle.teddertempo_c.proofs.RefusalLemmas.{with_made}
 use Rattle.teddertempo_c.proofs.mutating.mutate_with_in.Goals as goal
 
 pub returns-in-Ok : goal.returns-in-Ok

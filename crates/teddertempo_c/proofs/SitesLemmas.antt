@@ -1,0 +1,52 @@
+-- The rows of a module's sites.
+use Rattle.std.proofs.Common.{◌≡◌, ℕ, suc, ◌+◌, ◌-◌, ◌<◌, ◌≤◌, List, [], ◌∷◌, ◌++◌, length, min, take, drop, get_or, sym, ap, ◌∙◌, subst, append_assoc, arith}
+use Rattle.std.specs.Prelude.{◌^◌}
+use Rattle.std.proofs.lemmas.List.{drop_min, map_more, take_min}
+use Rattle.std.proofs.Math.Nat.{min_comm}
+use Rattle.wasm_types.specs.Module.{Module}
+use Rattle.wasm_module.specs.Module.{Layout}
+use Rattle.body_changes.specs.declared.change.Change.{Change}
+use Rattle.module_changes.specs.Sites.{AreSitesOf}
+use Rattle.module_changes.specs.declared.sites.Site.{Site}
+use Rattle.teddertempo_c.specs.ChangeOptions.{change_number}
+use Rattle.teddertempo_c.specs.Sites.{rows_of, AreRows, HoldsRows}
+use Rattle.teddertempo_c.specs.declared.sites.SiteRow.{SiteRow}
+
+-- one row more
+pub next_row : (function : ℕ) (sites : List Site) (k : ℕ) (d : Site) (old rows new : List SiteRow) (r : SiteRow) → k < length sites →
+    rows ≡ old ++ rows_of function (take k sites) →
+    r ≡ record { function = function; operator_index = (get_or sites k d).operator; change = change_number (get_or sites k d).change } →
+    new ≡ rows ++ r ∷ [] → new ≡ old ++ rows_of function (take (k + 1) sites)
+next_row function sites k d old rows new r inside h r_is e =
+    e ∙ (ap (λ (xs : List SiteRow). xs ++ r ∷ []) h ∙ (append_assoc old (rows_of function (take k sites)) (r ∷ [])
+    ∙ ap (λ (xs : List SiteRow). old ++ xs) (ap (λ (x : SiteRow). rows_of function (take k sites) ++ x ∷ []) r_is
+    ∙ sym (map_more (λ (s : Site). record { function = function; operator_index = s.operator; change = change_number s.change }) sites k d inside))))
+
+-- those of one function more
+pub next_rows : (changes : List Change) (bytes : List ℕ) (info : Module) (layout : Layout) (from n index : ℕ) (front rows : List SiteRow) (sites : List Site) →
+    from ≤ n → AreRows changes bytes info layout from (n - from) front → AreSitesOf changes bytes info layout n sites →
+    (layout.imported_functions + n < 2 ^ 64 → index ≡ layout.imported_functions + n) → rows ≡ front ++ rows_of index sites →
+    AreRows changes bytes info layout from ((n + 1) - from) rows
+next_rows changes bytes info layout from n index front rows sites low h are at e =
+    let count : suc (n - from) ≡ (n + 1) - from = omega arith in
+    let place : n ≡ from + (n - from) = omega arith in
+    subst (λ (c : ℕ). AreRows changes bytes info layout from c rows) count (
+      front,
+      sites,
+      h,
+      subst (λ (m : ℕ). AreSitesOf changes bytes info layout m sites) place are,
+      subst (λ (m : ℕ). layout.imported_functions + m < 2 ^ 64 → rows ≡ front ++ rows_of (layout.imported_functions + m) sites) place
+          (λ few. e ∙ ap (λ (i : ℕ). front ++ rows_of i sites) (at few)),
+    )
+
+-- as many as there is room for
+pub holds_rows : (rows old new : List SiteRow) (count result : ℕ) → count ≡ min (length rows) (length old) → new ≡ take count rows ++ drop count old →
+    result ≡ length rows → HoldsRows rows old result new
+holds_rows rows old new count result is put size = record {
+  size = size;
+  is =
+      put ∙ ap (λ n. take n rows ++ drop n old) is
+      ∙ ap (λ n. take n rows ++ drop (min (length rows) (length old)) old) (min_comm (length rows) (length old))
+      ∙ ap (λ xs. xs ++ drop (min (length rows) (length old)) old) (take_min (length old) rows)
+      ∙ ap (λ xs. take (length old) rows ++ xs) (drop_min (length rows) old);
+}
