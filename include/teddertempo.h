@@ -199,7 +199,8 @@ struct teddertempo_site {
  * Lists what teddertempo_change_at can change of a module: of the changes and in the function that the options name, whose other fields
  * aren't looked at; in the order of the functions, the operators, and the numbers of the changes. Writes the first room of them, and
  * returns how many there are; 0 where there are none, data is no module that can be read, it has no function of its own with the index,
- * a bit of no change is set, struct_size is too small, or no memory is left.
+ * a bit of no change is set, struct_size is too small, or no memory is left. It takes time linear in the module, and for each operator in
+ * the code of its operands: with the square of their depth where thousands are in one another (4,000 additions: 12 s).
  */
 size_t teddertempo_sites(const uint8_t *data, size_t size, const struct teddertempo_change_options *options,
                          struct teddertempo_site *sites, size_t room);
