@@ -13,17 +13,17 @@ use Rattle.wasm_code.specs.declared.table.Row.{Row}
 use Rattle.wasm_types.specs.Module.{Module, function_type, type_at}
 use Rattle.wasm_types.specs.declared.types.PrimitiveTypeInfo.{PrimitiveTypeInfo}
 use Rattle.wasm_types.specs.declared.types.TypeInfo.{TypeInfo}
-use Rattle.peephole_machine.specs.IntegerRow.{if_typed, integer_row}
-use Rattle.peephole_machine.specs.OtherRow.{both_of, other_type, parameters, returned}
-use Rattle.peephole_machine.specs.Row.{at_most_one, instruction_types}
-use Rattle.peephole_machine.specs.Values.{Context, results_on, same_type}
+use Rattle.wasm_execution.specs.IntegerRow.{if_typed, integer_row}
+use Rattle.wasm_execution.specs.OtherRow.{both_of, other_type, parameters, returned}
+use Rattle.wasm_execution.specs.Row.{at_most_one, instruction_types}
+use Rattle.wasm_execution.specs.Values.{Context, results_on, same_type}
 use Rattle.body_changes.specs.declared.kinds.accesses.Indexed.{Indexed}
 use Rattle.body_changes.specs.declared.kinds.accesses.Indexed.TheVariants as kind
 use Rattle.body_changes.specs.declared.units.Unit.{Unit}
 use Rattle.body_changes.specs.Drawing.{is_local_row}
 use Rattle.body_changes.specs.Goals.{indexed}
 use Rattle.body_changes.specs.Kinds.{IsBehindOperands, IsNew, MakesIndexed}
-use Rattle.body_changes.specs.Proposals.{count_in, is_row_of, AreAlike, IsAnother}
+use Rattle.body_changes.specs.Proposals.{indexed_count_in, is_row_of, IndexedAreOfOneType, IsAnother}
 use Rattle.body_changes.specs.Replacing.{HasInstruction}
 use Rattle.body_changes.specs.Units.{IsUnit}
 use Rattle.body_changes.proofs.BehindLemmas.{behind_new, own_behind}
@@ -38,7 +38,7 @@ function_there None m t e = absurd cc
 function_there (Some place) m t e = (place, refl)
 
 -- both are among those that there are
-pub alike_inside : (context : Context) (kind : Indexed) (own other : ℕ) → AreAlike context kind own other → other < count_in context kind
+pub alike_inside : (context : Context) (kind : Indexed) (own other : ℕ) → IndexedAreOfOneType context kind own other → other < indexed_count_in context kind
 alike_inside context kind.Local own other (t, a, b) = slice_get_within context.locals other t b
 alike_inside context kind.Global own other (t, a, b) = slice_get_within context.info.globals other t b
 alike_inside context kind.Function own other (t, a, b) =
@@ -46,8 +46,8 @@ alike_inside context kind.Function own other (t, a, b) =
     slice_get_within context.info.functions other place there
 
 -- where there are none, none is another one
-pub none_alike : (context : Context) (k : Indexed) (own other count : ℕ) → count ≡ min (count_in context k) (2 ^ 32) → count ≡ 0 →
-    AreAlike context k own other → ⊥
+pub none_alike : (context : Context) (k : Indexed) (own other count : ℕ) → count ≡ min (indexed_count_in context k) (2 ^ 32) → count ≡ 0 →
+    IndexedAreOfOneType context k own other → ⊥
 none_alike context k own other count count_is none alike = let inside = alike_inside context k own other alike in let is = count_is in omega arith
 
 pub same_index : (row r n k : ℕ) → indexed row n ≡ indexed r k → (row ≡ r) × (n ≡ k)
@@ -128,7 +128,7 @@ call_same context own other ts e =
 
 -- it goes by what is alike
 alike_same : (context : Context) (k : Indexed) (row own other : ℕ) (ts : List PrimitiveTypeInfo) → IsTrue (is_row_of k row) →
-    AreAlike context k own other → instruction_types context (indexed row own) ts ≡ instruction_types context (indexed row other) ts
+    IndexedAreOfOneType context k own other → instruction_types context (indexed row own) ts ≡ instruction_types context (indexed row other) ts
 alike_same context kind.Local row own other ts h (t, a, b) = access_same context row own other ts h (a ∙ sym b)
 alike_same context kind.Global row own other ts h (t, a, b) =
     subst (λ (r : ℕ). instruction_types context (indexed r own) ts ≡ instruction_types context (indexed r other) ts) (sym (eqb-true row 7 h))
@@ -142,7 +142,7 @@ alike_same context kind.Function row own other ts h (t, a, b) =
 module _ (context : Context) (k : Indexed) (operators : Operators) (at : ℕ) (unit : Unit) (own : Instruction) (has : HasInstruction operators at own) where
   -- it isn't made of another instruction
   pub no_access : ((row n : ℕ) → IsTrue (is_row_of k row) → own ≢ indexed row n) → (other : ℕ) (code : List Instruction) →
-      MakesIndexed (is_row_of k) (AreAlike context k) operators at unit other code → IsNew context operators unit.start at code → ⊥
+      MakesIndexed (is_row_of k) (IndexedAreOfOneType context k) operators at unit other code → IsNew context operators unit.start at code → ⊥
   no_access none other code m new = none m.row m.own m.is_row (one_there operators at own (indexed m.row m.own) has m.has)
 
   module _ (is : IsUnit context operators at unit) (index : ℕ) (own_is : own ≡ indexed own.row index) where
@@ -154,7 +154,7 @@ module _ (context : Context) (k : Indexed) (operators : Operators) (at : ℕ) (u
         (λ ts. ap (λ (j : Instruction). instruction_types context j ts) own_is
         ∙ (alike_same context k own.row index other ts row found.1 ∙ ap (λ (j : Instruction). instruction_types context j ts) (sym i_is))) code made
 
-    module _ (other : ℕ) (code : List Instruction) (m : MakesIndexed (is_row_of k) (AreAlike context k) operators at unit other code) where
+    module _ (other : ℕ) (code : List Instruction) (m : MakesIndexed (is_row_of k) (IndexedAreOfOneType context k) operators at unit other code) where
       -- what the operator is, as what is made says it
       same_access : (m.row ≡ own.row) × (m.own ≡ index)
       same_access = same_index m.row own.row m.own index (one_there operators at (indexed m.row m.own) own m.has has ∙ own_is)
@@ -167,7 +167,7 @@ module _ (context : Context) (k : Indexed) (operators : Operators) (at : ℕ) (u
           m.behind new
 
       pub no_other_access : (IsAnother context k index other → ⊥) → IsNew context operators unit.start at code → ⊥
-      no_other_access none new = none (other_differs new, subst (λ (n : ℕ). AreAlike context k n other) same_access.1 m.alike)
+      no_other_access none new = none (other_differs new, subst (λ (n : ℕ). IndexedAreOfOneType context k n other) same_access.1 m.alike)
 
       -- it is the only one
       pub only_access : (i : Instruction) → i ≡ indexed own.row other → (given : List Instruction) → IsBehindOperands operators at unit i given → given ≡ code

@@ -4,11 +4,11 @@ use Rattle.std.specs.Prelude.{option_and_then}
 use Rattle.std.proofs.lemmas.List.{take-append-drop}
 use Rattle.wasm_code.specs.Instruction.{Instruction}
 use Rattle.wasm_types.specs.declared.types.PrimitiveTypeInfo.{PrimitiveTypeInfo}
-use Rattle.peephole_machine.specs.Row.{list_of, instruction_types, instruction_count}
-use Rattle.peephole_machine.specs.Values.{Context}
+use Rattle.wasm_execution.specs.Row.{list_of, instruction_types, instruction_count}
+use Rattle.wasm_execution.specs.Values.{Context}
 use Rattle.body_changes.specs.declared.units.Unit.{Unit}
 use Rattle.body_changes.specs.Kinds.{IsBehindOperands, IsNew, Stand}
-use Rattle.body_changes.specs.Pass.{IsCode}
+use Rattle.body_changes.specs.Pass.{IsCodeLeaving}
 use Rattle.body_changes.specs.Replacing.{HasInstruction}
 use Rattle.body_changes.specs.Typed.{keep}
 use Rattle.body_changes.specs.Units.{IsUnit}
@@ -29,7 +29,7 @@ module _ (context : Context) (operators : Operators) (at : ℕ) (unit : Unit) (i
       let n = length c.types - instruction_count context.info own in
       other_new context operators unit.start at own i (take n c.types) (drop n c.types) c.given.gives made.operands code begun has differs c.given.typed
       (ap (option_and_then keep) (sym (same (drop n c.types))) ∙ c.given.typed)
-      (subst (IsCode context operators unit.start at) (sym (take-append-drop n c.types)) c.front) made.stand made.code_is
+      (subst (IsCodeLeaving context operators unit.start at) (sym (take-append-drop n c.types)) c.front) made.stand made.code_is
 
   -- the operator itself isn't
   pub own_behind : (i j : Instruction) → HasInstruction operators at i → i ≡ j → (code : List Instruction) → IsBehindOperands operators at unit j code →

@@ -8,15 +8,15 @@ use Rattle.std.proofs.lemmas.Option.{same_Some, slice_get-get_or}
 use Rattle.wasm_code.specs.Instruction.{Instruction}
 use Rattle.wasm_code.specs.declared.operator.Operator.{Operator}
 use Rattle.wasm_code.specs.declared.operator.Operator.TheVariants.{Instr}
-use Rattle.peephole_machine.specs.Values.{Context}
+use Rattle.wasm_execution.specs.Values.{Context}
 use Rattle.body_splices.specs.OwnBytes.{without_offsets}
 use Rattle.body_changes.specs.declared.change.Change.{Change}
 use Rattle.body_changes.specs.declared.change.Change.TheVariants as change
 use Rattle.body_changes.specs.declared.units.Unit.{Unit}
-use Rattle.body_changes.specs.Beyond.{AsksNoMore, ChangesAskNoMore, IsAsked, plain, call, stands, eased, taken}
+use Rattle.body_changes.specs.Beyond.{AsksNoMore, ChangesAskNoMore, IsAskedAlready, plain, call, stands, eased, taken}
 use Rattle.body_changes.specs.Drawing.{asks_types_alone, is_leaf_row, is_local_row, AskTypesAlone}
 use Rattle.body_changes.specs.Goals.{indexed}
-use Rattle.body_changes.specs.Kinds.{named_of, accessing, is_global_row, IsBehindOperands, Makes, Material, Stand}
+use Rattle.body_changes.specs.Kinds.{named_of, access_with_argument, is_global_row, IsBehindOperands, ChangeMakes, Material, Stand}
 use Rattle.body_changes.specs.Others.{bare}
 use Rattle.body_changes.specs.Replacing.{HasInstruction}
 use Rattle.body_changes.proofs.ConstantLemmas.{constants_plain, or_second}
@@ -60,18 +60,18 @@ module _ (operators : Operators) (material : Material) where
       stands (a + k, has_within a b k (get_or code k d) (subst (λ (i : Instruction). HasInstruction (slice_range operators a b) k i) same there))
 
   plain_code : (code : List Instruction) → AskTypesAlone code → AsksNoMore operators material.copied code
-  plain_code code h = All-weaker (λ (i : Instruction). IsTrue (asks_types_alone i)) (IsAsked operators material.copied) (λ i h. plain h) code h
+  plain_code code h = All-weaker (λ (i : Instruction). IsTrue (asks_types_alone i)) (IsAskedAlready operators material.copied) (λ i h. plain h) code h
 
   behind : (at : ℕ) (unit : Unit) (other : Instruction) (code : List Instruction) → IsBehindOperands operators at unit other code →
-      IsAsked operators material.copied other → AsksNoMore operators material.copied code
+      IsAskedAlready operators material.copied other → AsksNoMore operators material.copied code
   behind at unit other code b h =
       subst (AsksNoMore operators material.copied) (sym b.code_is)
-      (All-push (IsAsked operators material.copied) b.operands other (stood unit.start at b.operands b.stand) h)
+      (All-push (IsAskedAlready operators material.copied) b.operands other (stood unit.start at b.operands b.stand) h)
 
   -- ---- kind by kind
 
   made : (context : Context) (words : List ℕ) (kind : Change) (at : ℕ) (unit : Unit) (start : ℕ) (code : List Instruction) →
-      Makes context operators material words kind at unit start code → AsksNoMore operators material.copied code
+      ChangeMakes context operators material words kind at unit start code → AsksNoMore operators material.copied code
   made context words change.Constant at unit start code (same, m) =
       plain_code code (constants_plain m.type m.other code m.other_row m.code_is)
   made context words change.Operator at unit start code (same, m) = behind at unit m.other code m.behind (plain (bare_plain m.other m.is.is_bare))
@@ -84,22 +84,25 @@ module _ (operators : Operators) (material : Material) where
   made context words change.LastOperand at unit start code (same, m) = stood unit.last at code m.stand
   made context words change.ExchangeOperands at unit start code (same, m) =
       subst (AsksNoMore operators material.copied) (sym m.code_is)
-      (All-push (IsAsked operators material.copied) (m.last ++ m.first) m.own
-      (All-append (IsAsked operators material.copied) m.last m.first (stood unit.last at m.last m.last_stands) (stood unit.start unit.last m.first m.first_stands))
+      (All-push (IsAskedAlready operators material.copied) (m.last ++ m.first) m.own
+      (All-append (IsAskedAlready operators material.copied) m.last m.first (stood unit.last at m.last m.last_stands)
+      (stood unit.start unit.last m.first m.first_stands))
       (stands (at, m.has)))
-  made context words change.Delete at unit start code (same, m) = subst (AsksNoMore operators material.copied) (sym m.code_is) (All-nil (IsAsked operators material.copied))
+  made context words change.Delete at unit start code (same, m) =
+      subst (AsksNoMore operators material.copied) (sym m.code_is) (All-nil (IsAskedAlready operators material.copied))
   made context words change.Double at unit start code (same, m) =
       let own = stood unit.start (at + 1) m.own m.stand in
-      subst (AsksNoMore operators material.copied) (sym m.code_is) (All-append (IsAsked operators material.copied) m.own m.own own own)
+      subst (AsksNoMore operators material.copied) (sym m.code_is) (All-append (IsAskedAlready operators material.copied) m.own m.own own own)
   made context words change.ExchangeStatements at unit start code m =
       subst (AsksNoMore operators material.copied) (sym m.code_is)
-      (All-append (IsAsked operators material.copied) m.own m.first (stood unit.start (at + 1) m.own m.own_stands) (stood m.before.start unit.start m.first m.first_stands))
+      (All-append (IsAskedAlready operators material.copied) m.own m.first (stood unit.start (at + 1) m.own m.own_stands)
+      (stood m.before.start unit.start m.first m.first_stands))
   made context words change.Global at unit start code (same, m) =
       let n = named_of (length context.info.globals) words in behind at unit (indexed m.row n) code m.behind (plain (global_plain m.row n m.is_row))
   made context words change.Call at unit start code (same, m) =
       let n = named_of (length context.info.functions) words in behind at unit (indexed m.row n) code m.behind (call m.is_row)
   made context words change.MemoryArgument at unit start code (same, m) =
-      behind at unit (accessing m.other m.own) code m.behind
+      behind at unit (access_with_argument m.other m.own) code m.behind
       (eased (record {
         own = m.own;
         stands = (at, m.has);

@@ -1,5 +1,6 @@
 -- What is made of an operator, and which operator and which change come first.
-use Rattle.std.proofs.Common.{◌≡◌, ℕ, ◌+◌, ◌%◌, ◌<◌, ◌≤◌, ◌⊎◌, inl, inr, List, length, drop, Option, Some, None, Result, Ok, Err, sym, ap, subst, ◌∙◌, mod-lt, arith}
+use Rattle.std.proofs.Common.{◌≡◌, ℕ, ◌+◌, ◌%◌, ◌<◌, ◌≤◌, ◌⊎◌, inl, inr, List, length, drop, Option, Some, None, Result, Ok, Err, sym, ap}
+use Rattle.std.proofs.Common.{subst, ◌∙◌, mod-lt, arith}
 use Rattle.std.specs.Prelude.{get_or, slice_get, IfNone, IfOk, IfSome}
 use Rattle.std.proofs.lemmas.Bool.{cases_lt}
 use Rattle.std.proofs.lemmas.Option.{same_Some}
@@ -9,10 +10,10 @@ use Rattle.body_changes.specs.declared.changing.Body.{Body}
 use Rattle.body_changes.specs.declared.changing.Changed.{Changed}
 use Rattle.body_changes.specs.declared.kinds.Place.{Place}
 use Rattle.body_changes.specs.declared.units.Unit.{Unit}
-use Rattle.body_changes.specs.Body.{context_in_body, material_in, operators_in, ChangesIn, ChangesSome, IsBody, IsFound, IsNumbered}
-use Rattle.body_changes.specs.Chosen.{behind, before, Chooses, IsFirstFrom, NoneWithin}
-use Rattle.body_changes.specs.Kinds.{IsChange, Makes, Names}
-use Rattle.body_changes.specs.Proposals.{IsNewFrom, IsPlace, MakesAt, NamesAt}
+use Rattle.body_changes.specs.Body.{context_in_body, material_in, body_operators_in, ChangesIn, ChangesSome, IsBody, IsFound, IsNumbered}
+use Rattle.body_changes.specs.Chosen.{behind, before, ChoosesChange, IsFirstFrom, NoneWithin}
+use Rattle.body_changes.specs.Kinds.{IsChange, ChangeMakes, WordsNameCode}
+use Rattle.body_changes.specs.Proposals.{IsNewFrom, IsPlace, MakesAtPlace, NamesAt}
 use Rattle.body_changes.specs.Units.{IsUnit}
 use Rattle.body_changes.proofs.EndLemmas.{no_unit_there, unit_there}
 use Rattle.body_changes.proofs.OneUnitLemmas.{one_unit}
@@ -21,10 +22,10 @@ use Rattle.body_changes.proofs.OneUnitLemmas.{one_unit}
 abbrev pub place_in : Body → (at : ℕ) → Unit → Place
 place_in body at unit = record { source = body.source; units = body.units; at = at; unit = unit; copied = body.copied }
 
-module _ (body : Body) (is : IsBody body) (at : ℕ) (inside : at < length (operators_in body)) where
+module _ (body : Body) (is : IsBody body) (at : ℕ) (inside : at < length (body_operators_in body)) where
   pub no_unit : get_or body.units.now at None ≡ None → (words : List ℕ) (change : Change) → ChangesIn body words change at → ⊥
   no_unit e words change (start, code, c) =
-      no_unit_there (context_in_body body) (operators_in body) body.units.now at None is.units inside (λ u f. none u (sym e ∙ f)) c.unit c.is
+      no_unit_there (context_in_body body) (body_operators_in body) body.units.now at None is.units inside (λ u f. none u (sym e ∙ f)) c.unit c.is
     where
       none : (u : Unit) → None ≡ Some u → ⊥
       none u f = cc
@@ -33,57 +34,58 @@ module _ (body : Body) (is : IsBody body) (at : ℕ) (inside : at < length (oper
   is_place unit e = record {
     units = is.units;
     inside = inside;
-    is = unit_there (context_in_body body) (operators_in body) body.units.now at None unit is.units inside e;
+    is = unit_there (context_in_body body) (body_operators_in body) body.units.now at None unit is.units inside e;
     copied = is.copied;
   }
 
   module _ (unit : Unit) (there : IsPlace (place_in body at unit)) (words : List ℕ) (change : Change) where
     -- what the change makes is made of this unit
     made_here : (start : ℕ) (code : List Instruction)
-        (c : IsChange (context_in_body body) (operators_in body) (material_in body) words change at start code) →
-        MakesAt (place_in body at unit) body.most words change start code
+        (c : IsChange (context_in_body body) (body_operators_in body) (material_in body) words change at start code) →
+        MakesAtPlace (place_in body at unit) body.most words change start code
     made_here start code c =
-        subst (λ (u : Unit). Makes (context_in_body body) (operators_in body) (material_in body) words change at u start code)
-        (one_unit (context_in_body body) (operators_in body) at c.unit unit c.is there.is) c.makes
+        subst (λ (u : Unit). ChangeMakes (context_in_body body) (body_operators_in body) (material_in body) words change at u start code)
+        (one_unit (context_in_body body) (body_operators_in body) at c.unit unit c.is there.is) c.makes
 
-    pub none_made : ((start : ℕ) (code : List Instruction) → MakesAt (place_in body at unit) body.most words change start code →
+    pub none_made : ((start : ℕ) (code : List Instruction) → MakesAtPlace (place_in body at unit) body.most words change start code →
         IsNewFrom (place_in body at unit) start code → ⊥) → ChangesIn body words change at → ⊥
     none_made never (start, code, c) = never start code (made_here start code c) c.new
 
-    pub is_found : (c : Changed) → c.change ≡ change → c.at ≡ at → MakesAt (place_in body at unit) body.most words change c.start c.code.items →
+    pub is_found : (c : Changed) → c.change ≡ change → c.at ≡ at → MakesAtPlace (place_in body at unit) body.most words change c.start c.code.items →
         IsNewFrom (place_in body at unit) c.start c.code.items →
-        ((start : ℕ) (code : List Instruction) → MakesAt (place_in body at unit) body.most words change start code →
+        ((start : ℕ) (code : List Instruction) → MakesAtPlace (place_in body at unit) body.most words change start code →
         IsNewFrom (place_in body at unit) start code → NamesAt (place_in body at unit) change words code → c.code.items ≡ code) →
         IsFound body words c
     is_found c e f makes new named =
-        let own : IsChange (context_in_body body) (operators_in body) (material_in body) words change at c.start c.code.items =
+        let own : IsChange (context_in_body body) (body_operators_in body) (material_in body) words change at c.start c.code.items =
         record { unit = unit; is = there.is; makes = makes; new = new } in
         record {
-          is = subst (λ (x : Change). IsChange (context_in_body body) (operators_in body) (material_in body) words x c.at c.start c.code.items) (sym e)
-              (subst (λ (k : ℕ). IsChange (context_in_body body) (operators_in body) (material_in body) words change k c.start c.code.items) (sym f) own);
+          is = subst (λ (x : Change). IsChange (context_in_body body) (body_operators_in body) (material_in body) words x c.at c.start c.code.items) (sym e)
+              (subst (λ (k : ℕ). IsChange (context_in_body body) (body_operators_in body) (material_in body) words change k c.start c.code.items) (sym f) own);
           named = named_so c e f named;
         }
       where
         named_so : (c : Changed) → c.change ≡ change → c.at ≡ at →
-            ((start : ℕ) (code : List Instruction) → MakesAt (place_in body at unit) body.most words change start code →
+            ((start : ℕ) (code : List Instruction) → MakesAtPlace (place_in body at unit) body.most words change start code →
             IsNewFrom (place_in body at unit) start code → NamesAt (place_in body at unit) change words code → c.code.items ≡ code) →
-            (s : ℕ) (other : List Instruction) (o : IsChange (context_in_body body) (operators_in body) (material_in body) words c.change c.at s other) →
-            Names (context_in_body body) c.change o.unit words other → c.code.items ≡ other
+            (s : ℕ) (other : List Instruction) (o : IsChange (context_in_body body) (body_operators_in body) (material_in body) words c.change c.at s other) →
+            WordsNameCode (context_in_body body) c.change o.unit words other → c.code.items ≡ other
         named_so c e f named s other o names = go c.change c.at e f o names
           where
-            go : (x : Change) (k : ℕ) → x ≡ change → k ≡ at → (o : IsChange (context_in_body body) (operators_in body) (material_in body) words x k s other) →
-                Names (context_in_body body) x o.unit words other → c.code.items ≡ other
+            go : (x : Change) (k : ℕ) → x ≡ change → k ≡ at →
+                (o : IsChange (context_in_body body) (body_operators_in body) (material_in body) words x k s other) →
+                WordsNameCode (context_in_body body) x o.unit words other → c.code.items ≡ other
             go x k p q o names =
-                let unit_is : IsUnit (context_in_body body) (operators_in body) at o.unit =
-                subst (λ (m : ℕ). IsUnit (context_in_body body) (operators_in body) m o.unit) q o.is in
-                let same = one_unit (context_in_body body) (operators_in body) at o.unit unit unit_is there.is in
+                let unit_is : IsUnit (context_in_body body) (body_operators_in body) at o.unit =
+                subst (λ (m : ℕ). IsUnit (context_in_body body) (body_operators_in body) m o.unit) q o.is in
+                let same = one_unit (context_in_body body) (body_operators_in body) at o.unit unit unit_is there.is in
                 named s other
-                (subst (λ (u : Unit). Makes (context_in_body body) (operators_in body) (material_in body) words change at u s other) same
-                (subst (λ (y : Change). Makes (context_in_body body) (operators_in body) (material_in body) words y at o.unit s other) p
-                (subst (λ (m : ℕ). Makes (context_in_body body) (operators_in body) (material_in body) words x m o.unit s other) q o.makes)))
+                (subst (λ (u : Unit). ChangeMakes (context_in_body body) (body_operators_in body) (material_in body) words change at u s other) same
+                (subst (λ (y : Change). ChangeMakes (context_in_body body) (body_operators_in body) (material_in body) words y at o.unit s other) p
+                (subst (λ (m : ℕ). ChangeMakes (context_in_body body) (body_operators_in body) (material_in body) words x m o.unit s other) q o.makes)))
                 (subst (λ (m : ℕ). IsNewFrom (place_in body m unit) s other) q o.new)
-                (subst (λ (u : Unit). Names (context_in_body body) change u words other) same
-                (subst (λ (y : Change). Names (context_in_body body) y o.unit words other) p names))
+                (subst (λ (u : Unit). WordsNameCode (context_in_body body) change u words other) same
+                (subst (λ (y : Change). WordsNameCode (context_in_body body) y o.unit words other) p names))
 
 -- ---- the first one
 
@@ -126,16 +128,16 @@ first_inside : (Holds : ℕ → Type 0) (count from n : ℕ) → from < count �
 first_inside Holds count from n l (behind a b h none) = b
 first_inside Holds count from n l (before a h none more) = omega arith
 
-module _ (body : Body) (changes : List Change) (words : List ℕ) (some : 0 < length (operators_in body)) where
+module _ (body : Body) (changes : List Change) (words : List ℕ) (some : 0 < length (body_operators_in body)) where
   holds_at : (from to : ℕ) (c : Changed) (n : IsNumbered body changes words from to c) → ChangesSome body changes words n.number
   holds_at from to c n =
-      let inside = first_inside (ChangesIn body (drop 2 words) c.change) (length (operators_in body))
-      (get_or words 1 0 % length (operators_in body)) c.at (mod-lt (get_or words 1 0) some) n.place in
+      let inside = first_inside (ChangesIn body (drop 2 words) c.change) (length (body_operators_in body))
+      (get_or words 1 0 % length (body_operators_in body)) c.at (mod-lt (get_or words 1 0) some) n.place in
       (c.change, n.is_change, (c.at, inside, (c.start, c.code.items, n.found.is)))
 
   chosen : (from to : ℕ) (c : Changed) (n : IsNumbered body changes words from to c) →
       IsFirstFrom (ChangesSome body changes words) (length changes) (get_or words 0 0 % length changes) n.number →
-      Chooses (context_in_body body) (operators_in body) (material_in body) changes words c.change c.at c.start c.code.items
+      ChoosesChange (context_in_body body) (body_operators_in body) (material_in body) changes words c.change c.at c.start c.code.items
   chosen from to c n first = record {
     number = n.number;
     is_change = n.is_change;
@@ -147,7 +149,7 @@ module _ (body : Body) (changes : List Change) (words : List ℕ) (some : 0 < le
 
   -- from the one that the word names on
   pub chosen_behind : (from : ℕ) (c : Changed) → from ≡ get_or words 0 0 % length changes → IsNumbered body changes words from (length changes) c →
-      Chooses (context_in_body body) (operators_in body) (material_in body) changes words c.change c.at c.start c.code.items
+      ChoosesChange (context_in_body body) (body_operators_in body) (material_in body) changes words c.change c.at c.start c.code.items
   chosen_behind from c e n =
       chosen from (length changes) c n
       (subst (λ (k : ℕ). IsFirstFrom (ChangesSome body changes words) (length changes) k n.number) e
@@ -156,7 +158,7 @@ module _ (body : Body) (changes : List Change) (words : List ℕ) (some : 0 < le
   -- or before it
   pub chosen_before : (from : ℕ) (c : Changed) → from ≡ get_or words 0 0 % length changes → NoneWithin (ChangesSome body changes words) from (length changes) →
       IsNumbered body changes words 0 from c →
-      Chooses (context_in_body body) (operators_in body) (material_in body) changes words c.change c.at c.start c.code.items
+      ChoosesChange (context_in_body body) (body_operators_in body) (material_in body) changes words c.change c.at c.start c.code.items
   chosen_before from c e none n =
       chosen 0 from c n
       (subst (λ (k : ℕ). IsFirstFrom (ChangesSome body changes words) (length changes) k n.number) e
@@ -164,30 +166,30 @@ module _ (body : Body) (changes : List Change) (words : List ℕ) (some : 0 < le
 
 -- the change of that number makes nothing of any operator
 pub number_never : (body : Body) (changes : List Change) (words rest : List ℕ) (number : ℕ) (change : Change) → rest ≡ drop 2 words →
-    slice_get changes number ≡ Some change → NoneWithin (ChangesIn body rest change) 0 (length (operators_in body)) →
+    slice_get changes number ≡ Some change → NoneWithin (ChangesIn body rest change) 0 (length (body_operators_in body)) →
     ChangesSome body changes words number → ⊥
 number_never body changes words rest number change e is never (other, there, (at, inside, (start, code, h))) =
     let same : other ≡ change = same_Some other change (sym there ∙ is) in
     never at (omega arith) inside (
       start,
       code,
-      subst (λ (x : Change). IsChange (context_in_body body) (operators_in body) (material_in body) rest x at start code) same
-          (subst (λ (ws : List ℕ). IsChange (context_in_body body) (operators_in body) (material_in body) ws other at start code) (sym e) h),
+      subst (λ (x : Change). IsChange (context_in_body body) (body_operators_in body) (material_in body) rest x at start code) same
+          (subst (λ (ws : List ℕ). IsChange (context_in_body body) (body_operators_in body) (material_in body) ws other at start code) (sym e) h),
     )
 
 pub numbered : (body : Body) (changes : List Change) (words rest : List ℕ) (from to number start : ℕ) (change : Change) (c : Changed) →
-    rest ≡ drop 2 words → start ≡ get_or words 1 0 % length (operators_in body) → from ≤ number → number < to →
+    rest ≡ drop 2 words → start ≡ get_or words 1 0 % length (body_operators_in body) → from ≤ number → number < to →
     slice_get changes number ≡ Some change → NoneWithin (ChangesSome body changes words) from number → c.change ≡ change → IsFound body rest c →
-    IsFirstFrom (ChangesIn body rest change) (length (operators_in body)) start c.at → IsNumbered body changes words from to c
+    IsFirstFrom (ChangesIn body rest change) (length (body_operators_in body)) start c.at → IsNumbered body changes words from to c
 numbered body changes words rest from to number start change c e f a b is none g found first = record {
   number = number;
   behind = a;
   before = b;
   is_change = is ∙ ap (λ (x : Change). Some x) (sym g);
   first = none;
-  place = subst (λ (ws : List ℕ). IsFirstFrom (ChangesIn body ws c.change) (length (operators_in body))
-      (get_or words 1 0 % length (operators_in body)) c.at) e
-      (subst (λ (k : ℕ). IsFirstFrom (ChangesIn body rest c.change) (length (operators_in body)) k c.at) f
-      (subst (λ (x : Change). IsFirstFrom (ChangesIn body rest x) (length (operators_in body)) start c.at) (sym g) first));
+  place = subst (λ (ws : List ℕ). IsFirstFrom (ChangesIn body ws c.change) (length (body_operators_in body))
+      (get_or words 1 0 % length (body_operators_in body)) c.at) e
+      (subst (λ (k : ℕ). IsFirstFrom (ChangesIn body rest c.change) (length (body_operators_in body)) k c.at) f
+      (subst (λ (x : Change). IsFirstFrom (ChangesIn body rest x) (length (body_operators_in body)) start c.at) (sym g) first));
   found = subst (λ (ws : List ℕ). IsFound body ws c) e found;
 }

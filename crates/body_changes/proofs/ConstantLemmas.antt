@@ -12,8 +12,8 @@ use Rattle.wasm_code.specs.declared.immediate.Imm.TheVariants as imm
 use Rattle.wasm_types.specs.Module.{Module, merged}
 use Rattle.wasm_types.specs.declared.types.PrimitiveTypeInfo.{PrimitiveTypeInfo}
 use Rattle.wasm_types.specs.declared.types.PrimitiveTypeInfo.TheVariants as primitive
-use Rattle.peephole_machine.specs.IntegerRow.{integer_row}
-use Rattle.peephole_machine.specs.OtherRow.{other_type}
+use Rattle.wasm_execution.specs.IntegerRow.{integer_row}
+use Rattle.wasm_execution.specs.OtherRow.{other_type}
 use Rattle.body_changes.specs.Drawing.{asks_types_alone, is_drawable, is_leaf_row, is_local_row, is_nothing, AskTypesAlone}
 use Rattle.body_changes.specs.Goals.{constant_row, is_constant_imm, IsConstantOf}
 use Rattle.body_changes.specs.Typed.{is_told_apart}

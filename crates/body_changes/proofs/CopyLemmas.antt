@@ -1,18 +1,19 @@
 -- Code that is copied: the unit that a word names, and where such code fits.
-use Rattle.std.proofs.Common.{◌≡◌, ℕ, zero, suc, ◌+◌, ◌<◌, List, [], ◌∷◌, length, get_or, Option, Some, None, Result, Ok, Err, refl, sym, ap, ◌∙◌, subst, inl, inr, arith}
+use Rattle.std.proofs.Common.{◌≡◌, ℕ, zero, suc, ◌+◌, ◌<◌, List, [], ◌∷◌, length, get_or, Option, Some, None, Result, Ok, Err, refl, sym}
+use Rattle.std.proofs.Common.{ap, ◌∙◌, subst, inl, inr, arith}
 use Rattle.std.specs.Prelude.{slice_get, slice_range, IfNone, IfOk, IfSome, IsTrue}
 use Rattle.std.proofs.lemmas.Bool.{cases_lt}
 use Rattle.std.proofs.lemmas.Option.{same_Some, slice_get-get_or}
 use Rattle.wasm_code.specs.Instruction.{Instruction}
 use Rattle.wasm_types.specs.declared.types.PrimitiveTypeInfo.{PrimitiveTypeInfo}
-use Rattle.peephole_machine.specs.Row.{list_of}
-use Rattle.peephole_machine.specs.Values.{Context}
+use Rattle.wasm_execution.specs.Row.{list_of}
+use Rattle.wasm_execution.specs.Values.{Context}
 use Rattle.body_changes.specs.declared.units.Unit.{Unit}
 use Rattle.body_changes.specs.Copied.{operator_named, IsGiven, IsUnitNamed}
 use Rattle.body_changes.specs.Drawing.{asks_types_alone}
 use Rattle.body_changes.specs.Kinds.{IsNew, MakesCopy, Stand}
 use Rattle.body_changes.specs.Replacing.{HasInstruction}
-use Rattle.body_changes.specs.Typed.{types_after, Leaves}
+use Rattle.body_changes.specs.Typed.{told_types_after, LeavesTypes}
 use Rattle.body_changes.specs.Units.{AreUnits, IsUnit, IsUnitAt}
 use Rattle.body_changes.proofs.OneUnitLemmas.{one_start, same_list}
 use Rattle.body_changes.proofs.OwnLemmas.{same_instructions}
@@ -47,7 +48,8 @@ module _ (context : Context) (operators : Operators) (word : ℕ) where
   module _ (list lent : List (Option Unit)) (units : AreUnits context operators list) (lent_is : lent ≡ list) (o : Option Unit)
       (found : slice_get lent (operator_named operators word) ≡ Some o) where
     found_so : IsUnitAt context operators (operator_named operators word) o
-    found_so = units.each (operator_named operators word) o (ap (λ (us : List (Option Unit)). slice_get us (operator_named operators word)) (sym lent_is) ∙ found)
+    found_so = units.each (operator_named operators word) o (ap (λ (us : List (Option Unit)). slice_get us (operator_named operators word))
+        (sym lent_is) ∙ found)
 
     pub there_named : (unit : Unit) → o ≡ Some unit → IsUnit context operators (operator_named operators word) unit
     there_named unit e = subst (IsUnitAt context operators (operator_named operators word)) e found_so
@@ -89,12 +91,12 @@ module _ (context : Context) (operators : Operators) (word : ℕ) where
 -- ---- what the code leaves
 
 pub given_types : (context : Context) (code : List Instruction) (types : List PrimitiveTypeInfo) (gives : Option (Option PrimitiveTypeInfo)) →
-    Leaves context code types → IfSome gives (λ g. types ≡ list_of g) → IfNone gives ((g : Option PrimitiveTypeInfo) → types ≡ list_of g → ⊥) →
+    LeavesTypes context code types → IfSome gives (λ g. types ≡ list_of g) → IfNone gives ((g : Option PrimitiveTypeInfo) → types ≡ list_of g → ⊥) →
     IsGiven context code gives
 given_types context code types (Some g) leaves some none = leaves ∙ ap (λ (ts : List PrimitiveTypeInfo). Some ts) some
 given_types context code types None leaves some none = λ g other. none g (same_Some types (list_of g) (sym leaves ∙ other))
 
-pub given_nothing : (context : Context) (code : List Instruction) → types_after context code [] ≡ None → IsGiven context code None
+pub given_nothing : (context : Context) (code : List Instruction) → told_types_after context code [] ≡ None → IsGiven context code None
 given_nothing context code e g leaves = differ (sym e ∙ leaves)
   where
     differ : {X : Type 0} {x : X} → None ≡ Some x → ⊥
@@ -108,10 +110,10 @@ pub copied_otherwise : (context : Context) (operators : Operators) (at : ℕ) (u
     MakesCopy copied code → IsNew context operators unit.start at code → ⊥
 copied_otherwise context operators at unit is copied gives given differs code made new = go gives given differs
   where
-    leaves : Leaves context copied (list_of unit.gives)
+    leaves : LeavesTypes context copied (list_of unit.gives)
     leaves =
-        subst (λ (c : List Instruction). Leaves context c (list_of unit.gives)) made.code_is
-        (subst (Leaves context code) (closed_one context operators unit.start (at + 1) new.can.types (list_of unit.gives) new.can.closed is.is.closed)
+        subst (λ (c : List Instruction). LeavesTypes context c (list_of unit.gives)) made.code_is
+        (subst (LeavesTypes context code) (closed_one context operators unit.start (at + 1) new.can.types (list_of unit.gives) new.can.closed is.is.closed)
         new.can.leaves)
 
     go : (gives : Option (Option PrimitiveTypeInfo)) → IsGiven context copied gives → (gives ≡ Some unit.gives → ⊥) → ⊥

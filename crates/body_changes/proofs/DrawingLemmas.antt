@@ -1,5 +1,6 @@
 -- Code as it is drawn, instruction by instruction.
-use Rattle.std.proofs.Common.{get_or, ◌≡◌, ℕ, ◌+◌, ◌-◌, ◌<◌, ◌≤◌, ◌⊎◌, inl, inr, List, [], ◌∷◌, ◌++◌, length, Some, refl, sym, ap, ap₂, ◌∙◌, subst, append_assoc}
+use Rattle.std.proofs.Common.{get_or, ◌≡◌, ℕ, ◌+◌, ◌-◌, ◌<◌, ◌≤◌, ◌⊎◌, inl, inr, List, [], ◌∷◌, ◌++◌, length, Some, refl, sym, ap, ap₂, ◌∙◌}
+use Rattle.std.proofs.Common.{subst, append_assoc}
 use Rattle.std.proofs.Common.{length-append, arith}
 use Rattle.std.specs.Prelude.{reverse, IsTrue}
 use Rattle.std.specs.List.{All}
@@ -7,12 +8,13 @@ use Rattle.std.proofs.lemmas.List.{map-append, reverse-append, length-reverse}
 use Rattle.std.proofs.lemmas.List.Elements.{All-head, All-tail, All-append, All-push, All-cons, All-nil}
 use Rattle.wasm_code.specs.Instruction.{Instruction}
 use Rattle.wasm_types.specs.declared.types.PrimitiveTypeInfo.{PrimitiveTypeInfo}
-use Rattle.peephole_machine.specs.Values.{Context}
+use Rattle.wasm_execution.specs.Values.{Context}
 use Rattle.body_changes.specs.declared.goal.Goal.{Goal}
 use Rattle.body_changes.specs.declared.goal.Words.{Words}
-use Rattle.body_changes.specs.Drawing.{asks_types_alone, is_drawable, three_words, words_of, AreDrawable, AskTypesAlone, IsLeaf}
-use Rattle.body_changes.specs.Goals.{first_words, types_in, wanted_types, whole_size, AreFor, DrawsOnly, HasDrawn, HasPushed, IsDrawing, IsOpen}
-use Rattle.body_changes.specs.Typed.{types_after, Leaves}
+use Rattle.body_changes.specs.Drawing.{asks_types_alone, is_drawable, three_words, drawing_words_of, AreDrawable, AskTypesAlone, IsLeaf}
+use Rattle.body_changes.specs.Goals.{first_words, operand_types_in, wanted_types, whole_size, WordsDrawInstruction, DrawsOnly, HasDrawn}
+use Rattle.body_changes.specs.Goals.{HasPushed, IsDrawing, GoalIsOpen}
+use Rattle.body_changes.specs.Typed.{told_types_after, LeavesTypes}
 use Rattle.body_changes.proofs.ConstantLemmas.{drawable_told}
 use Rattle.body_changes.proofs.TypedLemmas.{behind_others, after_one, told_known}
 
@@ -24,10 +26,10 @@ module _ (context : Context) where
   -- ---- one more
 
   pub drawing_goes_on : (wanted : PrimitiveTypeInfo) (size step : ℕ) (goals front left : List Goal) (goal : Goal) (words : Words)
-      (code grown : List Instruction) → goals ≡ front ++ goal ∷ [] → IsDrawing context wanted size step goals code → All (IsOpen context) front →
-      IsOpen context goal → HasDrawn context goal words front code left grown → IsDrawing context wanted size (step + 1) left grown
+      (code grown : List Instruction) → goals ≡ front ++ goal ∷ [] → IsDrawing context wanted size step goals code → All (GoalIsOpen context) front →
+      GoalIsOpen context goal → HasDrawn context goal words front code left grown → IsDrawing context wanted size (step + 1) left grown
   drawing_goes_on wanted size step goals front left goal words code grown e d some is_open h =
-      let ts = types_in h.chosen.operands in
+      let ts = operand_types_in h.chosen.operands in
       let types : wanted_types goals ≡ wanted_types front ++ goal.wanted ∷ [] = ap wanted_types e ∙ map-append (λ (g : Goal). g.wanted) front (goal ∷ []) in
       let new_types : wanted_types left ≡ wanted_types front ++ ts =
       ap wanted_types h.pushed.grown ∙ (map-append (λ (g : Goal). g.wanted) front h.pushed.more ∙ ap (λ us. wanted_types front ++ us) h.pushed.types) in
@@ -41,12 +43,12 @@ module _ (context : Context) where
       record {
         size_is = omega arith;
         goes_on = inr (longer d.goes_on count);
-        some = subst (All (IsOpen context)) (sym h.pushed.grown) (All-append (IsOpen context) front h.pushed.more some h.pushed.some);
-        whole = ap₂ (λ xs us. types_after context xs us) turned new_types
+        some = subst (All (GoalIsOpen context)) (sym h.pushed.grown) (All-append (GoalIsOpen context) front h.pushed.more some h.pushed.some);
+        whole = ap₂ (λ xs us. told_types_after context xs us) turned new_types
             ∙ (after_one context h.chosen.instr (reverse code) (wanted_types front ++ ts) (wanted_types front ++ goal.wanted ∷ [])
             (behind_others context h.chosen.instr (wanted_types front) ts (Some goal.wanted)
             (told_known context h.chosen.instr ts goal.wanted (drawable_told context.info goal.wanted is_open.drawable) h.fits.types))
-            ∙ (ap (types_after context (reverse code)) (sym types) ∙ d.whole));
+            ∙ (ap (told_types_after context (reverse code)) (sym types) ∙ d.whole));
         plain = subst AskTypesAlone (sym h.added) (All-push (λ (i : Instruction). IsTrue (asks_types_alone i)) code h.chosen.instr d.plain h.fits.plain);
       }
     where
@@ -60,16 +62,16 @@ module _ (context : Context) where
   drawing_stays wanted size step goals left code e f d = record {
     size_is = let n = d.size_is in let a = ap whole_size e in let b = ap whole_size f in omega arith;
     goes_on = inl f;
-    some = subst (All (IsOpen context)) (e ∙ sym f) d.some;
-    whole = ap (λ (gs : List Goal). types_after context (reverse code) (wanted_types gs)) (f ∙ sym e) ∙ d.whole;
+    some = subst (All (GoalIsOpen context)) (e ∙ sym f) d.some;
+    whole = ap (λ (gs : List Goal). told_types_after context (reverse code) (wanted_types gs)) (f ∙ sym e) ∙ d.whole;
     plain = d.plain;
   }
 
   -- ---- the end
 
-  nothing_left : (goals : List Goal) → All (IsOpen context) goals → whole_size goals ≤ 0 → goals ≡ []
+  nothing_left : (goals : List Goal) → All (GoalIsOpen context) goals → whole_size goals ≤ 0 → goals ≡ []
   nothing_left [] some l = refl
-  nothing_left (g ∷ goals) some l = absurd (let n = (All-head (IsOpen context) g goals some).some in omega arith)
+  nothing_left (g ∷ goals) some l = absurd (let n = (All-head (GoalIsOpen context) g goals some).some in omega arith)
 
   all_drawn : (wanted : PrimitiveTypeInfo) (size step : ℕ) (goals : List Goal) (code : List Instruction) → size ≤ step →
       IsDrawing context wanted size step goals code → goals ≡ []
@@ -80,14 +82,14 @@ module _ (context : Context) where
       empty (inr is) = nothing_left goals d.some (let k = d.size_is in omega arith)
 
   pub drawing_ends : (wanted : PrimitiveTypeInfo) (size step : ℕ) (goals : List Goal) (code turned : List Instruction) → size ≤ step →
-      turned ≡ reverse code → IsDrawing context wanted size step goals code → Leaves context turned (wanted ∷ []) × (length turned ≤ size)
+      turned ≡ reverse code → IsDrawing context wanted size step goals code → LeavesTypes context turned (wanted ∷ []) × (length turned ≤ size)
   drawing_ends wanted size step goals code turned l e d =
       let none = all_drawn wanted size step goals code l d in
       let n = length-reverse code in
       let m = ap (λ (xs : List Instruction). length xs) e in
       let k = d.size_is in (
-        ap (λ xs. types_after context xs []) e
-            ∙ (ap (λ (gs : List Goal). types_after context (reverse code) (wanted_types gs)) (sym none) ∙ d.whole),
+        ap (λ xs. told_types_after context xs []) e
+            ∙ (ap (λ (gs : List Goal). told_types_after context (reverse code) (wanted_types gs)) (sym none) ∙ d.whole),
         omega arith,
       )
 
@@ -104,11 +106,11 @@ module _ (context : Context) where
   -- ---- a single instruction
 
   -- the words are those for the instruction
-  pub words_are_for : (t : PrimitiveTypeInfo) (i : Instruction) (words : List ℕ) → three_words words ≡ words_of context t i →
-      AreFor context t i (first_words words)
+  pub words_are_for : (t : PrimitiveTypeInfo) (i : Instruction) (words : List ℕ) → three_words words ≡ drawing_words_of context t i →
+      WordsDrawInstruction context t i (first_words words)
   words_are_for t i words e = record { choice = same 0; low = same 1; high = same 2 }
     where
-      same : (n : ℕ) → get_or (three_words words) n 0 ≡ get_or (words_of context t i) n 0
+      same : (n : ℕ) → get_or (three_words words) n 0 ≡ get_or (drawing_words_of context t i) n 0
       same n = ap (λ (ws : List ℕ). get_or ws n 0) e
 
   no_more : (goals : List Goal) (ts : List PrimitiveTypeInfo) → wanted_types goals ≡ ts → ts ≡ [] → goals ≡ []
@@ -124,9 +126,9 @@ module _ (context : Context) where
         let none : front ≡ [] = front_none front alone in
         let same : goal ≡ first = front_same front alone in
         let chosen = h.drawn i (subst (λ (g : Goal). IsLeaf context g.wanted i) (sym same) is)
-        (subst (λ (g : Goal). AreFor context g.wanted i (first_words rest)) (sym same)
+        (subst (λ (g : Goal). WordsDrawInstruction context g.wanted i (first_words rest)) (sym same)
         (words_are_for first.wanted i rest (ap three_words f.rest_is ∙ named))) in
-        let more : h.pushed.more ≡ [] = no_more h.pushed.more (types_in h.chosen.operands) h.pushed.types (ap types_in chosen.1) in
+        let more : h.pushed.more ≡ [] = no_more h.pushed.more (operand_types_in h.chosen.operands) h.pushed.types (ap operand_types_in chosen.1) in
         inr (record {
           goals_are = h.pushed.grown ∙ ap₂ (λ (xs ys : List Goal). xs ++ ys) none more;
           code_is = h.added ∙ ap₂ (λ (xs : List Instruction) (j : Instruction). xs ++ j ∷ []) f.code_is chosen.0;
@@ -151,7 +153,7 @@ module _ (context : Context) where
 
   pub only_ends : (first : Goal) (step : ℕ) (words rest : List ℕ) (goals : List Goal) (code turned : List Instruction) → first.size ≤ step →
       turned ≡ reverse code → IsDrawing context first.wanted first.size step goals code → DrawsOnly context first step words rest goals code →
-      (i : Instruction) → IsLeaf context first.wanted i → three_words words ≡ words_of context first.wanted i → turned ≡ i ∷ []
+      (i : Instruction) → IsLeaf context first.wanted i → three_words words ≡ drawing_words_of context first.wanted i → turned ≡ i ∷ []
   only_ends first step words rest goals code turned l e drawing d i is named =
       let none = all_drawn first.wanted first.size step goals code l drawing in
       elim (d i is named) [
@@ -174,8 +176,8 @@ module _ (context : Context) where
         grown = g ∙ (ap (λ gs. gs ++ y ∷ []) e ∙ append_assoc old (x ∷ []) (y ∷ []));
         types = refl;
         size = omega arith;
-        some = All-cons (IsOpen context) x (y ∷ []) (record { some = f; drawable = All-head each a (b ∷ []) drawable })
-            (All-cons (IsOpen context) y [] (record { some = omega arith; drawable = All-head each b [] last }) (All-nil (IsOpen context)));
+        some = All-cons (GoalIsOpen context) x (y ∷ []) (record { some = f; drawable = All-head each a (b ∷ []) drawable })
+            (All-cons (GoalIsOpen context) y [] (record { some = omega arith; drawable = All-head each b [] last }) (All-nil (GoalIsOpen context)));
       }
 
   pub three_pushed : (a b c : PrimitiveTypeInfo) (room first second : ℕ) (old one two three : List Goal) → 0 < first → 0 < second → first + second < room →
@@ -194,7 +196,7 @@ module _ (context : Context) where
         grown = h ∙ (ap (λ gs. gs ++ z ∷ []) (g ∙ (ap (λ gs. gs ++ y ∷ []) e ∙ append_assoc old (x ∷ []) (y ∷ []))) ∙ append_assoc old (x ∷ y ∷ []) (z ∷ []));
         types = refl;
         size = omega arith;
-        some = All-cons (IsOpen context) x (y ∷ z ∷ []) (record { some = f; drawable = All-head each a (b ∷ c ∷ []) drawable })
-            (All-cons (IsOpen context) y (z ∷ []) (record { some = s; drawable = All-head each b (c ∷ []) rest })
-            (All-cons (IsOpen context) z [] (record { some = omega arith; drawable = All-head each c [] last }) (All-nil (IsOpen context))));
+        some = All-cons (GoalIsOpen context) x (y ∷ z ∷ []) (record { some = f; drawable = All-head each a (b ∷ c ∷ []) drawable })
+            (All-cons (GoalIsOpen context) y (z ∷ []) (record { some = s; drawable = All-head each b (c ∷ []) rest })
+            (All-cons (GoalIsOpen context) z [] (record { some = omega arith; drawable = All-head each c [] last }) (All-nil (GoalIsOpen context))));
       }

@@ -3,12 +3,12 @@ use Rattle.std.proofs.Common.{◌≡◌, ℕ, ◌+◌, ◌<◌, ◌≤◌, [], �
 use Rattle.std.proofs.Common.{arith}
 use Rattle.std.proofs.lemmas.Option.{slice_get-get_or}
 use Rattle.wasm_code.specs.Instruction.{Instruction}
-use Rattle.peephole_machine.specs.Row.{list_of}
-use Rattle.peephole_machine.specs.Values.{Context}
+use Rattle.wasm_execution.specs.Row.{list_of}
+use Rattle.wasm_execution.specs.Values.{Context}
 use Rattle.body_changes.specs.declared.units.Unit.{Unit}
 use Rattle.body_changes.specs.Kinds.{IsNew, Stand}
 use Rattle.body_changes.specs.Replacing.{CanReplace, HasInstruction, IsClosed}
-use Rattle.body_changes.specs.Typed.{Leaves}
+use Rattle.body_changes.specs.Typed.{LeavesTypes}
 use Rattle.body_changes.specs.Units.{AreUnits, IsUnit, IsUnitAt}
 use Rattle.body_changes.proofs.PartLemmas.{ends_otherwise}
 use Rattle.body_changes.proofs.StandLemmas.{Operators, Types, nothing_there, one_behind}
@@ -20,19 +20,19 @@ module _ (context : Context) (operators : Operators) (at : ℕ) (unit : Unit) (i
   -- ---- in its place
 
   -- what leaves the same may stand there
-  pub may_stand : (code : List Instruction) → Leaves context code (list_of unit.gives) → CanReplace context operators unit.start (at + 1) code
+  pub may_stand : (code : List Instruction) → LeavesTypes context code (list_of unit.gives) → CanReplace context operators unit.start (at + 1) code
   may_stand code leaves = record { types = list_of unit.gives; closed = is.is.closed; leaves = leaves }
 
   -- and is new where it ends with another instruction
   pub new_end : (front : List Instruction) (i own : Instruction) → HasInstruction operators at own → (i ≡ own → ⊥) →
-      Leaves context (front ++ i ∷ []) (list_of unit.gives) → IsNew context operators unit.start at (front ++ i ∷ [])
+      LeavesTypes context (front ++ i ∷ []) (list_of unit.gives) → IsNew context operators unit.start at (front ++ i ∷ [])
   new_end front i own has differs leaves = record {
     can = may_stand (front ++ i ∷ []) leaves;
     differs = ends_otherwise operators unit.start at own i front (front ++ i ∷ []) unit_within has differs refl;
   }
 
   -- an operator that needs no operands is the whole unit
-  pub alone : (i : Instruction) (types : Types) → HasInstruction operators at i → Leaves context (i ∷ []) types →
+  pub alone : (i : Instruction) (types : Types) → HasInstruction operators at i → LeavesTypes context (i ∷ []) types →
       Stand operators unit.start (at + 1) (i ∷ [])
   alone i types has leaves =
       let stands = one_behind operators at at [] i (omega arith) has (nothing_there operators at) in

@@ -1,10 +1,11 @@
 -- The values that are kept where nothing is, and where each of them begins once the last ones are replaced.
-use Rattle.std.proofs.Common.{◌≡◌, ℕ, ◌+◌, ◌<◌, ◌≤◌, ◌⊎◌, inl, inr, List, [], ◌∷◌, ◌++◌, length, get_or, take, Option, Some, None, refl, sym, ap, ◌∙◌, subst, length-append, arith}
+use Rattle.std.proofs.Common.{◌≡◌, ℕ, ◌+◌, ◌<◌, ◌≤◌, ◌⊎◌, inl, inr, List, [], ◌∷◌, ◌++◌, length, get_or, take, Option, Some, None, refl}
+use Rattle.std.proofs.Common.{sym, ap, ◌∙◌, subst, length-append, arith}
 use Rattle.std.proofs.lemmas.Bool.{cases_lt}
 use Rattle.std.proofs.lemmas.List.{drop_all, get_or_append_left, get_or_default, get_or_push, get_or-take, length-take-le}
 use Rattle.wasm_types.specs.declared.types.PrimitiveTypeInfo.{PrimitiveTypeInfo}
-use Rattle.peephole_machine.specs.Values.{Context}
-use Rattle.body_changes.specs.Pass.{start_where, AreValues, IsCode}
+use Rattle.wasm_execution.specs.Values.{Context}
+use Rattle.body_changes.specs.Pass.{start_where, AreValues, IsCodeLeaving}
 use Rattle.body_changes.specs.Replacing.{IsClosed}
 use Rattle.body_changes.proofs.StandLemmas.{Operators, Types, no_code, none_left}
 
@@ -12,15 +13,16 @@ use Rattle.body_changes.proofs.StandLemmas.{Operators, Types, no_code, none_left
 
 -- no value is left behind an operator that no code goes across
 pub none_kept : (context : Context) (operators : Operators) (at : ℕ) →
-    ((s : ℕ) (ts : Types) → s ≤ at → IsCode context operators s at ts → s ≡ at) → AreValues context operators at [] []
+    ((s : ℕ) (ts : Types) → s ≤ at → IsCodeLeaving context operators s at ts → s ≡ at) → AreValues context operators at [] []
 none_kept context operators at across = record {
   aligned = refl;
   sorted = λ j k le. omega arith;
-  leave = λ j. subst (λ ts. IsCode context operators at at ts) (sym (drop_all {X = PrimitiveTypeInfo} j [] (omega arith))) (no_code context operators at);
+  leave = λ j. subst (λ ts. IsCodeLeaving context operators at at ts) (sym (drop_all {X = PrimitiveTypeInfo} j [] (omega arith)))
+      (no_code context operators at);
   most = λ s ts le c. let same = across s ts le c in record {
     number = 0;
     few = omega arith;
-    last = none_left context operators at ts (subst (λ n. IsCode context operators n at ts) same c);
+    last = none_left context operators at ts (subst (λ n. IsCodeLeaving context operators n at ts) same c);
     begins = omega arith;
   };
 }
@@ -38,7 +40,7 @@ pub nothing_across : (context : Context) (operators : Operators) (at : ℕ) → 
     AreValues context operators (at + 1) [] []
 nothing_across context operators at never = none_kept context operators (at + 1) (λ s ts le c. go s ts c (cases_lt s (at + 1)) le)
   where
-    go : (s : ℕ) (ts : Types) → IsCode context operators s (at + 1) ts → (s < at + 1) ⊎ (at + 1 ≤ s) → s ≤ at + 1 → s ≡ at + 1
+    go : (s : ℕ) (ts : Types) → IsCodeLeaving context operators s (at + 1) ts → (s < at + 1) ⊎ (at + 1 ≤ s) → s ≤ at + 1 → s ≡ at + 1
     go s ts c (inl l) le = absurd (never s ts (record { some = l; own = c.own; stands = c.stands; leaves = c.leaves }))
     go s ts c (inr l) le = omega arith
 

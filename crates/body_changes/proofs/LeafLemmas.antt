@@ -15,13 +15,13 @@ use Rattle.wasm_code.specs.declared.immediate.Imm.TheVariants as imm
 use Rattle.wasm_types.specs.Module.{merged}
 use Rattle.wasm_types.specs.declared.types.PrimitiveTypeInfo.{PrimitiveTypeInfo}
 use Rattle.wasm_types.specs.declared.types.PrimitiveTypeInfo.TheVariants as primitive
-use Rattle.peephole_machine.specs.IntegerRow.{integer_row}
-use Rattle.peephole_machine.specs.OtherRow.{other_type}
-use Rattle.peephole_machine.specs.Row.{at_most_one, instruction_types}
-use Rattle.peephole_machine.specs.Values.{Context}
+use Rattle.wasm_execution.specs.IntegerRow.{integer_row}
+use Rattle.wasm_execution.specs.OtherRow.{other_type}
+use Rattle.wasm_execution.specs.Row.{at_most_one, instruction_types}
+use Rattle.wasm_execution.specs.Values.{Context}
 use Rattle.body_changes.specs.declared.goal.Words.{Words}
-use Rattle.body_changes.specs.Drawing.{is_leaf_row, bits_of, choice_of, rank, IsLeaf, LeavesHaveWords}
-use Rattle.body_changes.specs.Goals.{constant_by, indexed, AreFor, HasVariable, IsVariable}
+use Rattle.body_changes.specs.Drawing.{is_leaf_row, bits_of, choice_word, variable_rank, IsLeaf, LeavesHaveWords}
+use Rattle.body_changes.specs.Goals.{constant_by, indexed, WordsDrawInstruction, HasVariable, IsVariable}
 use Rattle.body_changes.specs.Typed.{is_told_apart}
 use Rattle.body_changes.proofs.VariableLemmas.{rank_below}
 
@@ -65,7 +65,7 @@ halves n = omega arith
 -- a constant, chosen by its own bits
 pub record IsByBits (context : Context) (t : PrimitiveTypeInfo) (i : Instruction) : Type 0 where
   pub is : i ≡ constant_by t (bits_of i.imm % 2 ^ 64) (bits_of i.imm / 2 ^ 64)
-  pub choice : choice_of context t i.row i.imm ≡ 32
+  pub choice : choice_word context t i.row i.imm ≡ 32
 
 -- a local, a global or a constant
 abbrev LeafCase : Context → PrimitiveTypeInfo → Instruction → Type 0
@@ -211,12 +211,12 @@ leaf_cases context t i told h = by_row context t told i.imm i.row h.row h.instru
 
 -- the word that chooses a variable's instruction is the variable's
 local_choice : (context : Context) (t : PrimitiveTypeInfo) (i : Instruction) (v : IsVariable 4 context.locals t i) →
-    choice_of context t i.row i.imm ≡ 8 * rank context.locals t v.index + 1
-local_choice context t i v = ap (λ (j : Instruction). choice_of context t j.row j.imm) v.is
+    choice_word context t i.row i.imm ≡ 8 * variable_rank context.locals t v.index + 1
+local_choice context t i v = ap (λ (j : Instruction). choice_word context t j.row j.imm) v.is
 
 global_choice : (context : Context) (t : PrimitiveTypeInfo) (i : Instruction) (v : IsVariable 7 context.info.globals t i) →
-    choice_of context t i.row i.imm ≡ 8 * rank context.info.globals t v.index + 2
-global_choice context t i v = ap (λ (j : Instruction). choice_of context t j.row j.imm) v.is
+    choice_word context t i.row i.imm ≡ 8 * variable_rank context.info.globals t v.index + 2
+global_choice context t i v = ap (λ (j : Instruction). choice_word context t j.row j.imm) v.is
 
 -- What is chosen is the instruction, or no variable is, and the instruction is the constant.
 abbrev pub IsChosen : (words : Words) → (t : PrimitiveTypeInfo) → (chosen : Option Instruction) → Instruction → Type 0
@@ -224,9 +224,10 @@ IsChosen words t chosen i =
     (chosen ≡ Some i) ⊎ ((chosen ≡ None) × (words.choice / 8 ≡ 4) × (constant_by t words.low words.high ≡ i))
 
 pub is_chosen : (context : Context) (t : PrimitiveTypeInfo) (words : Words) (chosen : Option Instruction) → IsTrue (is_told_apart t) →
-    ((n : ℕ) → n < 2 ^ 32 → HasVariable context.locals t n → words.choice ≡ 8 * rank context.locals t n + 1 → chosen ≡ Some (indexed 4 n)) →
-    ((n : ℕ) → n < 2 ^ 32 → HasVariable context.info.globals t n → words.choice ≡ 8 * rank context.info.globals t n + 2 → chosen ≡ Some (indexed 7 n)) →
-    (words.choice ≡ 32 → chosen ≡ None) → (i : Instruction) → IsLeaf context t i → AreFor context t i words → IsChosen words t chosen i
+    ((n : ℕ) → n < 2 ^ 32 → HasVariable context.locals t n → words.choice ≡ 8 * variable_rank context.locals t n + 1 → chosen ≡ Some (indexed 4 n)) →
+    ((n : ℕ) → n < 2 ^ 32 → HasVariable context.info.globals t n → words.choice ≡ 8 * variable_rank context.info.globals t n + 2 →
+    chosen ≡ Some (indexed 7 n)) →
+    (words.choice ≡ 32 → chosen ≡ None) → (i : Instruction) → IsLeaf context t i → WordsDrawInstruction context t i words → IsChosen words t chosen i
 is_chosen context t words chosen told local global none i h named = elim (leaf_cases context t i told h) [
   | inl v ↦ inl (local v.index v.small v.there (named.choice ∙ local_choice context t i v) ∙ ap (λ (j : Instruction). Some j) (sym v.is))
   | inr (inl v) ↦ inl (global v.index v.small v.there (named.choice ∙ global_choice context t i v) ∙ ap (λ (j : Instruction). Some j) (sym v.is))
@@ -237,10 +238,10 @@ is_chosen context t words chosen told local global none i h named = elim (leaf_c
 
 -- ---- they are words
 
-choice_small : (context : Context) (t : PrimitiveTypeInfo) (row : ℕ) (m : Imm) → InRange m → choice_of context t row m < 2 ^ 64
+choice_small : (context : Context) (t : PrimitiveTypeInfo) (row : ℕ) (m : Imm) → InRange m → choice_word context t row m < 2 ^ 64
 choice_small context t row (imm.Index n) small = either (row == 4)
   where
-    either : (b : Bool) → (if b then 8 * rank context.locals t n + 1 else 8 * rank context.info.globals t n + 2) < 2 ^ 64
+    either : (b : Bool) → (if b then 8 * variable_rank context.locals t n + 1 else 8 * variable_rank context.info.globals t n + 2) < 2 ^ 64
     either true = let k = rank_below context.locals t n in omega arith
     either false = let k = rank_below context.info.globals t n in omega arith
 choice_small context t row m small = omega arith
@@ -257,7 +258,7 @@ pub words_small : LeavesHaveWords
 words_small context t i h =
     let small = bits_small i.imm h.instruction.in_range in
     let is_word : ℕ → Type 0 = λ w. w < 2 ^ 64 in
-    let choice = choice_of context t i.row i.imm in
+    let choice = choice_word context t i.row i.imm in
     let low = bits_of i.imm % 2 ^ 64 in
     let high = bits_of i.imm / 2 ^ 64 in
     All-cons is_word choice (low ∷ high ∷ []) (choice_small context t i.row i.imm h.instruction.in_range)

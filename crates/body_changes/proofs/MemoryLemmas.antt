@@ -15,12 +15,13 @@ use Rattle.wasm_code.specs.declared.table.Opcode.TheVariants.{Byte, Fc, Fd}
 use Rattle.wasm_code.specs.declared.table.Row.{Row}
 use Rattle.wasm_types.specs.Module.{Module}
 use Rattle.wasm_types.specs.declared.types.PrimitiveTypeInfo.{PrimitiveTypeInfo}
-use Rattle.peephole_machine.specs.IntegerRow.{IntegerRow, integer_row, opcode_row, other, row_or_other, row_types}
-use Rattle.peephole_machine.specs.OtherRow.{Named, names_in, other_type, type_by_row}
-use Rattle.peephole_machine.specs.Row.{at_most_one, instruction_types}
-use Rattle.peephole_machine.specs.Values.{Context, results_on}
+use Rattle.wasm_execution.specs.IntegerRow.{IntegerRow, integer_row, opcode_row, other, row_or_other, row_types}
+use Rattle.wasm_execution.specs.OtherRow.{Named, names_in, other_type, type_by_row}
+use Rattle.wasm_execution.specs.Row.{at_most_one, instruction_types}
+use Rattle.wasm_execution.specs.Values.{Context, results_on}
 use Rattle.body_changes.specs.declared.units.Unit.{Unit}
-use Rattle.body_changes.specs.Kinds.{accessing, memory_argument, with_argument, AsksNoGreater, IsBehindOperands, IsNew, MakesMemoryArgument, NamesArgument}
+use Rattle.body_changes.specs.Kinds.{access_with_argument, memory_argument, with_argument, AsksNoGreater, IsBehindOperands, IsNew}
+use Rattle.body_changes.specs.Kinds.{MakesMemoryArgument, NamesArgument}
 use Rattle.body_changes.specs.Replacing.{HasInstruction}
 use Rattle.body_changes.specs.Units.{IsUnit}
 use Rattle.body_changes.proofs.BehindLemmas.{behind_new, own_behind}
@@ -90,13 +91,13 @@ same_names info (imm.MemLane n lane) own m e same =
 same_names info i own m e same = absurd cc
 
 same_access : (context : Context) (i : Instruction) (own m : MemArg) (ts : List PrimitiveTypeInfo) → memory_argument i.imm ≡ Some own →
-    m.memory ≡ own.memory → instruction_types context i ts ≡ instruction_types context (accessing m i) ts
+    m.memory ≡ own.memory → instruction_types context i ts ≡ instruction_types context (access_with_argument m i) ts
 unfolding other_type
 same_access context i own m ts e same =
     ap (λ (r : IntegerRow). option_and_then at_most_one (row_types context r ts)) (is_other i own e)
     ∙ (ap (λ (n : Named). option_and_then at_most_one (option_and_then (results_on ts) (type_by_row n (row_at i.row))))
     (same_names context.info i.imm own m e same)
-    ∙ ap (λ (r : IntegerRow). option_and_then at_most_one (row_types context r ts)) (sym (is_other (accessing m i) m (argument_of i.imm own m e))))
+    ∙ ap (λ (r : IntegerRow). option_and_then at_most_one (row_types context r ts)) (sym (is_other (access_with_argument m i) m (argument_of i.imm own m e))))
 
 -- ---- which one
 
@@ -111,7 +112,8 @@ argument_is own m offset align e f g =
 
 module _ (context : Context) (operators : Operators) (at : ℕ) (unit : Unit) (is : IsUnit context operators at unit) (own : Instruction)
     (has : HasInstruction operators at own) (argument : MemArg) (own_is : memory_argument own.imm ≡ Some argument) where
-  pub new_memory : (m : MemArg) → AsksNoGreater argument m → (m ≡ argument → ⊥) → (i : Instruction) → i ≡ accessing m own → (code : List Instruction) →
+  pub new_memory : (m : MemArg) → AsksNoGreater argument m → (m ≡ argument → ⊥) → (i : Instruction) → i ≡ access_with_argument m own →
+      (code : List Instruction) →
       IsBehindOperands operators at unit i code → IsNew context operators unit.start at code
   new_memory m asks differs i i_is code made =
       behind_new context operators at unit is own i has
@@ -119,7 +121,7 @@ module _ (context : Context) (operators : Operators) (at : ℕ) (unit : Unit) (i
       (sym (argument_of own.imm argument m own_is) ∙ (ap (λ (k : Instruction). memory_argument k.imm) (sym i_is ∙ e) ∙ own_is))))
       (λ ts. same_access context own argument m ts own_is asks.memory ∙ ap (λ (k : Instruction). instruction_types context k ts) (sym i_is)) code made
 
-  pub made_memory : (m : MemArg) → AsksNoGreater argument m → (i : Instruction) → i ≡ accessing m own → (code : List Instruction) →
+  pub made_memory : (m : MemArg) → AsksNoGreater argument m → (i : Instruction) → i ≡ access_with_argument m own → (code : List Instruction) →
       IsBehindOperands operators at unit i code → MakesMemoryArgument operators at unit code
   made_memory m asks i i_is code made = record {
     own = own;
@@ -133,22 +135,22 @@ module _ (context : Context) (operators : Operators) (at : ℕ) (unit : Unit) (i
 
   -- the one that the words name
   pub named_memory : (m : MemArg) (words : List ℕ) → ((n : MemArg) → AsksNoGreater argument n → n ≢ argument → get_or words 0 0 ≡ 4 →
-      get_or words 1 0 ≡ n.offset → get_or words 2 0 ≡ n.align → m ≡ n) → (i : Instruction) → i ≡ accessing m own → (code : List Instruction) →
+      get_or words 1 0 ≡ n.offset → get_or words 2 0 ≡ n.align → m ≡ n) → (i : Instruction) → i ≡ access_with_argument m own → (code : List Instruction) →
       IsBehindOperands operators at unit i code → (others : List Instruction) → MakesMemoryArgument operators at unit others →
       IsNew context operators unit.start at others → NamesArgument words others → code ≡ others
   named_memory m words named i i_is code made others h new names =
       let (front, j, n, is_others, n_is, choice, offset, align) = names in
-      let last = last_same front h.behind.operands j (accessing h.other h.own) (sym is_others ∙ h.behind.code_is) in
+      let last = last_same front h.behind.operands j (access_with_argument h.other h.own) (sym is_others ∙ h.behind.code_is) in
       let n_other : n ≡ h.other = same_Some n h.other
       (sym n_is ∙ (ap (λ (k : Instruction). memory_argument k.imm) last ∙ argument_of h.own.imm h.argument h.other h.own_argument)) in
       let owns : h.own ≡ own = one_there operators at h.own own h.has has in
       let arguments : h.argument ≡ argument =
       same_Some h.argument argument (sym h.own_argument ∙ (ap (λ (k : Instruction). memory_argument k.imm) owns ∙ own_is)) in
       let differs : h.other ≡ argument → ⊥ =
-      λ e. own_behind context operators at unit is h.own (accessing h.other h.own) h.has
+      λ e. own_behind context operators at unit is h.own (access_with_argument h.other h.own) h.has
       (ap (λ (k : Imm). let a : Instruction = record { row = h.own.row; imm = k } in a)
       (sym (own_kept h.own.imm h.argument h.own_argument) ∙ ap (λ (k : MemArg). with_argument k h.own.imm) (arguments ∙ sym e))) others h.behind new in
       let same : m ≡ h.other = named h.other (subst (λ (k : MemArg). AsksNoGreater k h.other) arguments h.asks) differs choice
       (offset ∙ ap (λ (k : MemArg). k.offset) n_other) (align ∙ ap (λ (k : MemArg). k.align) n_other) in
-      behind_same operators at unit i (accessing h.other h.own) code others
-      (i_is ∙ ap₂ (λ (k : MemArg) (a : Instruction). accessing k a) same (sym owns)) made h.behind
+      behind_same operators at unit i (access_with_argument h.other h.own) code others
+      (i_is ∙ ap₂ (λ (k : MemArg) (a : Instruction). access_with_argument k a) same (sym owns)) made h.behind

@@ -3,10 +3,10 @@ use Rattle.std.proofs.Common.{◌≡◌, ℕ, List, [], Option, Some, None, refl
 use Rattle.std.specs.Prelude.{get_or, is_some, IfSome, IsTrue}
 use Rattle.std.proofs.lemmas.Bool.{false≢true}
 use Rattle.wasm_code.specs.Instruction.{Instruction}
-use Rattle.peephole_machine.specs.Values.{Context}
+use Rattle.wasm_execution.specs.Values.{Context}
 use Rattle.body_changes.specs.declared.units.Unit.{Unit}
 use Rattle.body_changes.specs.declared.change.Change.TheVariants as change
-use Rattle.body_changes.specs.Kinds.{operand_types, IsBehindOperands, IsNew, MakesOperator, Names}
+use Rattle.body_changes.specs.Kinds.{operand_types, IsBehindOperands, IsNew, MakesOperator, WordsNameCode}
 use Rattle.body_changes.specs.Others.{IsOther}
 use Rattle.body_changes.specs.Replacing.{HasInstruction}
 use Rattle.body_changes.specs.Units.{IsUnit}
@@ -51,7 +51,7 @@ module _ (context : Context) (operators : Operators) (at : ℕ) (unit : Unit) wh
   pub named_operator : (own other : Instruction) (o : Option Instruction) (word : ℕ) (words : List ℕ) → HasInstruction operators at own → o ≡ Some other →
       word ≡ get_or words 0 0 → IfSome (operand_types unit.takes) (λ types. (k : Instruction) → IsOther context types own k → word ≡ k.row → o ≡ Some k) →
       (code : List Instruction) → IsBehindOperands operators at unit other code → (others : List Instruction) →
-      MakesOperator context operators at unit others → Names context change.Operator unit words others → code ≡ others
+      MakesOperator context operators at unit others → WordsNameCode context change.Operator unit words others → code ≡ others
   named_operator own other o word words has found first named code made others m n =
       let (front, i, is, row) = n in
       let last : i ≡ m.other = last_same front m.behind.operands i m.other (sym is ∙ m.behind.code_is) in

@@ -9,10 +9,10 @@ use Rattle.wasm_code.specs.Table.{row_at, table}
 use Rattle.wasm_code.specs.declared.immediate.Imm.TheVariants.{Nothing}
 use Rattle.wasm_code.specs.declared.table.Row.{Row}
 use Rattle.wasm_types.specs.declared.types.PrimitiveTypeInfo.{PrimitiveTypeInfo}
-use Rattle.peephole_machine.specs.RowLemmas.{same_type_is, same_type_self}
+use Rattle.wasm_execution.specs.RowLemmas.{same_type_is, same_type_self}
 use Rattle.body_changes.specs.declared.others.Asked.{Asked}
 use Rattle.body_changes.specs.Goals.{context_for}
-use Rattle.body_changes.specs.Others.{bare, is_other, others_below, same_results, IsOther}
+use Rattle.body_changes.specs.Others.{bare, is_row_asked_for, others_below, same_results, IsOther}
 use Rattle.body_changes.specs.Typed.{is_told_apart, told_types}
 
 -- ---- results
@@ -41,7 +41,7 @@ unfolding row_at
 row_bound n row e = subst (λ (l : ℕ). n < l) table_length (slice_get_within table n row e)
 
 pub other_is : (asked : Asked) (i other : Instruction) → i.row ≡ asked.own → other ≡ bare other.row → IsInstruction other →
-    IsTrue (is_other asked other.row) → All (λ (t : PrimitiveTypeInfo). IsTrue (is_told_apart t)) asked.operands.now →
+    IsTrue (is_row_asked_for asked other.row) → All (λ (t : PrimitiveTypeInfo). IsTrue (is_told_apart t)) asked.operands.now →
     told_types (context_for asked.scope) i asked.operands.now ≡ Some asked.gives →
     IsOther (context_for asked.scope) asked.operands.now i other
 other_is asked i other own is instruction h told gives =
@@ -61,7 +61,7 @@ other_is asked i other own is instruction h told gives =
 -- what is another one is one of the rows
 pub other_there : (asked : Asked) (i other : Instruction) → i.row ≡ asked.own →
     told_types (context_for asked.scope) i asked.operands.now ≡ Some asked.gives →
-    IsOther (context_for asked.scope) asked.operands.now i other → (other.row < 446) × IsTrue (is_other asked other.row)
+    IsOther (context_for asked.scope) asked.operands.now i other → (other.row < 446) × IsTrue (is_row_asked_for asked other.row)
 other_there asked i other own gives h =
     let fits = subst (λ (j : Instruction). IsTrue (fits_row (row_at j.row) j.imm)) h.is_bare h.instruction.kind in
     let (row, there) = row_there (row_at other.row) fits in
@@ -81,7 +81,7 @@ other_there asked i other own gives h =
 -- the one that the word names
 pub other_named : (asked : Asked) (i : Instruction) (o : Option Instruction) (word : ℕ) → i.row ≡ asked.own →
     told_types (context_for asked.scope) i asked.operands.now ≡ Some asked.gives →
-    ((row : ℕ) → row < 446 → word ≡ row → IsTrue (is_other asked row) → o ≡ Some (bare row)) →
+    ((row : ℕ) → row < 446 → word ≡ row → IsTrue (is_row_asked_for asked row) → o ≡ Some (bare row)) →
     (other : Instruction) → IsOther (context_for asked.scope) asked.operands.now i other → word ≡ other.row → o ≡ Some other
 other_named asked i o word own gives named other h e =
     let (small, is) = other_there asked i other own gives h in
@@ -90,16 +90,16 @@ other_named asked i o word own gives named other h e =
 -- ---- how many there are
 
 -- where there are none, no row is one
-pub none_is_other : (asked : Asked) (end row : ℕ) → others_below asked end ≡ 0 → row < end → is_other asked row ≡ true → ⊥
+pub none_is_other : (asked : Asked) (end row : ℕ) → others_below asked end ≡ 0 → row < end → is_row_asked_for asked row ≡ true → ⊥
 unfolding others_below
 none_is_other asked zero row e l h = omega arith
-none_is_other asked (suc end) row e l h = elim (cases_Bool (is_other asked end)) [
+none_is_other asked (suc end) row e l h = elim (cases_Bool (is_row_asked_for asked end)) [
   | inl last ↦
       absurd (let n = sym (ap (λ b. if b then others_below asked end + 1 else others_below asked end) last) ∙ e in omega arith)
   | inr never ↦
       let n : others_below asked end ≡ 0 = sym (ap (λ b. if b then others_below asked end + 1 else others_below asked end) never) ∙ e in
       elim (cases_eq row end) [
-        | inl is ↦ false≢true (sym never ∙ (ap (is_other asked) (sym is) ∙ h))
+        | inl is ↦ false≢true (sym never ∙ (ap (is_row_asked_for asked) (sym is) ∙ h))
         | inr isnt ↦ none_is_other asked end row n (omega arith) h
       ]
 ]

@@ -6,16 +6,16 @@ use Rattle.wasm_code.specs.Instruction.{Instruction}
 use Rattle.wasm_code.specs.declared.operator.Operator.{Operator}
 use Rattle.wasm_code.specs.declared.operator.Operator.TheVariants.{Instr}
 use Rattle.wasm_types.specs.declared.types.PrimitiveTypeInfo.{PrimitiveTypeInfo}
-use Rattle.peephole_machine.specs.Row.{list_of}
-use Rattle.peephole_machine.specs.Values.{Context}
+use Rattle.wasm_execution.specs.Row.{list_of}
+use Rattle.wasm_execution.specs.Values.{Context}
 use Rattle.body_splices.specs.OwnBytes.{without_offsets}
 use Rattle.body_changes.specs.declared.units.Takes.{Takes}
 use Rattle.body_changes.specs.declared.units.Takes.TheVariants as takes
 use Rattle.body_changes.specs.declared.units.Unit.{Unit}
 use Rattle.body_changes.specs.Kinds.{operand_types, IsBehindOperands, IsNew, Stand}
-use Rattle.body_changes.specs.Pass.{IsCode}
+use Rattle.body_changes.specs.Pass.{IsCodeLeaving}
 use Rattle.body_changes.specs.Replacing.{HasInstruction, IsClosed}
-use Rattle.body_changes.specs.Typed.{told_types, types_after, Leaves}
+use Rattle.body_changes.specs.Typed.{told_types, told_types_after, LeavesTypes}
 use Rattle.body_changes.specs.Units.{AreTaken}
 use Rattle.body_changes.proofs.OwnLemmas.{same_instructions}
 use Rattle.body_changes.proofs.StandLemmas.{Operators, Types, after_both, code_above, code_behind, code_of_closed, first_part, one_behind}
@@ -43,15 +43,15 @@ both_stand operators s m e one other a b g h = record {
 }
 
 -- what both leave
-pub both_leave : (context : Context) (one other : List Instruction) (ts us : Types) → Leaves context one ts → Leaves context other us →
-    Leaves context (one ++ other) (ts ++ us)
+pub both_leave : (context : Context) (one other : List Instruction) (ts us : Types) → LeavesTypes context one ts → LeavesTypes context other us →
+    LeavesTypes context (one ++ other) (ts ++ us)
 both_leave context one other ts us g h =
     after_both context one other []
-    ∙ (ap (option_and_then (types_after context other)) g
-    ∙ (ap (types_after context other) (sym (append-nil ts)) ∙ code_above context other ts [] us h))
+    ∙ (ap (option_and_then (told_types_after context other)) g
+    ∙ (ap (told_types_after context other) (sym (append-nil ts)) ∙ code_above context other ts [] us h))
 
-pub both_code : (context : Context) (operators : Operators) (s m e : ℕ) (ts us : Types) → s ≤ m → m ≤ e → IsCode context operators s m ts →
-    IsCode context operators m e us → IsCode context operators s e (ts ++ us)
+pub both_code : (context : Context) (operators : Operators) (s m e : ℕ) (ts us : Types) → s ≤ m → m ≤ e → IsCodeLeaving context operators s m ts →
+    IsCodeLeaving context operators m e us → IsCodeLeaving context operators s e (ts ++ us)
 both_code context operators s m e ts us a b g h = record {
   own = g.own ++ h.own;
   stands = both_stand operators s m e g.own h.own a b g.stands h.stands;
@@ -60,25 +60,25 @@ both_code context operators s m e ts us a b g h = record {
 
 -- with an instruction behind it that finds its operands there
 pub leaves_behind : (context : Context) (code : List Instruction) (i : Instruction) (front ts : Types) (gives : Option PrimitiveTypeInfo) →
-    Leaves context code (front ++ ts) → told_types context i ts ≡ Some gives → Leaves context (code ++ i ∷ []) (front ++ list_of gives)
+    LeavesTypes context code (front ++ ts) → told_types context i ts ≡ Some gives → LeavesTypes context (code ++ i ∷ []) (front ++ list_of gives)
 leaves_behind context code i front ts gives g typed =
     after_both context code (i ∷ []) []
-    ∙ (ap (option_and_then (types_after context (i ∷ []))) g
+    ∙ (ap (option_and_then (told_types_after context (i ∷ []))) g
     ∙ after_one context i [] (front ++ ts) (front ++ list_of gives) (behind_others context i front ts gives typed))
 
 -- ---- operands
 
 -- one or two of them
 pub taken_code : (context : Context) (operators : Operators) (s last at count : ℕ) (t : Takes) (types : Types) →
-    AreTaken context operators s last at count t → operand_types t ≡ Some types → IsCode context operators s at types
+    AreTaken context operators s last at count t → operand_types t ≡ Some types → IsCodeLeaving context operators s at types
 taken_code context operators s last at count (takes.One t) types h e =
     let same : t ∷ [] ≡ types = cc in
-    subst (IsCode context operators s at) same (code_of_closed context operators s at (t ∷ []) h.2)
+    subst (IsCodeLeaving context operators s at) same (code_of_closed context operators s at (t ∷ []) h.2)
 taken_code context operators s last at count (takes.Two t u) types h e =
     let same : t ∷ u ∷ [] ≡ types = cc in
     let a = h.1.first.some in
     let b = h.1.last.some in
-    subst (IsCode context operators s at) same
+    subst (IsCodeLeaving context operators s at) same
     (both_code context operators s last at (t ∷ []) (u ∷ []) (omega arith) (omega arith) (code_of_closed context operators s last (t ∷ []) h.1.first)
     (code_of_closed context operators last at (u ∷ []) h.1.last))
 taken_code context operators s last at count takes.Other types h e = absurd cc
@@ -111,13 +111,13 @@ ends_otherwise operators s at i j front code le has differ is h =
 -- another instruction behind what stands before the operator, which gives the same on what it finds there
 pub other_new : (context : Context) (operators : Operators) (s at : ℕ) (i j : Instruction) (front ts : Types) (gives : Option PrimitiveTypeInfo)
     (before code : List Instruction) → s ≤ at → HasInstruction operators at i → (j ≡ i → ⊥) → told_types context i ts ≡ Some gives →
-    told_types context j ts ≡ Some gives → IsCode context operators s at (front ++ ts) → Stand operators s at before → code ≡ before ++ j ∷ [] →
+    told_types context j ts ≡ Some gives → IsCodeLeaving context operators s at (front ++ ts) → Stand operators s at before → code ≡ before ++ j ∷ [] →
     IsNew context operators s at code
 other_new context operators s at i j front ts gives before code le has differ typed same c stand is = record {
   can = record {
     types = front ++ list_of gives;
     closed = code_behind context operators s at i front ts gives le has typed c;
-    leaves = subst (λ (xs : List Instruction). Leaves context xs (front ++ list_of gives))
+    leaves = subst (λ (xs : List Instruction). LeavesTypes context xs (front ++ list_of gives))
         (ap (λ (xs : List Instruction). xs ++ j ∷ []) (same_instructions (slice_range operators s at) c.own before c.stands stand) ∙ sym is)
         (leaves_behind context c.own j front ts gives c.leaves same);
   };

@@ -1,7 +1,7 @@
 -- The units of the operators so far, operator by operator.
 use Rattle.std.proofs.Common.{◌≡◌, ℕ, zero, suc, ◌+◌, List, [], ◌∷◌, ◌++◌, length, Option, Some, ap, ◌∙◌, sym, subst, length-append}
 use Rattle.std.specs.Prelude.{slice_get}
-use Rattle.peephole_machine.specs.Values.{Context}
+use Rattle.wasm_execution.specs.Values.{Context}
 use Rattle.body_changes.specs.declared.units.Unit.{Unit}
 use Rattle.body_changes.specs.Pass.{AreUnitsBefore}
 use Rattle.body_changes.specs.Units.{IsUnitAt}

@@ -7,14 +7,14 @@ use Rattle.wasm_code.specs.Instruction.{Instruction}
 use Rattle.wasm_code.specs.declared.operator.Operator.{Operator}
 use Rattle.wasm_code.specs.declared.operator.Operator.TheVariants.{Instr}
 use Rattle.wasm_types.specs.declared.types.PrimitiveTypeInfo.{PrimitiveTypeInfo}
-use Rattle.peephole_machine.specs.Values.{Context}
-use Rattle.peephole_programs.specs.validation.StaysValid.{ReplacedCodeStaysValid, ChecksAs, StaysValid}
-use Rattle.peephole_programs.specs.control.Wider.{wider}
+use Rattle.wasm_execution.specs.Values.{Context}
+use Rattle.wasm_equivalence.specs.validation.StaysValid.{ReplacedCodeStaysValid, ChecksAs, StaysValid}
+use Rattle.wasm_equivalence.specs.control.Wider.{wider}
 use Rattle.body_splices.specs.OwnBytes.{without_offsets}
 use Rattle.body_splices.specs.Laws.{pieces_operators, SplicedOperatorsAre}
 use Rattle.body_splices.specs.Splice.{AppendsSpliced}
 use Rattle.body_changes.specs.Replacing.{new_pieces, AppendsReplaced, AreTheseInstructions, CanReplace, IsClosed}
-use Rattle.body_changes.specs.Typed.{types_after, Leaves}
+use Rattle.body_changes.specs.Typed.{told_types_after, LeavesTypes}
 use Rattle.body_changes.proofs.OwnLemmas.{same_instructions}
 use Rattle.body_changes.proofs.TypedLemmas.{OfRows, checks}
 
@@ -84,10 +84,10 @@ replaced rows law again context input operators start end code old new inside ca
 
 -- ---- where it can't stand there
 
-same_types : (context : Context) (own others : List Instruction) (old types : List PrimitiveTypeInfo) → own ≡ others → Leaves context own old →
-    Leaves context others types → old ≡ types
+same_types : (context : Context) (own others : List Instruction) (old types : List PrimitiveTypeInfo) → own ≡ others → LeavesTypes context own old →
+    LeavesTypes context others types → old ≡ types
 same_types context own others old types same a b =
-    let g : Some old ≡ Some types = sym a ∙ (ap (λ xs. types_after context xs []) same ∙ b) in cc
+    let g : Some old ≡ Some types = sym a ∙ (ap (λ xs. told_types_after context xs []) same ∙ b) in cc
 
 -- it leaves what it leaves, and no other types
 pub closed_one : (context : Context) (operators : List (Operator × ℕ)) (start end : ℕ) (old types : List PrimitiveTypeInfo) →
@@ -100,7 +100,7 @@ pub not_closed : (context : Context) (operators : List (Operator × ℕ)) (start
 not_closed context operators start end code never can = never can.types can.closed
 
 pub types_differ : (context : Context) (operators : List (Operator × ℕ)) (start end : ℕ) (code : List Instruction) (old new : List PrimitiveTypeInfo) →
-    IsClosed context operators start end old → Leaves context code new → (old ≡ new → ⊥) → CanReplace context operators start end code → ⊥
+    IsClosed context operators start end old → LeavesTypes context code new → (old ≡ new → ⊥) → CanReplace context operators start end code → ⊥
 types_differ context operators start end code old new closed leaves differ can =
     differ (closed_one context operators start end old can.types closed can.closed ∙ same_types context code code can.types new refl can.leaves leaves)
 
@@ -108,12 +108,12 @@ types_differ context operators start end code old new closed leaves differ can =
 
 pub none_in_place : {X E : Type 0} (context : Context) (operators : List (Operator × ℕ)) (start end : ℕ) (own lent : List Instruction)
     (r : Result (Option X) E) → lent ≡ own → AreTheseInstructions (slice_range operators start end) own →
-    IfOk r (λ o. IfNone o (types_after context lent [] ≡ None)) →
+    IfOk r (λ o. IfNone o (told_types_after context lent [] ≡ None)) →
     IfOk r (λ o. IfNone o ((types : List PrimitiveTypeInfo) → IsClosed context operators start end types → ⊥))
 none_in_place context operators start end own lent (Err e) is stands h = tt
 none_in_place context operators start end own lent (Ok (Some x)) is stands h = tt
 none_in_place context operators start end own lent (Ok None) is stands h = λ types closed.
     let same = same_instructions (slice_range operators start end) closed.own lent closed.stands
     (subst (AreTheseInstructions (slice_range operators start end)) (sym is) stands) in
-    let no : Some types ≡ None = sym closed.leaves ∙ (ap (λ xs. types_after context xs []) same ∙ h) in
+    let no : Some types ≡ None = sym closed.leaves ∙ (ap (λ xs. told_types_after context xs []) same ∙ h) in
     absurd cc

@@ -1,21 +1,23 @@
 -- Code that stands in a body, its parts, and code with one operator more.
-use Rattle.std.proofs.Common.{◌≡◌, ℕ, zero, suc, ◌+◌, ◌-◌, ◌<◌, ◌≤◌, ◌⊎◌, inl, inr, List, [], ◌∷◌, ◌++◌, length, map, get_or, take, drop, Option, Some, None, refl, sym, ap, ◌∙◌, subst, append_assoc, arith}
+use Rattle.std.proofs.Common.{◌≡◌, ℕ, zero, suc, ◌+◌, ◌-◌, ◌<◌, ◌≤◌, ◌⊎◌, inl, inr, List, [], ◌∷◌, ◌++◌, length, map, get_or, take, drop}
+use Rattle.std.proofs.Common.{Option, Some, None, refl, sym, ap, ◌∙◌, subst, append_assoc, arith}
 use Rattle.std.specs.Prelude.{min, option_and_then, option_map, slice_get, slice_range}
 use Rattle.std.proofs.lemmas.Bool.{cases_lt}
-use Rattle.std.proofs.lemmas.List.{append-nil, append_cancel_right, drop-drop, drop-map, drop-take, drop_min, length-drop, take-append-drop, take-map, take-take, take_min}
+use Rattle.std.proofs.lemmas.List.{append-nil, append_cancel_right, drop-drop, drop-map, drop-take, drop_min, length-drop, take-append-drop}
+use Rattle.std.proofs.lemmas.List.{take-map, take-take, take_min}
 use Rattle.std.proofs.lemmas.Option.{slice_get-get_or, slice_get-map}
 use Rattle.wasm_code.specs.Instruction.{Instruction}
 use Rattle.wasm_code.specs.declared.operator.Operator.{Operator}
 use Rattle.wasm_code.specs.declared.operator.Operator.TheVariants.{Instr}
 use Rattle.wasm_types.specs.declared.types.PrimitiveTypeInfo.{PrimitiveTypeInfo}
-use Rattle.peephole_machine.specs.CountLemmas.{counts_are}
-use Rattle.peephole_machine.specs.Row.{list_of, instruction_types, instruction_count}
-use Rattle.peephole_machine.specs.RowLemmas.{and_then_some}
-use Rattle.peephole_machine.specs.Values.{Context}
+use Rattle.wasm_execution.specs.CountLemmas.{counts_are}
+use Rattle.wasm_execution.specs.Row.{list_of, instruction_types, instruction_count}
+use Rattle.wasm_execution.specs.RowLemmas.{and_then_some}
+use Rattle.wasm_execution.specs.Values.{Context}
 use Rattle.body_splices.specs.OwnBytes.{without_offsets}
-use Rattle.body_changes.specs.Pass.{IsCode}
+use Rattle.body_changes.specs.Pass.{IsCodeLeaving}
 use Rattle.body_changes.specs.Replacing.{AreTheseInstructions, HasInstruction, IsClosed}
-use Rattle.body_changes.specs.Typed.{keep, told_types, types_behind, types_after, Leaves}
+use Rattle.body_changes.specs.Typed.{keep, told_types, told_types_behind, told_types_after, LeavesTypes}
 use Rattle.body_changes.proofs.OwnLemmas.{one_more, same_instructions}
 use Rattle.body_changes.proofs.TypedLemmas.{after_one, behind_others, found}
 
@@ -117,7 +119,7 @@ pub record IsGiven (context : Context) (i : Instruction) (ts us : Types) : Type 
   pub typed : told_types context i (drop (length ts - instruction_count context.info i) ts) ≡ Some gives
   pub left : us ≡ take (length ts - instruction_count context.info i) ts ++ list_of gives
 
-is_given : (context : Context) (i : Instruction) (ts us : Types) → types_behind context i ts ≡ Some us → IsGiven context i ts us
+is_given : (context : Context) (i : Instruction) (ts us : Types) → told_types_behind context i ts ≡ Some us → IsGiven context i ts us
 is_given context i ts us e =
     let f = found context i ts us e in
     let (o, given, k) = and_then_some keep (instruction_types context i (drop f.below ts)) f.gives f.typed in
@@ -132,60 +134,62 @@ is_given context i ts us e =
     }
 
 -- with other values below
-types_above : (context : Context) (i : Instruction) (front ts us : Types) → types_behind context i ts ≡ Some us →
-    types_behind context i (front ++ ts) ≡ Some (front ++ us)
+types_above : (context : Context) (i : Instruction) (front ts us : Types) → told_types_behind context i ts ≡ Some us →
+    told_types_behind context i (front ++ ts) ≡ Some (front ++ us)
 types_above context i front ts us e =
     let f = found context i ts us e in
-    ap (λ xs. types_behind context i (front ++ xs)) (sym (take-append-drop f.below ts))
-    ∙ (ap (types_behind context i) (sym (append_assoc front (take f.below ts) (drop f.below ts)))
+    ap (λ xs. told_types_behind context i (front ++ xs)) (sym (take-append-drop f.below ts))
+    ∙ (ap (told_types_behind context i) (sym (append_assoc front (take f.below ts) (drop f.below ts)))
     ∙ (behind_others context i (front ++ take f.below ts) (drop f.below ts) f.gives f.typed
     ∙ ap (λ (xs : Types). Some xs) (append_assoc front (take f.below ts) (list_of f.gives) ∙ ap (λ xs. front ++ xs) (sym f.left))))
 
-pub code_above : (context : Context) (code : List Instruction) (front ts us : Types) → types_after context code ts ≡ Some us →
-    types_after context code (front ++ ts) ≡ Some (front ++ us)
+pub code_above : (context : Context) (code : List Instruction) (front ts us : Types) → told_types_after context code ts ≡ Some us →
+    told_types_after context code (front ++ ts) ≡ Some (front ++ us)
 code_above context [] front ts us e = let same : ts ≡ us = cc in ap (λ (xs : Types). Some (front ++ xs)) same
 code_above context (i ∷ code) front ts us e =
-    let (vs, first, more) = and_then_some (types_after context code) (types_behind context i ts) us e in
+    let (vs, first, more) = and_then_some (told_types_after context code) (told_types_behind context i ts) us e in
     after_one context i code (front ++ ts) (front ++ vs) (types_above context i front ts vs first) ∙ code_above context code front vs us more
 
 pub after_both : (context : Context) (code back : List Instruction) (ts : Types) →
-    types_after context (code ++ back) ts ≡ option_and_then (types_after context back) (types_after context code ts)
+    told_types_after context (code ++ back) ts ≡ option_and_then (told_types_after context back) (told_types_after context code ts)
 after_both context [] back ts = refl
-after_both context (i ∷ code) back ts = go (types_behind context i ts) (after_both context code back)
+after_both context (i ∷ code) back ts = go (told_types_behind context i ts) (after_both context code back)
   where
     go : (o : Option Types) →
-        ((us : Types) → types_after context (code ++ back) us ≡ option_and_then (types_after context back) (types_after context code us)) →
-        option_and_then (types_after context (code ++ back)) o
-        ≡ option_and_then (types_after context back) (option_and_then (types_after context code) o)
+        ((us : Types) → told_types_after context (code ++ back) us ≡ option_and_then (told_types_after context back) (told_types_after context code us)) →
+        option_and_then (told_types_after context (code ++ back)) o
+        ≡ option_and_then (told_types_after context back) (option_and_then (told_types_after context code) o)
     go (Some us) next = next us
     go None next = refl
 
 -- the types behind the first part of code
-parted : (context : Context) (code front back : List Instruction) (us : Types) → front ++ back ≡ code → Leaves context code us →
-    (ts : Types) × Leaves context front ts × (types_after context back ts ≡ Some us)
+parted : (context : Context) (code front back : List Instruction) (us : Types) → front ++ back ≡ code → LeavesTypes context code us →
+    (ts : Types) × LeavesTypes context front ts × (told_types_after context back ts ≡ Some us)
 parted context code front back us e h =
-    and_then_some (types_after context back) (types_after context front []) us
-    (sym (after_both context front back []) ∙ (ap (λ code. types_after context code []) e ∙ h))
+    and_then_some (told_types_after context back) (told_types_after context front []) us
+    (sym (after_both context front back []) ∙ (ap (λ code. told_types_after context code []) e ∙ h))
 
 -- ---- code that stands there
 
-pub no_code : (context : Context) (operators : Operators) (s : ℕ) → IsCode context operators s s []
+pub no_code : (context : Context) (operators : Operators) (s : ℕ) → IsCodeLeaving context operators s s []
 no_code context operators s = record { own = []; stands = nothing_there operators s; leaves = refl }
 
-pub code_of_closed : (context : Context) (operators : Operators) (s e : ℕ) (ts : Types) → IsClosed context operators s e ts → IsCode context operators s e ts
+pub code_of_closed : (context : Context) (operators : Operators) (s e : ℕ) (ts : Types) → IsClosed context operators s e ts →
+    IsCodeLeaving context operators s e ts
 code_of_closed context operators s e ts c = record { own = c.own; stands = c.stands; leaves = c.leaves }
 
 -- nothing leaves no value
-pub none_left : (context : Context) (operators : Operators) (s : ℕ) (ts : Types) → IsCode context operators s s ts → [] ≡ ts
+pub none_left : (context : Context) (operators : Operators) (s : ℕ) (ts : Types) → IsCodeLeaving context operators s s ts → [] ≡ ts
 none_left context operators s ts c =
-    let e : Leaves context [] ts = subst (λ code. Leaves context code ts) (only_nothing operators s c.own c.stands) c.leaves in
+    let e : LeavesTypes context [] ts = subst (λ code. LeavesTypes context code ts) (only_nothing operators s c.own c.stands) c.leaves in
     same_list e
   where
     same_list : ◌≡◌ {A = Option Types} (Some []) (Some ts) → [] ≡ ts
     same_list e = cc
 
 -- what leaves a value is some code
-pub closed_code : (context : Context) (operators : Operators) (s e : ℕ) (t : PrimitiveTypeInfo) (ts : Types) → s ≤ e → IsCode context operators s e (t ∷ ts) →
+pub closed_code : (context : Context) (operators : Operators) (s e : ℕ) (t : PrimitiveTypeInfo) (ts : Types) → s ≤ e →
+    IsCodeLeaving context operators s e (t ∷ ts) →
     IsClosed context operators s e (t ∷ ts)
 closed_code context operators s e t ts le c = go (cases_lt s e)
   where
@@ -193,37 +197,37 @@ closed_code context operators s e t ts le c = go (cases_lt s e)
     go (inl l) = record { some = l; own = c.own; stands = c.stands; leaves = c.leaves }
     go (inr l) =
         let same : e ≡ s = omega arith in
-        let no : [] ≡ t ∷ ts = none_left context operators s (t ∷ ts) (subst (λ n. IsCode context operators s n (t ∷ ts)) same c) in
+        let no : [] ≡ t ∷ ts = none_left context operators s (t ∷ ts) (subst (λ n. IsCodeLeaving context operators s n (t ∷ ts)) same c) in
         absurd cc
 
 -- with an instruction behind it that finds its operands there
 pub code_behind : (context : Context) (operators : Operators) (s at : ℕ) (i : Instruction) (front ts : Types) (gives : Option PrimitiveTypeInfo) →
-    s ≤ at → HasInstruction operators at i → told_types context i ts ≡ Some gives → IsCode context operators s at (front ++ ts) →
+    s ≤ at → HasInstruction operators at i → told_types context i ts ≡ Some gives → IsCodeLeaving context operators s at (front ++ ts) →
     IsClosed context operators s (at + 1) (front ++ list_of gives)
 code_behind context operators s at i front ts gives le has typed c = record {
   some = omega arith;
   own = c.own ++ i ∷ [];
   stands = one_behind operators s at c.own i le has c.stands;
   leaves = after_both context c.own (i ∷ []) []
-      ∙ (ap (option_and_then (types_after context (i ∷ []))) c.leaves
+      ∙ (ap (option_and_then (told_types_after context (i ∷ []))) c.leaves
       ∙ after_one context i [] (front ++ ts) (front ++ list_of gives) (behind_others context i front ts gives typed));
 }
 
 -- The code before its last instruction, which finds its operands there.
 pub record IsBehind (context : Context) (operators : Operators) (s at : ℕ) (i : Instruction) (us : Types) : Type 0 where
   pub types : Types
-  pub front : IsCode context operators s at types
+  pub front : IsCodeLeaving context operators s at types
   pub given : IsGiven context i types us
 
 pub is_behind : (context : Context) (operators : Operators) (s at : ℕ) (i : Instruction) (us : Types) → s ≤ at → HasInstruction operators at i →
-    IsCode context operators s (at + 1) us → IsBehind context operators s at i us
+    IsCodeLeaving context operators s (at + 1) us → IsBehind context operators s at i us
 is_behind context operators s at i us le has c =
     let one = same_instructions (slice_range operators at (at + 1)) (drop (at - s) c.own) (i ∷ [])
     (second_part operators s at (at + 1) c.own le (omega arith) c.stands)
     (one_behind operators at at [] i (omega arith) has (nothing_there operators at)) in
     let parts : take (at - s) c.own ++ i ∷ [] ≡ c.own = ap (λ code. take (at - s) c.own ++ code) (sym one) ∙ take-append-drop (at - s) c.own in
     let (ts, front, last) = parted context c.own (take (at - s) c.own) (i ∷ []) us parts c.leaves in
-    let (vs, found, same) = and_then_some (types_after context []) (types_behind context i ts) us last in
+    let (vs, found, same) = and_then_some (told_types_after context []) (told_types_behind context i ts) us last in
     record {
       types = ts;
       front = record { own = take (at - s) c.own; stands = first_part operators s at (at + 1) c.own le (omega arith) c.stands; leaves = front };
@@ -231,8 +235,8 @@ is_behind context operators s at i us le has c =
     }
 
 -- the first part of the code leaves what the rest doesn't
-pub code_before : (context : Context) (operators : Operators) (s m e : ℕ) (ts us : Types) → s ≤ m → m ≤ e → IsCode context operators s e (ts ++ us) →
-    IsCode context operators m e us → IsCode context operators s m ts
+pub code_before : (context : Context) (operators : Operators) (s m e : ℕ) (ts us : Types) → s ≤ m → m ≤ e → IsCodeLeaving context operators s e (ts ++ us) →
+    IsCodeLeaving context operators m e us → IsCodeLeaving context operators s m ts
 code_before context operators s m e ts us a b whole back =
     let rest = same_instructions (slice_range operators m e) (drop (m - s) whole.own) back.own
     (second_part operators s m e whole.own a b whole.stands) back.stands in
@@ -249,5 +253,6 @@ code_before context operators s m e ts us a b whole back =
     some_same : {xs ys : Types} → ◌≡◌ {A = Option Types} (Some xs) (Some ys) → xs ≡ ys
     some_same e = cc
 
-    above : (vs : Types) (code : List Instruction) (us : Types) → types_after context code [] ≡ Some us → types_after context code vs ≡ Some (vs ++ us)
-    above vs code us e = ap (types_after context code) (sym (append-nil vs)) ∙ code_above context code vs [] us e
+    above : (vs : Types) (code : List Instruction) (us : Types) → told_types_after context code [] ≡ Some us →
+        told_types_after context code vs ≡ Some (vs ++ us)
+    above vs code us e = ap (told_types_after context code) (sym (append-nil vs)) ∙ code_above context code vs [] us e

@@ -6,14 +6,14 @@ use Rattle.std.proofs.lemmas.Bool.{cond-true}
 use Rattle.std.proofs.lemmas.List.{take_at, drop_at, take-append-drop}
 use Rattle.wasm_code.specs.Instruction.{Instruction}
 use Rattle.wasm_types.specs.declared.types.PrimitiveTypeInfo.{PrimitiveTypeInfo}
-use Rattle.peephole_machine.specs.CountLemmas.{counts_are}
-use Rattle.peephole_machine.specs.IntegerRow.{IntegerRow, row_types, integer_row}
-use Rattle.peephole_machine.specs.Row.{list_of, at_most_one, instruction_types, instruction_count}
-use Rattle.peephole_machine.specs.RowLemmas.{and_then_some, map_some}
-use Rattle.peephole_machine.specs.Values.{Context}
-use Rattle.peephole_programs.specs.validation.StaysValid.{Pushes, ChecksAs, TypedCodePushes, PushesOnFrames, RowTypesStay}
-use Rattle.peephole_programs.specs.control.Wider.{wider}
-use Rattle.body_changes.specs.Typed.{is_told_apart, keep, told_types, types_behind, types_after, Leaves, LeavingCodePushes}
+use Rattle.wasm_execution.specs.CountLemmas.{counts_are}
+use Rattle.wasm_execution.specs.IntegerRow.{IntegerRow, row_types, integer_row}
+use Rattle.wasm_execution.specs.Row.{list_of, at_most_one, instruction_types, instruction_count}
+use Rattle.wasm_execution.specs.RowLemmas.{and_then_some, map_some}
+use Rattle.wasm_execution.specs.Values.{Context}
+use Rattle.wasm_equivalence.specs.validation.StaysValid.{Pushes, ChecksAs, TypedCodePushes, PushesOnFrames, RowTypesStay}
+use Rattle.wasm_equivalence.specs.control.Wider.{wider}
+use Rattle.body_changes.specs.Typed.{is_told_apart, keep, told_types, told_types_behind, told_types_after, LeavesTypes, LeavingCodePushes}
 
 -- ---- an instruction
 
@@ -40,7 +40,7 @@ told_known context i ts t d e = ap (option_and_then keep) e ∙ cond-true _ _ _ 
 
 -- with its operands on top of others
 pub behind_others : (context : Context) (i : Instruction) (front ts : List PrimitiveTypeInfo) (gives : Option PrimitiveTypeInfo) →
-    told_types context i ts ≡ Some gives → types_behind context i (front ++ ts) ≡ Some (front ++ list_of gives)
+    told_types context i ts ≡ Some gives → told_types_behind context i (front ++ ts) ≡ Some (front ++ list_of gives)
 behind_others context i front ts gives e =
     let n = counts_are context i ts gives (told_given context i ts gives e) in
     let sum = length-append front ts in
@@ -52,9 +52,9 @@ behind_others context i front ts gives e =
 
 -- ---- code
 
-pub after_one : (context : Context) (i : Instruction) (code : List Instruction) (ts us : List PrimitiveTypeInfo) → types_behind context i ts ≡ Some us →
-    types_after context (i ∷ code) ts ≡ types_after context code us
-after_one context i code ts us e = ap (option_and_then (types_after context code)) e
+pub after_one : (context : Context) (i : Instruction) (code : List Instruction) (ts us : List PrimitiveTypeInfo) → told_types_behind context i ts ≡ Some us →
+    told_types_after context (i ∷ code) ts ≡ told_types_after context code us
+after_one context i code ts us e = ap (option_and_then (told_types_after context code)) e
 
 -- ---- it is valid
 
@@ -77,7 +77,7 @@ pub record Found (context : Context) (i : Instruction) (ts us : List PrimitiveTy
   pub typed : told_types context i (drop below ts) ≡ Some gives
   pub left : us ≡ take below ts ++ list_of gives
 
-pub found : (context : Context) (i : Instruction) (ts us : List PrimitiveTypeInfo) → types_behind context i ts ≡ Some us → Found context i ts us
+pub found : (context : Context) (i : Instruction) (ts us : List PrimitiveTypeInfo) → told_types_behind context i ts ≡ Some us → Found context i ts us
 found context i ts us e = go (nat_le (instruction_count context.info i) (length ts)) e
   where
     below : ℕ
@@ -93,7 +93,7 @@ found context i ts us e = go (nat_le (instruction_count context.info i) (length 
 
 module _ (law : OfRows) (context all : Context)
     (weaker : (row : IntegerRow) (ts us : List PrimitiveTypeInfo) → row_types context row ts ≡ Some us → row_types all row ts ≡ Some us) where
-  pushes_one : (i : Instruction) (ts us : List PrimitiveTypeInfo) → types_behind context i ts ≡ Some us → Pushes all (i ∷ []) ts us
+  pushes_one : (i : Instruction) (ts us : List PrimitiveTypeInfo) → told_types_behind context i ts ≡ Some us → Pushes all (i ∷ []) ts us
   pushes_one i ts us e =
       let f = found context i ts us e in
       let row = weaker (integer_row i) (drop f.below ts) (list_of f.gives)
@@ -103,17 +103,18 @@ module _ (law : OfRows) (context all : Context)
       (law.push.above all (i ∷ []) (take f.below ts) (drop f.below ts) (list_of f.gives)
       (law.push.row all i (drop f.below ts) (list_of f.gives) row)))
 
-  pushes : (code : List Instruction) (ts us : List PrimitiveTypeInfo) → types_after context code ts ≡ Some us → Pushes all code ts us
+  pushes : (code : List Instruction) (ts us : List PrimitiveTypeInfo) → told_types_after context code ts ≡ Some us → Pushes all code ts us
   pushes [] ts us e = let same : ts ≡ us = cc in subst (Pushes all [] ts) same (law.push.nothing all ts)
   pushes (i ∷ code) ts us e =
-      let (vs, first, more) = and_then_some (types_after context code) (types_behind context i ts) us e in
+      let (vs, first, more) = and_then_some (told_types_after context code) (told_types_behind context i ts) us e in
       law.push.follow all (i ∷ []) code ts vs us (pushes_one i ts vs first) (pushes code vs us more)
 
 pub leaving_pushes : OfRows → LeavingCodePushes
 leaving_pushes law context code ts e = pushes law context context (λ row xs ys h. h) code [] ts e
 
 -- Code that leaves the same is valid wherever the other is.
-pub checks : OfRows → (context : Context) (own code : List Instruction) (ts : List PrimitiveTypeInfo) → Leaves context own ts → Leaves context code ts →
+pub checks : OfRows → (context : Context) (own code : List Instruction) (ts : List PrimitiveTypeInfo) → LeavesTypes context own ts →
+    LeavesTypes context code ts →
     (bytes : List ℕ) (more : List PrimitiveTypeInfo) → ChecksAs context (wider bytes more context) own code
 checks law context own code ts a b bytes more f g e =
     let all = wider bytes more context in

@@ -1,14 +1,15 @@
 -- The values before the next operator: what is kept of them is right, and stays so; and the operator's unit.
-use Rattle.std.proofs.Common.{◌≡◌, ℕ, suc, ◌+◌, ◌-◌, ◌<◌, ◌≤◌, ◌⊎◌, inl, inr, List, [], ◌∷◌, ◌++◌, length, take, drop, Option, Some, None, refl, sym, ap, ap₂, ◌∙◌, subst, length-append, arith}
+use Rattle.std.proofs.Common.{◌≡◌, ℕ, suc, ◌+◌, ◌-◌, ◌<◌, ◌≤◌, ◌⊎◌, inl, inr, List, [], ◌∷◌, ◌++◌, length, take, drop, Option, Some, None}
+use Rattle.std.proofs.Common.{refl, sym, ap, ap₂, ◌∙◌, subst, length-append, arith}
 use Rattle.std.specs.Prelude.{min}
 use Rattle.std.proofs.lemmas.Bool.{cases_lt}
 use Rattle.std.proofs.lemmas.List.{drop-append-le, drop-drop, drop-take, drop_all, get_or_past, length-drop, length-take-le, take-append-drop}
 use Rattle.wasm_code.specs.Instruction.{Instruction}
 use Rattle.wasm_types.specs.declared.types.PrimitiveTypeInfo.{PrimitiveTypeInfo}
-use Rattle.peephole_machine.specs.Row.{list_of, instruction_count}
-use Rattle.peephole_machine.specs.Values.{Context}
+use Rattle.wasm_execution.specs.Row.{list_of, instruction_count}
+use Rattle.wasm_execution.specs.Values.{Context}
 use Rattle.body_changes.specs.declared.units.Unit.{Unit}
-use Rattle.body_changes.specs.Pass.{start_of, start_where, takes_of, AreLast, AreValues, IsCode, IsNext, IsTold}
+use Rattle.body_changes.specs.Pass.{value_start_of, start_where, takes_of, AreLastValues, AreValues, IsCodeLeaving, IsNextUnit, UnitIsTold}
 use Rattle.body_changes.specs.Replacing.{HasInstruction, IsClosed}
 use Rattle.body_changes.specs.Typed.{told_types}
 use Rattle.body_changes.specs.Units.{AreSeveral, AreTaken, IsUnit}
@@ -16,7 +17,7 @@ use Rattle.body_changes.proofs.KeptLemmas.{kept_start}
 use Rattle.body_changes.proofs.StandLemmas.{Operators, Types, closed_code, code_before, code_behind, code_of_closed, is_behind, no_code, none_left}
 
 module _ (context : Context) (operators : Operators) (at : ℕ) (starts : List ℕ) (types : Types) (h : AreValues context operators at starts types) where
-  begun : (j : ℕ) → start_of starts j at ≤ at
+  begun : (j : ℕ) → value_start_of starts j at ≤ at
   begun j =
       let l = h.sorted j (j + length starts) (omega arith) in
       let past = get_or_past starts (j + length starts) at (omega arith) in
@@ -24,11 +25,11 @@ module _ (context : Context) (operators : Operators) (at : ℕ) (starts : List �
 
   -- the code of some of the values, one behind another
   between : (j k : ℕ) (t : PrimitiveTypeInfo) (ts : Types) → j ≤ k → t ∷ ts ++ drop k types ≡ drop j types →
-      IsClosed context operators (start_of starts j at) (start_of starts k at) (t ∷ ts)
+      IsClosed context operators (value_start_of starts j at) (value_start_of starts k at) (t ∷ ts)
   between j k t ts le parts =
-      closed_code context operators (start_of starts j at) (start_of starts k at) t ts (h.sorted j k le)
-      (code_before context operators (start_of starts j at) (start_of starts k at) at (t ∷ ts) (drop k types) (h.sorted j k le) (begun k)
-      (subst (IsCode context operators (start_of starts j at) at) (sym parts) (h.leave j)) (h.leave k))
+      closed_code context operators (value_start_of starts j at) (value_start_of starts k at) t ts (h.sorted j k le)
+      (code_before context operators (value_start_of starts j at) (value_start_of starts k at) at (t ∷ ts) (drop k types) (h.sorted j k le) (begun k)
+      (subst (IsCodeLeaving context operators (value_start_of starts j at) at) (sym parts) (h.leave j)) (h.leave k))
 
   module _ (i : Instruction) (has : HasInstruction operators at i) where
     abbrev count : ℕ
@@ -38,12 +39,12 @@ module _ (context : Context) (operators : Operators) (at : ℕ) (starts : List �
     record Over (s : ℕ) (us : Types) : Type 0 where
       number : ℕ
       few : number + count ≤ length types
-      begins : s ≤ start_of starts number at
+      begins : s ≤ value_start_of starts number at
       gives : Option PrimitiveTypeInfo
       typed : told_types context i (drop (length types - count) types) ≡ Some gives
       left : us ≡ drop number (take (length types - count) types) ++ list_of gives
 
-    over : (s : ℕ) (us : Types) → s ≤ at → IsCode context operators s (at + 1) us → Over s us
+    over : (s : ℕ) (us : Types) → s ≤ at → IsCodeLeaving context operators s (at + 1) us → Over s us
     over s us le c =
         let b = is_behind context operators s at i us le has c in
         let m = h.most s b.types le b.front in
@@ -67,7 +68,7 @@ module _ (context : Context) (operators : Operators) (at : ℕ) (starts : List �
         }
 
     -- where it has no unit
-    pub no_unit : IsNext context i at starts types None → (s : ℕ) (us : Types) → IsClosed context operators s (at + 1) us → ⊥
+    pub no_unit : IsNextUnit context i at starts types None → (s : ℕ) (us : Types) → IsClosed context operators s (at + 1) us → ⊥
     no_unit next s us c =
         let inside = c.some in
         let v = over s us (omega arith) (code_of_closed context operators s (at + 1) us c) in
@@ -79,7 +80,7 @@ module _ (context : Context) (operators : Operators) (at : ℕ) (starts : List �
         absurd (cc (nothing, typed))
 
     -- where it has one
-    module _ (below : ℕ) (unit : Unit) (told : IsTold context i at starts types below unit) where
+    module _ (below : ℕ) (unit : Unit) (told : UnitIsTold context i at starts types below unit) where
       sum : below + count ≡ length starts
       sum = told.below_is
 
@@ -91,14 +92,14 @@ module _ (context : Context) (operators : Operators) (at : ℕ) (starts : List �
 
       -- the code of the values from the j-th on, with the instruction behind it
       code_from : (j : ℕ) → j ≤ below →
-          IsClosed context operators (start_of starts j at) (at + 1) (drop j (take below types) ++ list_of unit.gives)
+          IsClosed context operators (value_start_of starts j at) (at + 1) (drop j (take below types) ++ list_of unit.gives)
       code_from j le =
           let w = within in
           let long = length-take-le below types w in
           let parts : drop j types ≡ drop j (take below types) ++ drop below types =
           ap (drop j) (sym (take-append-drop below types)) ∙ drop-append-le j (take below types) (drop below types) (omega arith) in
-          code_behind context operators (start_of starts j at) at i (drop j (take below types)) (drop below types) unit.gives (begun j) has told.typed
-          (subst (IsCode context operators (start_of starts j at) at) parts (h.leave j))
+          code_behind context operators (value_start_of starts j at) at i (drop j (take below types)) (drop below types) unit.gives (begun j) has told.typed
+          (subst (IsCodeLeaving context operators (value_start_of starts j at) at) parts (h.leave j))
 
       closed : IsClosed context operators unit.start (at + 1) (list_of unit.gives)
       closed =
@@ -106,7 +107,7 @@ module _ (context : Context) (operators : Operators) (at : ℕ) (starts : List �
           let long = length-take-le below types w in
           let none : drop below (take below types) ≡ [] = drop_all below (take below types) (omega arith) in
           subst (λ s. IsClosed context operators s (at + 1) (list_of unit.gives)) (sym told.start_is)
-          (subst (λ ts. IsClosed context operators (start_of starts below at) (at + 1) (ts ++ list_of unit.gives)) none (code_from below (omega arith)))
+          (subst (λ ts. IsClosed context operators (value_start_of starts below at) (at + 1) (ts ++ list_of unit.gives)) none (code_from below (omega arith)))
 
       shortest : (k : ℕ) (ts : Types) → IsClosed context operators k (at + 1) ts → k ≤ unit.start
       shortest k ts c =
@@ -133,19 +134,20 @@ module _ (context : Context) (operators : Operators) (at : ℕ) (starts : List �
       size : (ops : Types) → ops ≡ drop below types → length ops ≡ count
       size ops e = let s = sum in let a = h.aligned in let l = length-drop below types in ap length e ∙ omega arith
 
-      last_start : (k : ℕ) → last_at ≡ k → unit.last ≡ start_of starts k at
-      last_start k e = told.last_is ∙ ap (λ n. start_of starts n at) e
+      last_start : (k : ℕ) → last_at ≡ k → unit.last ≡ value_start_of starts k at
+      last_start k e = told.last_is ∙ ap (λ n. value_start_of starts n at) e
 
       last_closed : (k : ℕ) (t : PrimitiveTypeInfo) → last_at ≡ k → drop k types ≡ t ∷ [] → IsClosed context operators unit.last at (t ∷ [])
       last_closed k t e d =
           subst (λ s. IsClosed context operators s at (t ∷ [])) (sym (last_start k e))
-          (closed_code context operators (start_of starts k at) at t [] (begun k) (subst (IsCode context operators (start_of starts k at) at) d (h.leave k)))
+          (closed_code context operators (value_start_of starts k at) at t [] (begun k)
+          (subst (IsCodeLeaving context operators (value_start_of starts k at) at) d (h.leave k)))
 
       before_last : (k : ℕ) (t : PrimitiveTypeInfo) (ts : Types) → last_at ≡ k → below ≤ k → t ∷ ts ++ drop k types ≡ drop below types →
           IsClosed context operators unit.start unit.last (t ∷ ts)
       before_last k t ts e le parts =
           subst (λ s. IsClosed context operators s unit.last (t ∷ ts)) (sym told.start_is)
-          (subst (λ s. IsClosed context operators (start_of starts below at) s (t ∷ ts)) (sym (last_start k e)) (between below k t ts le parts))
+          (subst (λ s. IsClosed context operators (value_start_of starts below at) s (t ∷ ts)) (sym (last_start k e)) (between below k t ts le parts))
 
       several_at : (t : PrimitiveTypeInfo) (rest : Types) (n : ℕ) (x : PrimitiveTypeInfo) → n + 1 ≡ length rest → drop n rest ≡ x ∷ [] →
           t ∷ rest ≡ drop below types → AreSeveral context operators unit.start unit.last at count
@@ -196,8 +198,8 @@ module _ (context : Context) (operators : Operators) (at : ℕ) (starts : List �
             sym n,
             last_start below (omega arith) ∙ sym told.start_is,
             subst (λ k. IsClosed context operators k at (t ∷ [])) (sym told.start_is)
-                (closed_code context operators (start_of starts below at) at t [] (begun below)
-                (subst (IsCode context operators (start_of starts below at) at) (sym e) (h.leave below))),
+                (closed_code context operators (value_start_of starts below at) at t [] (begun below)
+                (subst (IsCodeLeaving context operators (value_start_of starts below at) at) (sym e) (h.leave below))),
           )
       taken (t ∷ u ∷ []) e =
           let s = sum in
@@ -268,23 +270,23 @@ module _ (context : Context) (operators : Operators) (at : ℕ) (starts : List �
           one_of (Some t) s = refl
           one_of None s = refl
 
-      kept : (j : ℕ) → j < length new_types → start_of new_starts j (at + 1) ≡ start_of starts j at
+      kept : (j : ℕ) → j < length new_types → value_start_of new_starts j (at + 1) ≡ value_start_of starts j at
       kept j l =
           let s = sum in
           let m = same_length in
           kept_start starts below j at (at + 1) unit.start unit.gives (omega arith) told.start_is (omega arith)
 
-      past : (j : ℕ) → length new_types ≤ j → start_of new_starts j (at + 1) ≡ at + 1
+      past : (j : ℕ) → length new_types ≤ j → value_start_of new_starts j (at + 1) ≡ at + 1
       past j l = let m = same_length in get_or_past new_starts j (at + 1) (omega arith)
 
       left_from : (j : ℕ) → j ≤ below → drop j new_types ≡ drop j (take below types) ++ list_of unit.gives
       left_from j le = let l = length-take-le below types within in drop-append-le j (take below types) (list_of unit.gives) (omega arith)
 
-      sorted_behind : (j k : ℕ) → j ≤ k → start_of new_starts j (at + 1) ≤ start_of new_starts k (at + 1)
+      sorted_behind : (j k : ℕ) → j ≤ k → value_start_of new_starts j (at + 1) ≤ value_start_of new_starts k (at + 1)
       sorted_behind j k le = go (cases_lt j (length new_types)) (cases_lt k (length new_types))
         where
           go : (j < length new_types) ⊎ (length new_types ≤ j) → (k < length new_types) ⊎ (length new_types ≤ k) →
-              start_of new_starts j (at + 1) ≤ start_of new_starts k (at + 1)
+              value_start_of new_starts j (at + 1) ≤ value_start_of new_starts k (at + 1)
           go (inl a) (inl b) = let x = kept j a in let y = kept k b in let l = h.sorted j k le in omega arith
           go (inl a) (inr b) = let x = kept j a in let y = past k b in let l = begun j in omega arith
           go (inr a) (inl b) = absurd (omega arith)
@@ -301,30 +303,31 @@ module _ (context : Context) (operators : Operators) (at : ℕ) (starts : List �
           at_most_one (Some t) = omega arith
           at_most_one None = omega arith
 
-      leave_behind : (j : ℕ) → IsCode context operators (start_of new_starts j (at + 1)) (at + 1) (drop j new_types)
+      leave_behind : (j : ℕ) → IsCodeLeaving context operators (value_start_of new_starts j (at + 1)) (at + 1) (drop j new_types)
       leave_behind j = go (cases_lt j (length new_types))
         where
-          go : (j < length new_types) ⊎ (length new_types ≤ j) → IsCode context operators (start_of new_starts j (at + 1)) (at + 1) (drop j new_types)
+          go : (j < length new_types) ⊎ (length new_types ≤ j) →
+              IsCodeLeaving context operators (value_start_of new_starts j (at + 1)) (at + 1) (drop j new_types)
           go (inl l) =
               let le = few_behind j l in
-              subst (λ s. IsCode context operators s (at + 1) (drop j new_types)) (sym (kept j l))
-              (subst (IsCode context operators (start_of starts j at) (at + 1)) (sym (left_from j le))
-              (code_of_closed context operators (start_of starts j at) (at + 1) (drop j (take below types) ++ list_of unit.gives) (code_from j le)))
+              subst (λ s. IsCodeLeaving context operators s (at + 1) (drop j new_types)) (sym (kept j l))
+              (subst (IsCodeLeaving context operators (value_start_of starts j at) (at + 1)) (sym (left_from j le))
+              (code_of_closed context operators (value_start_of starts j at) (at + 1) (drop j (take below types) ++ list_of unit.gives) (code_from j le)))
           go (inr l) =
-              subst (λ s. IsCode context operators s (at + 1) (drop j new_types)) (sym (past j l))
-              (subst (IsCode context operators (at + 1) (at + 1)) (sym (drop_all j new_types l)) (no_code context operators (at + 1)))
+              subst (λ s. IsCodeLeaving context operators s (at + 1) (drop j new_types)) (sym (past j l))
+              (subst (IsCodeLeaving context operators (at + 1) (at + 1)) (sym (drop_all j new_types l)) (no_code context operators (at + 1)))
 
-      most_behind : (s : ℕ) (ts : Types) → s ≤ at + 1 → IsCode context operators s (at + 1) ts → AreLast new_starts new_types s (at + 1) ts
+      most_behind : (s : ℕ) (ts : Types) → s ≤ at + 1 → IsCodeLeaving context operators s (at + 1) ts → AreLastValues new_starts new_types s (at + 1) ts
       most_behind s ts le c = go (cases_lt s (at + 1))
         where
-          begins : (j : ℕ) → s ≤ at → s ≤ start_of starts j at → s ≤ start_of new_starts j (at + 1)
+          begins : (j : ℕ) → s ≤ at → s ≤ value_start_of starts j at → s ≤ value_start_of new_starts j (at + 1)
           begins j a b = either (cases_lt j (length new_types))
             where
-              either : (j < length new_types) ⊎ (length new_types ≤ j) → s ≤ start_of new_starts j (at + 1)
+              either : (j < length new_types) ⊎ (length new_types ≤ j) → s ≤ value_start_of new_starts j (at + 1)
               either (inl l) = let k = kept j l in omega arith
               either (inr l) = let k = past j l in omega arith
 
-          go : (s < at + 1) ⊎ (at + 1 ≤ s) → AreLast new_starts new_types s (at + 1) ts
+          go : (s < at + 1) ⊎ (at + 1 ≤ s) → AreLastValues new_starts new_types s (at + 1) ts
           go (inl l) =
               let inside : s ≤ at = omega arith in
               let v = over s ts inside c in
@@ -346,7 +349,7 @@ module _ (context : Context) (operators : Operators) (at : ℕ) (starts : List �
               same_gives a b e = cc
           go (inr l) =
               let same : s ≡ at + 1 = omega arith in
-              let empty = none_left context operators (at + 1) ts (subst (λ n. IsCode context operators n (at + 1) ts) same c) in
+              let empty = none_left context operators (at + 1) ts (subst (λ n. IsCodeLeaving context operators n (at + 1) ts) same c) in
               let p = past (length new_types) (omega arith) in
               record {
                 number = length new_types;

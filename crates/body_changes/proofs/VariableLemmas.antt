@@ -11,40 +11,42 @@ use Rattle.wasm_code.specs.Table.{row_at, table}
 use Rattle.wasm_code.specs.declared.immediate.Imm.TheVariants.{Index}
 use Rattle.wasm_types.specs.declared.types.PrimitiveTypeInfo.{PrimitiveTypeInfo}
 use Rattle.wasm_types.specs.declared.types.PrimitiveTypeInfo.TheVariants.{I32}
-use Rattle.peephole_machine.specs.IntegerRow.{integer_row}
-use Rattle.peephole_machine.specs.Row.{at_most_one, instruction_types}
-use Rattle.peephole_machine.specs.RowLemmas.{same_type_is, same_type_self}
-use Rattle.peephole_machine.specs.Values.{Context, same_type}
-use Rattle.body_changes.specs.Drawing.{asks_types_alone, rank}
-use Rattle.body_changes.specs.Goals.{indexed, Gives, HasVariable}
+use Rattle.wasm_execution.specs.IntegerRow.{integer_row}
+use Rattle.wasm_execution.specs.Row.{at_most_one, instruction_types}
+use Rattle.wasm_execution.specs.RowLemmas.{same_type_is, same_type_self}
+use Rattle.wasm_execution.specs.Values.{Context, same_type}
+use Rattle.body_changes.specs.Drawing.{asks_types_alone, variable_rank}
+use Rattle.body_changes.specs.Goals.{indexed, GivesFromNothing, HasVariable}
 
 pub there_is : (types : List PrimitiveTypeInfo) (t d : PrimitiveTypeInfo) (n : ℕ) → n < length types → same_type t (get_or types n d) ≡ true →
     HasVariable types t n
 there_is types t d n l e = slice_get-get_or types n d l ∙ ap (λ (u : PrimitiveTypeInfo). Some u) (sym (same_type_is t (get_or types n d) e))
 
-rank_next : (types : List PrimitiveTypeInfo) (t : PrimitiveTypeInfo) (n : ℕ) → HasVariable types t n → rank types t (n + 1) ≡ rank types t n + 1
+rank_next : (types : List PrimitiveTypeInfo) (t : PrimitiveTypeInfo) (n : ℕ) → HasVariable types t n →
+    variable_rank types t (n + 1) ≡ variable_rank types t n + 1
 rank_next types t n h =
     count_by_more_yes (same_type t) types n I32 (slice_get_within types n t h)
     (ap (same_type t) (get_or_from_slice_get types n t I32 h) ∙ same_type_self t)
 
-rank_grows : (types : List PrimitiveTypeInfo) (t : PrimitiveTypeInfo) (n m : ℕ) → n ≤ m → rank types t n ≤ rank types t m
+rank_grows : (types : List PrimitiveTypeInfo) (t : PrimitiveTypeInfo) (n m : ℕ) → n ≤ m → variable_rank types t n ≤ variable_rank types t m
 rank_grows types t n m l =
-    subst (λ (us : List PrimitiveTypeInfo). count_by (same_type t) us ≤ rank types t m) (take-take n m types l)
+    subst (λ (us : List PrimitiveTypeInfo). count_by (same_type t) us ≤ variable_rank types t m) (take-take n m types l)
     (sum_by-take-le (λ u. cond (same_type t u) 1 0) (take m types) n)
 
-pub rank_small : (types : List PrimitiveTypeInfo) (t : PrimitiveTypeInfo) (n : ℕ) → HasVariable types t n → rank types t n < count_by (same_type t) types
+pub rank_small : (types : List PrimitiveTypeInfo) (t : PrimitiveTypeInfo) (n : ℕ) → HasVariable types t n →
+    variable_rank types t n < count_by (same_type t) types
 rank_small types t n h =
     let next = rank_next types t n h in
-    let le : rank types t (n + 1) ≤ count_by (same_type t) types = sum_by-take-le (λ u. cond (same_type t u) 1 0) types (n + 1) in omega arith
+    let le : variable_rank types t (n + 1) ≤ count_by (same_type t) types = sum_by-take-le (λ u. cond (same_type t u) 1 0) types (n + 1) in omega arith
 
-pub rank_below : (types : List PrimitiveTypeInfo) (t : PrimitiveTypeInfo) (n : ℕ) → rank types t n ≤ n
+pub rank_below : (types : List PrimitiveTypeInfo) (t : PrimitiveTypeInfo) (n : ℕ) → variable_rank types t n ≤ n
 rank_below types t n =
-    let le : rank types t n ≤ length (take n types) = count_by-le-length (same_type t) (take n types) in
+    let le : variable_rank types t n ≤ length (take n types) = count_by-le-length (same_type t) (take n types) in
     let small = length-take n types in omega arith
 
 -- each has a number of its own
 pub one_by_rank : (types : List PrimitiveTypeInfo) (t : PrimitiveTypeInfo) (n m : ℕ) → HasVariable types t n → HasVariable types t m →
-    rank types t n ≡ rank types t m → n ≡ m
+    variable_rank types t n ≡ variable_rank types t m → n ≡ m
 one_by_rank types t n m h k same =
     let a = rank_next types t n h in
     let b = rank_next types t m k in
@@ -55,11 +57,11 @@ one_by_rank types t n m h k same =
     ]
 
 -- past the last one there are no numbers
-pub none_past : (types : List PrimitiveTypeInfo) (t : PrimitiveTypeInfo) (i n number : ℕ) → length types ≤ i → rank types t i ≤ number →
-    HasVariable types t n → rank types t n ≡ number → ⊥
+pub none_past : (types : List PrimitiveTypeInfo) (t : PrimitiveTypeInfo) (i n number : ℕ) → length types ≤ i → variable_rank types t i ≤ number →
+    HasVariable types t n → variable_rank types t n ≡ number → ⊥
 none_past types t i n number l below h is =
     let small = rank_small types t n h in
-    let all : rank types t i ≡ count_by (same_type t) types = ap (count_by (same_type t)) (take_all i types l) in
+    let all : variable_rank types t i ≡ count_by (same_type t) types = ap (count_by (same_type t)) (take_all i types l) in
     omega arith
 
 -- ---- their indices
@@ -86,7 +88,7 @@ read_gives : (o : Option PrimitiveTypeInfo) (t : PrimitiveTypeInfo) → o ≡ So
 read_gives o t e = ap (λ (x : Option PrimitiveTypeInfo). option_and_then at_most_one (option_and_then (λ u. Some (u ∷ [])) x)) e
 
 pub local_gives : (context : Context) (t : PrimitiveTypeInfo) (n : ℕ) (i : Instruction) → i ≡ indexed 4 n → IsInstruction i →
-    HasVariable context.locals t n → Gives context t i
+    HasVariable context.locals t n → GivesFromNothing context t i
 unfolding integer_row row_at table
 local_gives context t n i e is h = record {
   instruction = is;
@@ -95,7 +97,7 @@ local_gives context t n i e is h = record {
 }
 
 pub global_gives : (context : Context) (t : PrimitiveTypeInfo) (n : ℕ) (i : Instruction) → i ≡ indexed 7 n → IsInstruction i →
-    HasVariable context.info.globals t n → Gives context t i
+    HasVariable context.info.globals t n → GivesFromNothing context t i
 unfolding integer_row row_at table
 global_gives context t n i e is h = record {
   instruction = is;

@@ -5,10 +5,10 @@ use Rattle.std.specs.List.{All}
 use Rattle.wasm_code.specs.Instruction.{Instruction}
 use Rattle.wasm_code.specs.declared.immediate.MemArg.{MemArg}
 use Rattle.wasm_code.specs.declared.operator.Operator.{Operator}
-use Rattle.peephole_machine.specs.Values.{Context}
+use Rattle.wasm_execution.specs.Values.{Context}
 use Rattle.body_changes.specs.declared.change.Change.{Change}
 use Rattle.body_changes.specs.Drawing.{asks_types_alone}
-use Rattle.body_changes.specs.Kinds.{accessing, is_call_row, memory_argument, AsksNoGreater, IsChange, Material}
+use Rattle.body_changes.specs.Kinds.{access_with_argument, is_call_row, memory_argument, AsksNoGreater, IsChange, Material}
 use Rattle.body_changes.specs.Replacing.{HasInstruction}
 
 -- it is one of the operators
@@ -24,23 +24,23 @@ pub record IsEased (operators : List (Operator × ℕ)) (i : Instruction) : Type
   pub own_argument : memory_argument own.imm ≡ Some argument
   pub other : MemArg
   pub asks : AsksNoGreater argument other
-  pub is : i ≡ accessing other own
+  pub is : i ≡ access_with_argument other own
 
 -- The standard asks nothing of it that wasn't asked of the operators or of the code that is copied.
-pub data IsAsked (operators : List (Operator × ℕ)) (copied : List Instruction) (i : Instruction) : Type 0 where
+pub data IsAskedAlready (operators : List (Operator × ℕ)) (copied : List Instruction) (i : Instruction) : Type 0 where
   -- nothing beyond its types
-  plain : IsTrue (asks_types_alone i) → IsAsked operators copied i
+  plain : IsTrue (asks_types_alone i) → IsAskedAlready operators copied i
   -- nor of a call: that the function is there is part of its types
-  call : IsTrue (is_call_row i.row) → IsAsked operators copied i
+  call : IsTrue (is_call_row i.row) → IsAskedAlready operators copied i
   -- it is one of the operators, of which the rest was asked already
-  stands : StandsSomewhere operators i → IsAsked operators copied i
-  eased : IsEased operators i → IsAsked operators copied i
+  stands : StandsSomewhere operators i → IsAskedAlready operators copied i
+  eased : IsEased operators i → IsAskedAlready operators copied i
   -- it stands in that code
-  taken : (at : ℕ) → slice_get copied at ≡ Some i → IsAsked operators copied i
+  taken : (at : ℕ) → slice_get copied at ≡ Some i → IsAskedAlready operators copied i
 
 -- so of each instruction of the code
 abbrev pub AsksNoMore : List (Operator × ℕ) → (copied code : List Instruction) → Type 0
-AsksNoMore operators copied code = All (IsAsked operators copied) code
+AsksNoMore operators copied code = All (IsAskedAlready operators copied) code
 
 -- ---- law
 

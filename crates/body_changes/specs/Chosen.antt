@@ -2,9 +2,9 @@
 use Rattle.std.specs.Prelude.{◌≡◌, ◌%◌, ◌<◌, ◌≤◌, ℕ, List, length, drop, get_or, Some, slice_get}
 use Rattle.wasm_code.specs.Instruction.{Instruction}
 use Rattle.wasm_code.specs.declared.operator.Operator.{Operator}
-use Rattle.peephole_machine.specs.Values.{Context}
+use Rattle.wasm_execution.specs.Values.{Context}
 use Rattle.body_changes.specs.declared.change.Change.{Change}
-use Rattle.body_changes.specs.Kinds.{IsChange, Material, Names}
+use Rattle.body_changes.specs.Kinds.{IsChange, Material, WordsNameCode}
 
 -- the change makes something of the operator at `at`
 abbrev pub Changes : Context → List (Operator × ℕ) → Material → (words : List ℕ) → Change → (at : ℕ) → Type 0
@@ -26,11 +26,12 @@ ChangesAny context operators material words change = (at : ℕ) × (at < length 
 
 -- the change with the number does
 abbrev pub NumberChanges : Context → List (Operator × ℕ) → Material → (words : List ℕ) → List Change → ℕ → Type 0
-NumberChanges context operators material words changes k = (change : Change) × (slice_get changes k ≡ Some change) × ChangesAny context operators material words change
+NumberChanges context operators material words changes k = (change : Change) × (slice_get changes k ≡ Some change)
+    × ChangesAny context operators material words change
 
 -- The words choose this change of the operator at `at`: of the changes the first one from that on that the first word names which makes something, of the
 -- operators the first one from that on that the second word names of which it does; and where the words behind them name the code, that code.
-pub record Chooses (context : Context) (operators : List (Operator × ℕ)) (material : Material) (changes : List Change) (words : List ℕ) (change : Change)
+pub record ChoosesChange (context : Context) (operators : List (Operator × ℕ)) (material : Material) (changes : List Change) (words : List ℕ) (change : Change)
     (at start : ℕ) (code : List Instruction) : Type 0 where
   pub number : ℕ
   pub is_change : slice_get changes number ≡ Some change
@@ -38,7 +39,7 @@ pub record Chooses (context : Context) (operators : List (Operator × ℕ)) (mat
   pub place : IsFirstFrom (Changes context operators material (drop 2 words) change) (length operators) (get_or words 1 0 % length operators) at
   pub is : IsChange context operators material (drop 2 words) change at start code
   pub named : (s : ℕ) (other : List Instruction) (is : IsChange context operators material (drop 2 words) change at s other) →
-      Names context change is.unit (drop 2 words) other → code ≡ other
+      WordsNameCode context change is.unit (drop 2 words) other → code ≡ other
 
 -- no change makes anything of any operator
 abbrev pub ChangesNone : Context → List (Operator × ℕ) → Material → List Change → (words : List ℕ) → Type 0

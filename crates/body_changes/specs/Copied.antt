@@ -3,11 +3,11 @@ use Rattle.std.specs.Prelude.{◌+◌, ◌%◌, ℕ, List, length, Option, Some,
 use Rattle.wasm_code.specs.Instruction.{Instruction}
 use Rattle.wasm_code.specs.declared.operator.Operator.{Operator}
 use Rattle.wasm_types.specs.declared.types.PrimitiveTypeInfo.{PrimitiveTypeInfo}
-use Rattle.peephole_machine.specs.Row.{list_of}
-use Rattle.peephole_machine.specs.Values.{Context}
+use Rattle.wasm_execution.specs.Row.{list_of}
+use Rattle.wasm_execution.specs.Values.{Context}
 use Rattle.body_changes.specs.declared.units.Unit.{Unit}
 use Rattle.body_changes.specs.Kinds.{Stand}
-use Rattle.body_changes.specs.Typed.{Leaves}
+use Rattle.body_changes.specs.Typed.{LeavesTypes}
 use Rattle.body_changes.specs.Units.{IsUnit}
 
 -- the operator that the word names, modulo their number
@@ -22,5 +22,5 @@ pub record IsUnitNamed (context : Context) (operators : List (Operator × ℕ)) 
 
 -- One value or none, which the code leaves; and where that isn't given, the code leaves neither.
 abbrev pub IsGiven : Context → List Instruction → Option (Option PrimitiveTypeInfo) → Type 0
-IsGiven context code (Some gives) = Leaves context code (list_of gives)
-IsGiven context code None = (gives : Option PrimitiveTypeInfo) → ¬ (Leaves context code (list_of gives))
+IsGiven context code (Some gives) = LeavesTypes context code (list_of gives)
+IsGiven context code None = (gives : Option PrimitiveTypeInfo) → ¬ (LeavesTypes context code (list_of gives))

@@ -1,6 +1,7 @@
 -- Code that words draw: of which types, and which words draw which single instruction (this project; constants and variables: WebAssembly Core Specification
 -- 3.0, Structure, Instructions).
-use Rattle.std.specs.Prelude.{◌≡◌, ℕ, ◌+◌, ◌*◌, ◌/◌, ◌%◌, ◌^◌, ◌<◌, ◌==◌, ◌||◌, not, Bool, true, false, if◌then◌else◌, List, [], ◌∷◌, take, get_or, count_by, Some}
+use Rattle.std.specs.Prelude.{◌≡◌, ℕ, ◌+◌, ◌*◌, ◌/◌, ◌%◌, ◌^◌, ◌<◌, ◌==◌, ◌||◌, not, Bool, true, false, if◌then◌else◌, List, [], ◌∷◌, take}
+use Rattle.std.specs.Prelude.{get_or, count_by, Some}
 use Rattle.std.specs.Prelude.{IsTrue}
 use Rattle.std.specs.List.{All}
 use Rattle.std.specs.Int.{w32, w64, w128, cast_unsigned}
@@ -10,8 +11,8 @@ use Rattle.wasm_code.specs.declared.immediate.Imm.TheVariants as imm
 use Rattle.wasm_types.specs.Module.{Module}
 use Rattle.wasm_types.specs.declared.types.PrimitiveTypeInfo.{PrimitiveTypeInfo}
 use Rattle.wasm_types.specs.declared.types.PrimitiveTypeInfo.TheVariants.{FuncRef, ExternRef, Empty}
-use Rattle.peephole_machine.specs.Row.{instruction_types}
-use Rattle.peephole_machine.specs.Values.{Context, same_type}
+use Rattle.wasm_execution.specs.Row.{instruction_types}
+use Rattle.wasm_execution.specs.Values.{Context, same_type}
 
 -- ---- types
 
@@ -65,17 +66,17 @@ bits_of (imm.V128 z) = cast_unsigned w128 z
 bits_of _ = 0
 
 -- how many variables of the type have a smaller index
-abbrev pub rank : List PrimitiveTypeInfo → PrimitiveTypeInfo → ℕ → ℕ
-rank types t n = count_by (same_type t) (take n types)
+abbrev pub variable_rank : List PrimitiveTypeInfo → PrimitiveTypeInfo → ℕ → ℕ
+variable_rank types t n = count_by (same_type t) (take n types)
 
 -- the word that chooses the instruction of the row with the immediate: the variable with its number among those of the type, or a constant by its own bits
-abbrev pub choice_of : Context → PrimitiveTypeInfo → (row : ℕ) → Imm → ℕ
-choice_of context t row (imm.Index n) = if row == 4 then 8 * rank context.locals t n + 1 else 8 * rank context.info.globals t n + 2
-choice_of context t row _ = 32
+abbrev pub choice_word : Context → PrimitiveTypeInfo → (row : ℕ) → Imm → ℕ
+choice_word context t row (imm.Index n) = if row == 4 then 8 * variable_rank context.locals t n + 1 else 8 * variable_rank context.info.globals t n + 2
+choice_word context t row _ = 32
 
 -- the words that draw it: the one that chooses it, and the two halves of its bits
-abbrev pub words_of : Context → PrimitiveTypeInfo → Instruction → List ℕ
-words_of context t i = choice_of context t i.row i.imm ∷ bits_of i.imm % 2 ^ 64 ∷ bits_of i.imm / 2 ^ 64 ∷ []
+abbrev pub drawing_words_of : Context → PrimitiveTypeInfo → Instruction → List ℕ
+drawing_words_of context t i = choice_word context t i.row i.imm ∷ bits_of i.imm % 2 ^ 64 ∷ bits_of i.imm / 2 ^ 64 ∷ []
 
 -- the first three of some words, 0 for one that isn't there: those behind them draw nothing more where these draw a single instruction
 abbrev pub three_words : (words : List ℕ) → List ℕ
@@ -85,4 +86,4 @@ three_words words = get_or words 0 0 ∷ get_or words 1 0 ∷ get_or words 2 0 �
 
 -- Each of them is a word of 64 bits.
 abbrev pub LeavesHaveWords : Type 0
-LeavesHaveWords = (context : Context) (t : PrimitiveTypeInfo) (i : Instruction) → IsLeaf context t i → All (λ w. w < 2 ^ 64) (words_of context t i)
+LeavesHaveWords = (context : Context) (t : PrimitiveTypeInfo) (i : Instruction) → IsLeaf context t i → All (λ w. w < 2 ^ 64) (drawing_words_of context t i)

@@ -10,16 +10,16 @@ use Rattle.wasm_code.specs.declared.immediate.Imm.{Imm}
 use Rattle.wasm_code.specs.declared.immediate.Imm.TheVariants as imm
 use Rattle.wasm_types.specs.declared.types.PrimitiveTypeInfo.{PrimitiveTypeInfo}
 use Rattle.wasm_types.specs.declared.types.PrimitiveTypeInfo.TheVariants as primitive
-use Rattle.peephole_machine.specs.Row.{instruction_types}
-use Rattle.peephole_machine.specs.Values.{Context, context_in}
+use Rattle.wasm_execution.specs.Row.{instruction_types}
+use Rattle.wasm_execution.specs.Values.{Context, context_in}
 use Rattle.body_changes.specs.declared.goal.Chosen.{Chosen}
 use Rattle.body_changes.specs.declared.goal.Goal.{Goal}
 use Rattle.body_changes.specs.declared.goal.Operands.{Operands}
 use Rattle.body_changes.specs.declared.goal.Operands.TheVariants as operands
 use Rattle.body_changes.specs.declared.goal.Words.{Words}
 use Rattle.body_changes.specs.declared.source.Scope.{Scope}
-use Rattle.body_changes.specs.Drawing.{asks_types_alone, is_drawable, AreDrawable, AskTypesAlone, IsLeaf, bits_of, choice_of, three_words, words_of}
-use Rattle.body_changes.specs.Typed.{types_after}
+use Rattle.body_changes.specs.Drawing.{asks_types_alone, is_drawable, AreDrawable, AskTypesAlone, IsLeaf, bits_of, choice_word, three_words, drawing_words_of}
+use Rattle.body_changes.specs.Typed.{told_types_after}
 
 -- what code may name in the scope
 abbrev pub context_for : Scope → Context
@@ -32,8 +32,8 @@ abbrev pub first_words : List ℕ → Words
 first_words words = record { choice = get_or words 0 0; low = get_or words 1 0; high = get_or words 2 0 }
 
 -- These words draw the instruction.
-pub record AreFor (context : Context) (t : PrimitiveTypeInfo) (i : Instruction) (words : Words) : Type 0 where
-  pub choice : words.choice ≡ choice_of context t i.row i.imm
+pub record WordsDrawInstruction (context : Context) (t : PrimitiveTypeInfo) (i : Instruction) (words : Words) : Type 0 where
+  pub choice : words.choice ≡ choice_word context t i.row i.imm
   pub low : words.low ≡ bits_of i.imm % 2 ^ 64
   pub high : words.high ≡ bits_of i.imm / 2 ^ 64
 
@@ -91,7 +91,7 @@ flipped t own word =
     constant_by t (bits % 2 ^ 64) (bits / 2 ^ 64)
 
 -- The instruction takes nothing and gives a value of the type, and the standard asks nothing else of it.
-pub record Gives (context : Context) (t : PrimitiveTypeInfo) (i : Instruction) : Type 0 where
+pub record GivesFromNothing (context : Context) (t : PrimitiveTypeInfo) (i : Instruction) : Type 0 where
   pub instruction : IsInstruction i
   pub types : instruction_types context i [] ≡ Some (Some t)
   pub plain : IsTrue (asks_types_alone i)
@@ -118,25 +118,25 @@ pub record IsVariable (row : ℕ) (types : List PrimitiveTypeInfo) (t : Primitiv
 -- ---- goals
 
 -- the types of operands as a list
-abbrev pub types_in : Operands → List PrimitiveTypeInfo
-types_in operands.Zero = []
-types_in (operands.One a) = a ∷ []
-types_in (operands.Two a b) = a ∷ b ∷ []
-types_in (operands.Three a b c) = a ∷ b ∷ c ∷ []
+abbrev pub operand_types_in : Operands → List PrimitiveTypeInfo
+operand_types_in operands.Zero = []
+operand_types_in (operands.One a) = a ∷ []
+operand_types_in (operands.Two a b) = a ∷ b ∷ []
+operand_types_in (operands.Three a b c) = a ∷ b ∷ c ∷ []
 
 -- The instruction gives a value of the wanted type on operands of these types, for which the goal has room, and which can be drawn. The standard asks nothing
 -- else of it.
-pub record Fits (context : Context) (goal : Goal) (c : Chosen) : Type 0 where
+pub record FitsGoal (context : Context) (goal : Goal) (c : Chosen) : Type 0 where
   pub instruction : IsInstruction c.instr
-  pub types : instruction_types context c.instr (types_in c.operands) ≡ Some (Some goal.wanted)
-  pub room : length (types_in c.operands) < goal.size
-  pub drawable : AreDrawable context.info (types_in c.operands)
+  pub types : instruction_types context c.instr (operand_types_in c.operands) ≡ Some (Some goal.wanted)
+  pub room : length (operand_types_in c.operands) < goal.size
+  pub drawable : AreDrawable context.info (operand_types_in c.operands)
   pub plain : IsTrue (asks_types_alone c.instr)
 
 -- Where the words draw a single instruction, it is that one, without operands.
 abbrev pub IsDrawnBy : Context → (wanted : PrimitiveTypeInfo) → Words → Chosen → Type 0
 IsDrawnBy context wanted words c =
-    (i : Instruction) → IsLeaf context wanted i → AreFor context wanted i words → (c.instr ≡ i) × (c.operands ≡ operands.Zero)
+    (i : Instruction) → IsLeaf context wanted i → WordsDrawInstruction context wanted i words → (c.instr ≡ i) × (c.operands ≡ operands.Zero)
 
 -- the types of the goals
 abbrev pub wanted_types : List Goal → List PrimitiveTypeInfo
@@ -148,7 +148,7 @@ whole_size [] = 0
 whole_size (g ∷ goals) = g.size + whole_size goals
 
 -- A value of it can be drawn, of one instruction at least.
-pub record IsOpen (context : Context) (goal : Goal) : Type 0 where
+pub record GoalIsOpen (context : Context) (goal : Goal) : Type 0 where
   pub some : 0 < goal.size
   pub drawable : IsTrue (is_drawable context.info goal.wanted)
 
@@ -158,17 +158,17 @@ pub record HasPushed (context : Context) (ts : List PrimitiveTypeInfo) (room : �
   pub grown : new ≡ old ++ more
   pub types : wanted_types more ≡ ts
   pub size : whole_size more ≤ room
-  pub some : All (IsOpen context) more
+  pub some : All (GoalIsOpen context) more
 
 -- An instruction was drawn for the goal, and goals for its operands are there in its place.
 pub record HasDrawn (context : Context) (goal : Goal) (words : Words) (goals : List Goal) (code : List Instruction) (left : List Goal)
     (grown : List Instruction) : Type 0 where
   pub chosen : Chosen
-  pub fits : Fits context goal chosen
+  pub fits : FitsGoal context goal chosen
   pub drawn : IsDrawnBy context goal.wanted words chosen
   pub room : ℕ
   pub room_is : room + 1 ≡ goal.size
-  pub pushed : HasPushed context (types_in chosen.operands) room goals left
+  pub pushed : HasPushed context (operand_types_in chosen.operands) room goals left
   pub added : grown ≡ code ++ chosen.instr ∷ []
 
 -- The instructions so far are the last ones, the very last one first: on values of the goals' types they leave the wanted one. All together will be at most
@@ -176,8 +176,8 @@ pub record HasDrawn (context : Context) (goal : Goal) (words : Words) (goals : L
 pub record IsDrawing (context : Context) (wanted : PrimitiveTypeInfo) (size step : ℕ) (goals : List Goal) (code : List Instruction) : Type 0 where
   pub size_is : length code + whole_size goals ≤ size
   pub goes_on : (goals ≡ []) ⊎ (length code ≡ step)
-  pub some : All (IsOpen context) goals
-  pub whole : types_after context (reverse code) (wanted_types goals) ≡ Some (wanted ∷ [])
+  pub some : All (GoalIsOpen context) goals
+  pub whole : told_types_after context (reverse code) (wanted_types goals) ≡ Some (wanted ∷ [])
   pub plain : AskTypesAlone code
 
 -- Nothing was drawn yet, and all words are left.
@@ -195,5 +195,5 @@ pub record IsOnly (i : Instruction) (goals : List Goal) (code : List Instruction
 -- Where the words draw a single instruction, it is that one, or nothing was drawn yet.
 abbrev pub DrawsOnly : Context → Goal → (step : ℕ) → (words rest : List ℕ) → List Goal → List Instruction → Type 0
 DrawsOnly context goal step words rest goals code =
-    (i : Instruction) → IsLeaf context goal.wanted i → three_words words ≡ words_of context goal.wanted i →
+    (i : Instruction) → IsLeaf context goal.wanted i → three_words words ≡ drawing_words_of context goal.wanted i →
     IsFirst goal step words rest goals code ⊎ IsOnly i goals code

@@ -9,13 +9,13 @@ use Rattle.wasm_code.specs.declared.operator.Operator.{Operator}
 use Rattle.wasm_types.specs.Module.{function_type}
 use Rattle.wasm_types.specs.declared.types.PrimitiveTypeInfo.{PrimitiveTypeInfo}
 use Rattle.wasm_types.specs.declared.types.PrimitiveTypeInfo.TheVariants as primitive
-use Rattle.peephole_machine.specs.Values.{Context}
+use Rattle.wasm_execution.specs.Values.{Context}
 use Rattle.body_changes.specs.declared.change.Change.{Change}
 use Rattle.body_changes.specs.declared.change.Change.TheVariants as change
 use Rattle.body_changes.specs.declared.units.Takes.{Takes}
 use Rattle.body_changes.specs.declared.units.Takes.TheVariants as takes
 use Rattle.body_changes.specs.declared.units.Unit.{Unit}
-use Rattle.body_changes.specs.Drawing.{is_local_row, three_words, words_of, AskTypesAlone, IsLeaf}
+use Rattle.body_changes.specs.Drawing.{is_local_row, three_words, drawing_words_of, AskTypesAlone, IsLeaf}
 use Rattle.body_changes.specs.Goals.{constant_row, indexed}
 use Rattle.body_changes.specs.Others.{IsOther}
 use Rattle.body_changes.specs.Replacing.{AreTheseInstructions, CanReplace, HasInstruction}
@@ -26,11 +26,11 @@ abbrev pub Stand : List (Operator × ℕ) → (start end : ℕ) → List Instruc
 Stand operators start end code = AreTheseInstructions (slice_range operators start end) code
 
 -- numbers and vectors
-abbrev pub is_number : PrimitiveTypeInfo → Bool
-is_number primitive.FuncRef = false
-is_number primitive.ExternRef = false
-is_number primitive.Empty = false
-is_number t = true
+abbrev pub is_number_or_vector : PrimitiveTypeInfo → Bool
+is_number_or_vector primitive.FuncRef = false
+is_number_or_vector primitive.ExternRef = false
+is_number_or_vector primitive.Empty = false
+is_number_or_vector t = true
 
 -- ---- a value
 
@@ -38,7 +38,7 @@ is_number t = true
 pub record MakesConstant (operators : List (Operator × ℕ)) (at : ℕ) (unit : Unit) (code : List Instruction) : Type 0 where
   pub type : PrimitiveTypeInfo
   pub gives : unit.gives ≡ Some type
-  pub number : IsTrue (is_number type)
+  pub number : IsTrue (is_number_or_vector type)
   pub own : Instruction
   pub has : HasInstruction operators at own
   pub own_row : own.row ≡ constant_row type
@@ -51,7 +51,7 @@ pub record MakesConstant (operators : List (Operator × ℕ)) (at : ℕ) (unit :
 pub record MakesDrawn (most : ℕ) (unit : Unit) (code : List Instruction) : Type 0 where
   pub type : PrimitiveTypeInfo
   pub gives : unit.gives ≡ Some type
-  pub number : IsTrue (is_number type)
+  pub number : IsTrue (is_number_or_vector type)
   pub few : length code ≤ most
   pub plain : AskTypesAlone code
 
@@ -141,8 +141,8 @@ with_argument m (imm.MemLane own lane) = imm.MemLane m lane
 with_argument m i = i
 
 -- the instruction with it
-abbrev pub accessing : MemArg → Instruction → Instruction
-accessing m i = record { row = i.row; imm = with_argument m i.imm }
+abbrev pub access_with_argument : MemArg → Instruction → Instruction
+access_with_argument m i = record { row = i.row; imm = with_argument m i.imm }
 
 -- On the same memory: the alignment is no greater, and the offset has 32 bits, so that it fits the addresses of any memory.
 pub record AsksNoGreater (own other : MemArg) : Type 0 where
@@ -158,7 +158,7 @@ pub record MakesMemoryArgument (operators : List (Operator × ℕ)) (at : ℕ) (
   pub own_argument : memory_argument own.imm ≡ Some argument
   pub other : MemArg
   pub asks : AsksNoGreater argument other
-  pub behind : IsBehindOperands operators at unit (accessing other own) code
+  pub behind : IsBehindOperands operators at unit (access_with_argument other own) code
 
 -- ---- operands
 
@@ -198,7 +198,7 @@ pub record MakesExchanged (operators : List (Operator × ℕ)) (at : ℕ) (unit 
 -- ---- statements, which leave no value
 
 -- It is gone.
-pub record MakesNothing (unit : Unit) (code : List Instruction) : Type 0 where
+pub record MakesNoCode (unit : Unit) (code : List Instruction) : Type 0 where
   pub gives : unit.gives ≡ None
   pub code_is : code ≡ []
 
@@ -233,21 +233,21 @@ pub record Material : Type 0 where
 
 -- What the change makes of the unit of the operator at `at`: the code that stands in the place of the operators from `start` up to that one. `words` say which
 -- local, global or function takes another one's place.
-abbrev pub Makes : Context → List (Operator × ℕ) → Material → (words : List ℕ) → Change → (at : ℕ) → Unit → (start : ℕ) → List Instruction → Type 0
-Makes context operators material words change.Constant at unit start code = (start ≡ unit.start) × MakesConstant operators at unit code
-Makes context operators material words change.Operator at unit start code = (start ≡ unit.start) × MakesOperator context operators at unit code
-Makes context operators material words change.Local at unit start code = (start ≡ unit.start) × MakesLocal context operators words at unit code
-Makes context operators material words change.Draw at unit start code = (start ≡ unit.start) × MakesDrawn material.most unit code
-Makes context operators material words change.Copy at unit start code = (start ≡ unit.start) × MakesCopy material.copied code
-Makes context operators material words change.FirstOperand at unit start code = (start ≡ unit.start) × MakesFirst operators unit code
-Makes context operators material words change.LastOperand at unit start code = (start ≡ unit.start) × MakesLast operators at unit code
-Makes context operators material words change.ExchangeOperands at unit start code = (start ≡ unit.start) × MakesExchanged operators at unit code
-Makes context operators material words change.Delete at unit start code = (start ≡ unit.start) × MakesNothing unit code
-Makes context operators material words change.Double at unit start code = (start ≡ unit.start) × MakesTwice operators at unit code
-Makes context operators material words change.ExchangeStatements at unit start code = MakesTurned context operators at unit start code
-Makes context operators material words change.Global at unit start code = (start ≡ unit.start) × MakesGlobal context operators words at unit code
-Makes context operators material words change.Call at unit start code = (start ≡ unit.start) × MakesCall context operators words at unit code
-Makes context operators material words change.MemoryArgument at unit start code = (start ≡ unit.start) × MakesMemoryArgument operators at unit code
+abbrev pub ChangeMakes : Context → List (Operator × ℕ) → Material → (words : List ℕ) → Change → (at : ℕ) → Unit → (start : ℕ) → List Instruction → Type 0
+ChangeMakes context operators material words change.Constant at unit start code = (start ≡ unit.start) × MakesConstant operators at unit code
+ChangeMakes context operators material words change.Operator at unit start code = (start ≡ unit.start) × MakesOperator context operators at unit code
+ChangeMakes context operators material words change.Local at unit start code = (start ≡ unit.start) × MakesLocal context operators words at unit code
+ChangeMakes context operators material words change.Draw at unit start code = (start ≡ unit.start) × MakesDrawn material.most unit code
+ChangeMakes context operators material words change.Copy at unit start code = (start ≡ unit.start) × MakesCopy material.copied code
+ChangeMakes context operators material words change.FirstOperand at unit start code = (start ≡ unit.start) × MakesFirst operators unit code
+ChangeMakes context operators material words change.LastOperand at unit start code = (start ≡ unit.start) × MakesLast operators at unit code
+ChangeMakes context operators material words change.ExchangeOperands at unit start code = (start ≡ unit.start) × MakesExchanged operators at unit code
+ChangeMakes context operators material words change.Delete at unit start code = (start ≡ unit.start) × MakesNoCode unit code
+ChangeMakes context operators material words change.Double at unit start code = (start ≡ unit.start) × MakesTwice operators at unit code
+ChangeMakes context operators material words change.ExchangeStatements at unit start code = MakesTurned context operators at unit start code
+ChangeMakes context operators material words change.Global at unit start code = (start ≡ unit.start) × MakesGlobal context operators words at unit code
+ChangeMakes context operators material words change.Call at unit start code = (start ≡ unit.start) × MakesCall context operators words at unit code
+ChangeMakes context operators material words change.MemoryArgument at unit start code = (start ≡ unit.start) × MakesMemoryArgument operators at unit code
 
 -- The code may stand in the place of the operators from `start` up to the one before `end`, and isn't what stands there.
 pub record IsNewWithin (context : Context) (operators : List (Operator × ℕ)) (start end : ℕ) (code : List Instruction) : Type 0 where
@@ -263,7 +263,7 @@ pub record IsChange (context : Context) (operators : List (Operator × ℕ)) (ma
     (code : List Instruction) : Type 0 where
   pub unit : Unit
   pub is : IsUnit context operators at unit
-  pub makes : Makes context operators material words change at unit start code
+  pub makes : ChangeMakes context operators material words change at unit start code
   pub new : IsNew context operators start at code
 
 -- ---- the words for the code, where the change and the operator leave a choice
@@ -276,11 +276,13 @@ NamesArgument words code =
 
 -- These words draw it: a constant's own bits, a single instruction's words, the number of an operator's row, an offset and an alignment. Other changes
 -- leave no choice.
-abbrev pub Names : Context → Change → Unit → (words : List ℕ) → List Instruction → Type 0
-Names context change.Constant unit words code =
-    (t : PrimitiveTypeInfo) × (i : Instruction) × (unit.gives ≡ Some t) × IsLeaf context t i × (three_words words ≡ words_of context t i) × (code ≡ i ∷ [])
-Names context change.Draw unit words code =
-    (t : PrimitiveTypeInfo) × (i : Instruction) × (unit.gives ≡ Some t) × IsLeaf context t i × (three_words words ≡ words_of context t i) × (code ≡ i ∷ [])
-Names context change.Operator unit words code = (front : List Instruction) × (i : Instruction) × (code ≡ front ++ i ∷ []) × (get_or words 0 0 ≡ i.row)
-Names context change.MemoryArgument unit words code = NamesArgument words code
-Names context change unit words code = ⊤
+abbrev pub WordsNameCode : Context → Change → Unit → (words : List ℕ) → List Instruction → Type 0
+WordsNameCode context change.Constant unit words code =
+    (t : PrimitiveTypeInfo) × (i : Instruction) × (unit.gives ≡ Some t) × IsLeaf context t i × (three_words words ≡ drawing_words_of context t i)
+    × (code ≡ i ∷ [])
+WordsNameCode context change.Draw unit words code =
+    (t : PrimitiveTypeInfo) × (i : Instruction) × (unit.gives ≡ Some t) × IsLeaf context t i × (three_words words ≡ drawing_words_of context t i)
+    × (code ≡ i ∷ [])
+WordsNameCode context change.Operator unit words code = (front : List Instruction) × (i : Instruction) × (code ≡ front ++ i ∷ []) × (get_or words 0 0 ≡ i.row)
+WordsNameCode context change.MemoryArgument unit words code = NamesArgument words code
+WordsNameCode context change unit words code = ⊤

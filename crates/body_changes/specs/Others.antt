@@ -6,7 +6,7 @@ use Rattle.wasm_code.specs.Instruction.{Instruction, IsInstruction, fits_row}
 use Rattle.wasm_code.specs.Table.{row_at}
 use Rattle.wasm_code.specs.declared.immediate.Imm.TheVariants.{Nothing}
 use Rattle.wasm_types.specs.declared.types.PrimitiveTypeInfo.{PrimitiveTypeInfo}
-use Rattle.peephole_machine.specs.Values.{Context, same_type}
+use Rattle.wasm_execution.specs.Values.{Context, same_type}
 use Rattle.body_changes.specs.declared.others.Asked.{Asked}
 use Rattle.body_changes.specs.Goals.{context_for}
 use Rattle.body_changes.specs.Typed.{is_told_apart, told_types}
@@ -34,12 +34,12 @@ same_results (Some None) None = true
 same_results o u = false
 
 -- the row's instruction gives what is asked for, and isn't the own one
-abbrev pub is_other : Asked → (row : ℕ) → Bool
-is_other asked row =
+abbrev pub is_row_asked_for : Asked → (row : ℕ) → Bool
+is_row_asked_for asked row =
     not (row == asked.own) && (fits_row (row_at row) Nothing
     && same_results (told_types (context_for asked.scope) (bare row) asked.operands.now) asked.gives)
 
 -- how many rows below that one do
 unfoldable pub others_below : Asked → (row : ℕ) → ℕ
 others_below asked zero = 0
-others_below asked (suc row) = if is_other asked row then others_below asked row + 1 else others_below asked row
+others_below asked (suc row) = if is_row_asked_for asked row then others_below asked row + 1 else others_below asked row

@@ -3,15 +3,15 @@ use Rattle.std.specs.Prelude.{◌≡◌, ◌≢◌, ◌+◌, ◌<◌, ℕ, Bool,
 use Rattle.wasm_code.specs.Instruction.{Instruction}
 use Rattle.wasm_code.specs.declared.operator.Operator.{Operator}
 use Rattle.wasm_types.specs.Module.{function_type}
-use Rattle.peephole_machine.specs.Values.{Context}
+use Rattle.wasm_execution.specs.Values.{Context}
 use Rattle.body_changes.specs.declared.change.Change.{Change}
 use Rattle.body_changes.specs.declared.kinds.Place.{Place}
 use Rattle.body_changes.specs.declared.kinds.accesses.Indexed.{Indexed}
 use Rattle.body_changes.specs.declared.kinds.accesses.Indexed.TheVariants as indexed
 use Rattle.body_changes.specs.Copied.{IsGiven}
 use Rattle.body_changes.specs.Drawing.{is_local_row}
-use Rattle.body_changes.specs.Kinds.{is_call_row, is_global_row, named_of, HaveOneType, IsNew, Makes, MakesIndexed, Material, Names, Stand}
-use Rattle.body_changes.specs.Replacing.{context_of}
+use Rattle.body_changes.specs.Kinds.{is_call_row, is_global_row, named_of, HaveOneType, IsNew, ChangeMakes, MakesIndexed, Material, WordsNameCode, Stand}
+use Rattle.body_changes.specs.Replacing.{source_context}
 use Rattle.body_changes.specs.declared.units.Unit.{Unit}
 use Rattle.body_changes.specs.Units.{AreUnits, IsUnit}
 
@@ -21,7 +21,7 @@ operators_of place = place.source.operators.now
 
 -- what its code may name
 abbrev pub context_at : Place → Context
-context_at place = context_of place.source
+context_at place = source_context place.source
 
 -- The place is an operator of the body, with its unit, beside those of all others, and the code that may be copied with what it leaves.
 pub record IsPlace (place : Place) : Type 0 where
@@ -39,8 +39,9 @@ abbrev pub material_at : Place → (most : ℕ) → Material
 material_at place most = record { most = most; copied = place.copied.code.now }
 
 -- the change makes this code of it, from `start` on
-abbrev pub MakesAt : Place → (most : ℕ) → (words : List ℕ) → Change → (start : ℕ) → List Instruction → Type 0
-MakesAt place most words change start code = Makes (context_at place) (operators_of place) (material_at place most) words change place.at place.unit start code
+abbrev pub MakesAtPlace : Place → (most : ℕ) → (words : List ℕ) → Change → (start : ℕ) → List Instruction → Type 0
+MakesAtPlace place most words change start code = ChangeMakes (context_at place) (operators_of place) (material_at place most) words change place.at
+    place.unit start code
 
 -- the code may stand there, and is no code that does
 abbrev pub IsNewFrom : Place → (start : ℕ) → List Instruction → Type 0
@@ -52,7 +53,7 @@ IsNewAt place code = IsNewFrom place place.unit.start code
 
 -- the words name this code
 abbrev pub NamesAt : Place → Change → (words : List ℕ) → List Instruction → Type 0
-NamesAt place change words code = Names (context_at place) change place.unit words code
+NamesAt place change words code = WordsNameCode (context_at place) change place.unit words code
 
 -- That unit ends right before this one, and leaves no value.
 pub record IsStatementBefore (place : Place) (before : Unit) : Type 0 where
@@ -70,26 +71,27 @@ is_row_of indexed.Global = is_global_row
 is_row_of indexed.Function = is_call_row
 
 -- how many there are
-abbrev pub count_in : Context → Indexed → ℕ
-count_in context indexed.Local = length context.locals
-count_in context indexed.Global = length context.info.globals
-count_in context indexed.Function = length context.info.functions
+abbrev pub indexed_count_in : Context → Indexed → ℕ
+indexed_count_in context indexed.Local = length context.locals
+indexed_count_in context indexed.Global = length context.info.globals
+indexed_count_in context indexed.Function = length context.info.functions
 
 -- both are there, and of one type
-abbrev pub AreAlike : Context → Indexed → (own other : ℕ) → Type 0
-AreAlike context indexed.Local = HaveOneType (slice_get context.locals)
-AreAlike context indexed.Global = HaveOneType (slice_get context.info.globals)
-AreAlike context indexed.Function = HaveOneType (function_type context.info)
+abbrev pub IndexedAreOfOneType : Context → Indexed → (own other : ℕ) → Type 0
+IndexedAreOfOneType context indexed.Local = HaveOneType (slice_get context.locals)
+IndexedAreOfOneType context indexed.Global = HaveOneType (slice_get context.info.globals)
+IndexedAreOfOneType context indexed.Function = HaveOneType (function_type context.info)
 
 -- the one that the words name
 abbrev pub named_in : Context → Indexed → (words : List ℕ) → ℕ
-named_in context kind words = named_of (count_in context kind) words
+named_in context kind words = named_of (indexed_count_in context kind) words
 
 -- it is another one
 abbrev pub IsAnother : Context → Indexed → (own other : ℕ) → Type 0
-IsAnother context kind own other = (other ≢ own) × AreAlike context kind own other
+IsAnother context kind own other = (other ≢ own) × IndexedAreOfOneType context kind own other
 
 -- what `MakesLocal`, `MakesGlobal` and `MakesCall` say
 abbrev pub MakesOther : Place → Indexed → (words : List ℕ) → List Instruction → Type 0
 MakesOther place kind words code =
-    MakesIndexed (is_row_of kind) (AreAlike (context_at place) kind) (operators_of place) place.at place.unit (named_in (context_at place) kind words) code
+    MakesIndexed (is_row_of kind) (IndexedAreOfOneType (context_at place) kind) (operators_of place) place.at place.unit
+    (named_in (context_at place) kind words) code

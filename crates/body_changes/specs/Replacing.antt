@@ -8,15 +8,15 @@ use Rattle.body_splices.specs.OwnBytes.{without_offsets}
 use Rattle.body_splices.specs.Splice.{AppendsSpliced}
 use Rattle.body_splices.specs.declared.piece.Piece.{Piece}
 use Rattle.body_splices.specs.declared.piece.Piece.TheVariants.{New}
-use Rattle.peephole_machine.specs.Values.{Context, context_in}
-use Rattle.peephole_programs.specs.control.Wider.{wider}
-use Rattle.peephole_programs.specs.validation.StaysValid.{StaysValid}
+use Rattle.wasm_execution.specs.Values.{Context, context_in}
+use Rattle.wasm_equivalence.specs.control.Wider.{wider}
+use Rattle.wasm_equivalence.specs.validation.StaysValid.{StaysValid}
 use Rattle.body_changes.specs.declared.source.Source.{Source}
-use Rattle.body_changes.specs.Typed.{Leaves}
+use Rattle.body_changes.specs.Typed.{LeavesTypes}
 
 -- what a body's instructions may name
-abbrev pub context_of : Source → Context
-context_of source = context_in source.info.now source.locals.now
+abbrev pub source_context : Source → Context
+source_context source = context_in source.info.now source.locals.now
 
 -- The operators are these instructions, one by one.
 pub record AreTheseInstructions (operators : List (Operator × ℕ)) (code : List Instruction) : Type 0 where
@@ -31,13 +31,13 @@ pub record IsClosed (context : Context) (operators : List (Operator × ℕ)) (st
   pub some : start < end
   pub own : List Instruction
   pub stands : AreTheseInstructions (slice_range operators start end) own
-  pub leaves : Leaves context own types
+  pub leaves : LeavesTypes context own types
 
 -- The code may stand in their place: it leaves the same.
 pub record CanReplace (context : Context) (operators : List (Operator × ℕ)) (start end : ℕ) (code : List Instruction) : Type 0 where
   pub types : List PrimitiveTypeInfo
   pub closed : IsClosed context operators start end types
-  pub leaves : Leaves context code types
+  pub leaves : LeavesTypes context code types
 
 -- each instruction as a piece of a body
 abbrev pub new_pieces : List Instruction → List Piece

@@ -5,9 +5,9 @@ use Rattle.std.specs.Prelude.{option_and_then}
 use Rattle.wasm_code.specs.Instruction.{Instruction}
 use Rattle.wasm_types.specs.declared.types.PrimitiveTypeInfo.{PrimitiveTypeInfo}
 use Rattle.wasm_types.specs.declared.types.PrimitiveTypeInfo.TheVariants.{Empty}
-use Rattle.peephole_machine.specs.Row.{list_of, instruction_types, instruction_count}
-use Rattle.peephole_machine.specs.Values.{Context}
-use Rattle.peephole_programs.specs.validation.StaysValid.{Pushes}
+use Rattle.wasm_execution.specs.Row.{list_of, instruction_types, instruction_count}
+use Rattle.wasm_execution.specs.Values.{Context}
+use Rattle.wasm_equivalence.specs.validation.StaysValid.{Pushes}
 
 -- each type but that of references which are none of funcref and externref: all those are one type here, `Empty`
 abbrev pub is_told_apart : PrimitiveTypeInfo → Bool
@@ -27,21 +27,21 @@ abbrev pub told_types : Context → Instruction → List PrimitiveTypeInfo → O
 told_types context i ts = option_and_then keep (instruction_types context i ts)
 
 -- the types behind an instruction, which finds its operands on top of these, the last one on top
-abbrev pub types_behind : Context → Instruction → List PrimitiveTypeInfo → Option (List PrimitiveTypeInfo)
-types_behind context i ts =
+abbrev pub told_types_behind : Context → Instruction → List PrimitiveTypeInfo → Option (List PrimitiveTypeInfo)
+told_types_behind context i ts =
     let below = length ts - instruction_count context.info i in
     if nat_le (instruction_count context.info i) (length ts)
     then option_map (λ o. take below ts ++ list_of o) (told_types context i (drop below ts)) else None
 
 -- the types behind instructions that stand together
-abbrev pub types_after : Context → List Instruction → List PrimitiveTypeInfo → Option (List PrimitiveTypeInfo)
-types_after context [] ts = Some ts
-types_after context (i ∷ code) ts = option_and_then (types_after context code) (types_behind context i ts)
+abbrev pub told_types_after : Context → List Instruction → List PrimitiveTypeInfo → Option (List PrimitiveTypeInfo)
+told_types_after context [] ts = Some ts
+told_types_after context (i ∷ code) ts = option_and_then (told_types_after context code) (told_types_behind context i ts)
 
 -- The code needs nothing from what stands before it, and leaves values of these types.
-abbrev pub Leaves : Context → List Instruction → List PrimitiveTypeInfo → Type 0
-Leaves context code ts = types_after context code [] ≡ Some ts
+abbrev pub LeavesTypes : Context → List Instruction → List PrimitiveTypeInfo → Type 0
+LeavesTypes context code ts = told_types_after context code [] ≡ Some ts
 
 -- Such code pushes its types on every frame, by the standard's algorithm.
 abbrev pub LeavingCodePushes : Type 0
-LeavingCodePushes = (context : Context) (code : List Instruction) (ts : List PrimitiveTypeInfo) → Leaves context code ts → Pushes context code [] ts
+LeavingCodePushes = (context : Context) (code : List Instruction) (ts : List PrimitiveTypeInfo) → LeavesTypes context code ts → Pushes context code [] ts

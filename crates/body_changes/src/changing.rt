@@ -1,7 +1,7 @@
 //! Which change of a body words choose.
 ghost use Rattle.std.specs.Prelude.{◌≡◌, ◌+◌, ◌<◌, ◌≤◌, Some, length, slice_get, IfNone, IfOk, IfSome};
-ghost use Rattle.body_changes.specs.Body.{context_in_body, material_in, operators_in, ChangesIn, ChangesSome, IsBody, IsFound, IsNumbered};
-ghost use Rattle.body_changes.specs.Chosen.{ChangesNone, Chooses, IsFirstFrom, NoneWithin};
+ghost use Rattle.body_changes.specs.Body.{context_in_body, material_in, body_operators_in, ChangesIn, ChangesSome, IsBody, IsFound, IsNumbered};
+ghost use Rattle.body_changes.specs.Chosen.{ChangesNone, ChoosesChange, IsFirstFrom, NoneWithin};
 
 use crate::change::Change;
 use crate::copied::Copied;
@@ -42,7 +42,7 @@ fn changed_at(
     words: &[u64],
 ) -> Result<Option<Changed>, AllocError>
     requires body { IsBody body.now }
-    requires inside { at < length (operators_in body.now) }
+    requires inside { at < length (body_operators_in body.now) }
     ensures found { IfOk result (λ o. IfSome o (λ c. (c.at ≡ at) × (c.change ≡ change)
         × IsFound body.now words.now c)) }
     ensures none { IfOk result (λ o. IfNone o (¬ (ChangesIn body.now words.now change at))) }
@@ -81,7 +81,7 @@ pub fn change_last(
     words: &[u64],
 ) -> Result<Option<Changed>, AllocError>
     requires body { IsBody body.now }
-    requires inside { range.end ≤ length (operators_in body.now) }
+    requires inside { range.end ≤ length (body_operators_in body.now) }
     ensures made { IfOk result (λ o. IfSome o (λ c. (range.start ≤ c.at) × (c.at < range.end)
         × (c.change ≡ change) × IsFound body.now words.now c)) }
     ensures last { IfOk result (λ o. IfSome o (λ c.
@@ -109,7 +109,7 @@ fn changed_within(
     words: &[u64],
 ) -> Result<Option<Changed>, AllocError>
     requires body { IsBody body.now }
-    requires inside { range.end ≤ length (operators_in body.now) }
+    requires inside { range.end ≤ length (body_operators_in body.now) }
     ensures found { IfOk result (λ o. IfSome o (λ c. (range.start ≤ c.at) × (c.at < range.end)
         × (c.change ≡ change) × IsFound body.now words.now c
         × NoneWithin (ChangesIn body.now words.now change) range.start c.at)) }
@@ -133,12 +133,12 @@ fn changed_from(
     words: &[u64],
 ) -> Result<Option<Changed>, AllocError>
     requires body { IsBody body.now }
-    requires inside { from ≤ length (operators_in body.now) }
+    requires inside { from ≤ length (body_operators_in body.now) }
     ensures found { IfOk result (λ o. IfSome o (λ c. (c.change ≡ change)
         × IsFound body.now words.now c × IsFirstFrom (ChangesIn body.now words.now change)
-        (length (operators_in body.now)) from c.at)) }
+        (length (body_operators_in body.now)) from c.at)) }
     ensures none { IfOk result (λ o. IfNone o (NoneWithin (ChangesIn body.now words.now change) 0
-        (length (operators_in body.now)))) }
+        (length (body_operators_in body.now)))) }
 {
     let count = body.source.operators.len();
     if let Some(changed) = changed_within(alloc, body, change, from..count, words)? {
@@ -165,7 +165,7 @@ fn any_within(
 ) -> Result<Option<Changed>, AllocError>
     requires body { IsBody body.now }
     requires inside { range.end ≤ length changes.now }
-    requires some { 0 < length (operators_in body.now) }
+    requires some { 0 < length (body_operators_in body.now) }
     ensures found { IfOk result (λ o. IfSome o (IsNumbered body.now changes.now words.now
         range.start range.end)) }
     ensures none { IfOk result (λ o. IfNone o (NoneWithin
@@ -200,11 +200,11 @@ pub fn change_of_words(
     words: &[u64],
 ) -> Result<Option<Changed>, AllocError>
     requires { IsBody body.now }
-    ensures chosen { IfOk result (λ o. IfSome o (λ c. Chooses (context_in_body body.now)
-        (operators_in body.now) (material_in body.now) changes.now words.now c.change c.at c.start
+    ensures chosen { IfOk result (λ o. IfSome o (λ c. ChoosesChange (context_in_body body.now)
+        (body_operators_in body.now) (material_in body.now) changes.now words.now c.change c.at c.start
         c.code.items)) }
     ensures none { IfOk result (λ o. IfNone o (ChangesNone (context_in_body body.now)
-        (operators_in body.now) (material_in body.now) changes.now words.now)) }
+        (body_operators_in body.now) (material_in body.now) changes.now words.now)) }
 {
     let count = changes.len();
     let operators = body.source.operators.len();

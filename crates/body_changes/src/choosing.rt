@@ -1,17 +1,17 @@
 //! The instruction that words choose for a value that is wanted.
 ghost use Rattle.std.specs.Prelude.{◌≡◌, IfSome, IfOk, IsTrue, Some};
 ghost use Rattle.wasm_code.specs.Instruction.{IsInstruction};
-ghost use Rattle.peephole_machine.specs.Row.{instruction_types};
+ghost use Rattle.wasm_execution.specs.Row.{instruction_types};
 ghost use Rattle.body_changes.specs.Drawing.{asks_types_alone, AreDrawable};
-ghost use Rattle.body_changes.specs.Goals.{context_for, types_in, Fits, IsDrawnBy, IsOpen};
+ghost use Rattle.body_changes.specs.Goals.{context_for, operand_types_in, FitsGoal, IsDrawnBy, GoalIsOpen};
 
 use crate::constants::is_drawable;
 use crate::goal::{Chosen, Goal, Operands, Words};
 use crate::leaf::leaf;
 use crate::operands::operands_of;
 use crate::source::Scope;
-use peephole_machine::instruction_types;
 use wasm_code::{Imm, Instr};
+use wasm_execution::instruction_types;
 use wasm_types::{ModuleInfo, PrimitiveTypeInfo};
 
 /// How many rows the table has.
@@ -26,7 +26,7 @@ fn types_on(
     instr: &Instr,
     operands: Operands,
 ) -> Option<Option<PrimitiveTypeInfo>>
-    ensures { result ≡ instruction_types (context_for scope.now) instr.now (types_in operands) }
+    ensures { result ≡ instruction_types (context_for scope.now) instr.now (operand_types_in operands) }
 {
     match operands {
         Operands::Zero => instruction_types(scope.info, scope.locals, instr, &[]),
@@ -48,7 +48,7 @@ fn is_wanted(gives: Option<Option<PrimitiveTypeInfo>>, wanted: PrimitiveTypeInfo
 
 // Whether a value of each of them can be drawn.
 fn operands_drawable(info: &ModuleInfo<'_>, operands: Operands) -> bool
-    ensures { IsTrue result → AreDrawable info.now (types_in operands) }
+    ensures { IsTrue result → AreDrawable info.now (operand_types_in operands) }
 {
     match operands {
         Operands::Zero => true,
@@ -64,7 +64,7 @@ fn operands_drawable(info: &ModuleInfo<'_>, operands: Operands) -> bool
 fn fitting(scope: &Scope<'_>, instr: Instr, operands: Operands, goal: Goal) -> Option<Chosen>
     requires instruction { IsInstruction instr }
     requires plain { IsTrue (asks_types_alone instr) }
-    ensures { IfSome result (Fits (context_for scope.now) goal) }
+    ensures { IfSome result (FitsGoal (context_for scope.now) goal) }
 {
     if operands.count() >= goal.size {
         return None;
@@ -80,7 +80,7 @@ fn fitting(scope: &Scope<'_>, instr: Instr, operands: Operands, goal: Goal) -> O
 
 // The operator of that row, where it has no immediate and fits.
 fn operator(scope: &Scope<'_>, row: u16, goal: Goal) -> Option<Chosen>
-    ensures { IfSome result (Fits (context_for scope.now) goal) }
+    ensures { IfSome result (FitsGoal (context_for scope.now) goal) }
 {
     match Instr::new(row, Imm::Nothing) {
         Some(instr) => match operands_of(&instr, goal.wanted) {
@@ -105,7 +105,7 @@ fn row_count(goal: Goal) -> u16 {
 
 // The operator with that number among those that fit, or how many do.
 fn operator_with(scope: &Scope<'_>, goal: Goal, number: u64) -> Result<Chosen, u64>
-    ensures { IfOk result (Fits (context_for scope.now) goal) }
+    ensures { IfOk result (FitsGoal (context_for scope.now) goal) }
 {
     let mut before = 0;
     for row in 0..row_count(goal) {
@@ -121,7 +121,7 @@ fn operator_with(scope: &Scope<'_>, goal: Goal, number: u64) -> Result<Chosen, u
 
 // An operator that fits, each as likely as any other; none where there is none.
 fn operator_of(scope: &Scope<'_>, goal: Goal, number: u64) -> Option<Chosen>
-    ensures { IfSome result (Fits (context_for scope.now) goal) }
+    ensures { IfSome result (FitsGoal (context_for scope.now) goal) }
 {
     let count = match operator_with(scope, goal, u64::MAX) {
         Ok(chosen) => return Some(chosen),
@@ -138,8 +138,8 @@ fn operator_of(scope: &Scope<'_>, goal: Goal, number: u64) -> Option<Chosen>
 
 // A local, a global or a constant.
 fn leaf_for(scope: &Scope<'_>, goal: Goal, words: Words) -> Chosen
-    requires { IsOpen (context_for scope.now) goal }
-    ensures fits { Fits (context_for scope.now) goal result }
+    requires { GoalIsOpen (context_for scope.now) goal }
+    ensures fits { FitsGoal (context_for scope.now) goal result }
     ensures drawn { IsDrawnBy (context_for scope.now) goal.wanted words result }
 {
     Chosen {
@@ -151,8 +151,8 @@ fn leaf_for(scope: &Scope<'_>, goal: Goal, words: Words) -> Chosen
 /// The instruction that the words choose for the goal: of two times once an operator without an immediate that gives a value of the
 /// type and for whose operands there is room, and else a local, a global or a constant.
 pub(crate) fn choose(scope: &Scope<'_>, goal: Goal, words: Words) -> Chosen
-    requires { IsOpen (context_for scope.now) goal }
-    ensures fits { Fits (context_for scope.now) goal result }
+    requires { GoalIsOpen (context_for scope.now) goal }
+    ensures fits { FitsGoal (context_for scope.now) goal result }
     ensures drawn { IsDrawnBy (context_for scope.now) goal.wanted words result }
 {
     if words.choice % 8 >= 4 {

@@ -2,11 +2,11 @@
 ghost use Rattle.std.specs.Prelude.{◌≡◌, ◌↔◌, ◌<◌, ◌+◌, List, Option, Some, length, slice_get, IfNone, IfOk, IfSome, IsTrue};
 ghost use Rattle.wasm_code.specs.Instruction.{Instruction};
 ghost use Rattle.wasm_types.specs.declared.types.PrimitiveTypeInfo.{PrimitiveTypeInfo as TypeOf};
-ghost use Rattle.peephole_machine.specs.Row.{list_of};
+ghost use Rattle.wasm_execution.specs.Row.{list_of};
 ghost use Rattle.body_changes.specs.Copied.{IsGiven, IsUnitNamed};
 ghost use Rattle.body_changes.specs.Drawing.{asks_types_alone, is_leaf_row, is_local_row, is_nothing, AskTypesAlone};
 ghost use Rattle.body_changes.specs.Kinds.{Stand};
-ghost use Rattle.body_changes.specs.Replacing.{context_of};
+ghost use Rattle.body_changes.specs.Replacing.{source_context};
 ghost use Rattle.body_changes.specs.Units.{IsUnit};
 
 use crate::own::instrs_of;
@@ -47,7 +47,7 @@ pub fn copied_into<'a>(
 ) -> Result<Copied<'a>, AllocError>
     ensures code { IfOk result (λ copied. copied.code.now ≡ code.now) }
     ensures gives { IfOk result (λ copied.
-        IsGiven (context_of source.now) code.now copied.gives) }
+        IsGiven (source_context source.now) code.now copied.gives) }
 {
     let gives = match types_of_code(alloc, source.locals, source.info, code)? {
         Some(types) => only_type(&types),
@@ -72,7 +72,7 @@ fn code_of(
     unit: Unit,
 ) -> Result<Option<Vec<Instr>>, AllocError>
     requires inside { at < length source.now.operators.now }
-    requires is { IsUnit (context_of source.now) source.now.operators.now at unit }
+    requires is { IsUnit (source_context source.now) source.now.operators.now at unit }
     ensures some { IfOk result (λ o. IfSome o (λ code.
         Stand source.now.operators.now unit.start (at + 1) code.items)) }
     ensures none { IfOk result (λ o. IfNone o ((code : List Instruction)
@@ -89,13 +89,13 @@ pub fn unit_named(
     source: &Source<'_>,
     word: u64,
 ) -> Result<Option<Vec<Instr>>, AllocError>
-    ensures some { IfOk result (λ o. IfSome o (λ code. IsUnitNamed (context_of source.now)
+    ensures some { IfOk result (λ o. IfSome o (λ code. IsUnitNamed (source_context source.now)
         source.now.operators.now word code.items)) }
     ensures none { IfOk result (λ o. IfNone o ((code : List Instruction)
-        → ¬ (IsUnitNamed (context_of source.now) source.now.operators.now word code))) }
+        → ¬ (IsUnitNamed (source_context source.now) source.now.operators.now word code))) }
     // It is the only one.
     ensures only { IfOk result (λ o. IfSome o (λ code. (other : List Instruction)
-        → IsUnitNamed (context_of source.now) source.now.operators.now word other
+        → IsUnitNamed (source_context source.now) source.now.operators.now word other
         → code.items ≡ other)) }
 {
     let count = source.operators.len();

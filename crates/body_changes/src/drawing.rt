@@ -1,9 +1,9 @@
 //! Code that words draw.
 ghost use Rattle.std.specs.Prelude.{◌≡◌, ◌<◌, ◌≤◌, ◌%◌, [], ◌∷◌, length, drop, get_or, reverse, IfOk, OnOk, IsTrue};
 ghost use Rattle.wasm_code.specs.Instruction.{Instruction};
-ghost use Rattle.body_changes.specs.Drawing.{is_drawable, three_words, words_of, AreDrawable, AskTypesAlone, IsLeaf};
-ghost use Rattle.body_changes.specs.Goals.{context_for, types_in, first_words, HasDrawn, HasPushed, IsOpen};
-ghost use Rattle.body_changes.specs.Typed.{Leaves};
+ghost use Rattle.body_changes.specs.Drawing.{is_drawable, three_words, drawing_words_of, AreDrawable, AskTypesAlone, IsLeaf};
+ghost use Rattle.body_changes.specs.Goals.{context_for, operand_types_in, first_words, HasDrawn, HasPushed, GoalIsOpen};
+ghost use Rattle.body_changes.specs.Typed.{LeavesTypes};
 
 use crate::choosing::choose;
 use crate::goal::{Chosen, Goal, Operands, Words};
@@ -29,9 +29,9 @@ fn push_operands(
     room: usize,
     word: u64,
 ) -> Result<(), AllocError>
-    requires room { length (types_in operands) ≤ room }
-    requires drawable { AreDrawable scope.now.info.now (types_in operands) }
-    ensures { OnOk result (HasPushed (context_for scope.now) (types_in operands) room
+    requires room { length (operand_types_in operands) ≤ room }
+    requires drawable { AreDrawable scope.now.info.now (operand_types_in operands) }
+    ensures { OnOk result (HasPushed (context_for scope.now) (operand_types_in operands) room
         goals.old.items goals.new.items) }
 {
     match operands {
@@ -83,7 +83,7 @@ fn draw_next(
     goals: &mut Vec<Goal>,
     code: &mut Vec<Instr>,
 ) -> Result<(), AllocError>
-    requires { IsOpen (context_for scope.now) goal }
+    requires { GoalIsOpen (context_for scope.now) goal }
     ensures { OnOk result (HasDrawn (context_for scope.now) goal words goals.old.items
         code.old.items goals.new.items code.new.items) }
 {
@@ -149,13 +149,13 @@ pub fn code_of_words(
     requires some { 0 < size }
     requires drawable { IsTrue (is_drawable scope.now.info.now wanted) }
     ensures code { IfOk result (λ code.
-        Leaves (context_for scope.now) code.items (wanted ∷ [])) }
+        LeavesTypes (context_for scope.now) code.items (wanted ∷ [])) }
     ensures few { IfOk result (λ code. length code.items ≤ size) }
     ensures plain { IfOk result (λ code. AskTypesAlone code.items) }
     // Each single instruction is what its words draw.
     ensures drawn { IfOk result (λ code. (i : Instruction)
         → IsLeaf (context_for scope.now) wanted i
-        → three_words words.now ≡ words_of (context_for scope.now) wanted i → code.items ≡ i ∷ []) }
+        → three_words words.now ≡ drawing_words_of (context_for scope.now) wanted i → code.items ≡ i ∷ []) }
 {
     let mut goals = Vec::new(alloc);
     goals.push(Goal { wanted, size })?;

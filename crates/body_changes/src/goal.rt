@@ -1,6 +1,6 @@
 //! What is still to be drawn, and what was drawn for it.
 ghost use Rattle.std.specs.Prelude.{◌≡◌, length};
-ghost use Rattle.body_changes.specs.Goals.{types_in};
+ghost use Rattle.body_changes.specs.Goals.{operand_types_in};
 
 use wasm_code::Instr;
 use wasm_types::PrimitiveTypeInfo;
@@ -40,7 +40,7 @@ pub(crate) struct Chosen {
 impl Operands {
     /// How many there are.
     pub fn count(self) -> usize
-        ensures { result ≡ length (types_in self) }
+        ensures { result ≡ length (operand_types_in self) }
     {
         match self {
             Operands::Zero => 0,

@@ -3,7 +3,7 @@ ghost use Rattle.body_changes.specs.Beyond.{ChangesAskNoMore};
 ghost use Rattle.body_changes.specs.Drawing.{LeavesHaveWords};
 ghost use Rattle.body_changes.specs.Typed.{LeavingCodePushes};
 
-use peephole_programs::validity::typed_rows_check;
+use wasm_equivalence::validity::typed_rows_check;
 
 /// Code that needs nothing from what stands before it pushes its types on every frame, by the standard's algorithm.
 pub fn leaving_code_pushes()

@@ -1,4 +1,6 @@
 //! Instructions of a body replaced by others that leave the same types: the body stays valid, and computes something else.
+//!
+//! Tests: `tests`, `change_tests`, `access_tests` and `unit_tests`, in this crate; whole modules in `tests/changes.sh`.
 #![tactic(auto)]
 
 #[cfg(test)]

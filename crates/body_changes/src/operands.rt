@@ -1,8 +1,8 @@
 //! The operands of operators without an immediate. What is said here is only tried: `choose` asks the instruction's own types.
 
 use crate::goal::Operands;
-use peephole_machine::{OperandColumn, OperandKind, Row, integer_row, operand_column};
 use wasm_code::Instr;
+use wasm_execution::{OperandColumn, OperandKind, Row, integer_row, operand_column};
 use wasm_types::PrimitiveTypeInfo;
 
 fn operands_from(types: &[PrimitiveTypeInfo]) -> Option<Operands> {

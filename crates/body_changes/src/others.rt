@@ -4,7 +4,7 @@ ghost use Rattle.std.specs.List.{All};
 ghost use Rattle.wasm_code.specs.Instruction.{Instruction, IsInstruction};
 ghost use Rattle.wasm_types.specs.declared.types.PrimitiveTypeInfo.{PrimitiveTypeInfo};
 ghost use Rattle.body_changes.specs.Goals.{context_for};
-ghost use Rattle.body_changes.specs.Others.{bare, is_other, others_below, same_results, IsOther};
+ghost use Rattle.body_changes.specs.Others.{bare, is_row_asked_for, others_below, same_results, IsOther};
 ghost use Rattle.body_changes.specs.Typed.{is_told_apart, told_types};
 
 use crate::choosing::ROWS;
@@ -59,8 +59,8 @@ fn gives_so(asked: &Asked<'_>, instr: &Instr) -> bool
 // The row's instruction without an immediate, where it is what is asked for.
 fn other_at(asked: &Asked<'_>, row: u16) -> Option<Instr>
     ensures some { IfSome result (λ i. (i ≡ bare row) × IsInstruction i
-        × IsTrue (is_other asked.now row)) }
-    ensures none { IfNone result (is_other asked.now row ≡ false) }
+        × IsTrue (is_row_asked_for asked.now row)) }
+    ensures none { IfNone result (is_row_asked_for asked.now row ≡ false) }
 {
     if row == asked.own {
         return None;
@@ -95,7 +95,7 @@ fn count_others(asked: &Asked<'_>) -> u16
 #[tactic(auto, unfolding(crate::specs::Others::others_below))]
 fn other_with(asked: &Asked<'_>, number: u16) -> Option<Instr>
     ensures some { IfSome result (λ i. (i ≡ bare i.row) × IsInstruction i
-        × IsTrue (is_other asked.now i.row)) }
+        × IsTrue (is_row_asked_for asked.now i.row)) }
     ensures none { IfNone result (others_below asked.now 446 ≤ number) }
 {
     let mut before = 0;
@@ -113,8 +113,8 @@ fn other_with(asked: &Asked<'_>, number: u16) -> Option<Instr>
 // That of the row with the word's number, where there is such a row, and it is what is asked for.
 fn other_of_word(asked: &Asked<'_>, word: u64) -> Option<Instr>
     ensures some { IfSome result (λ i. (i ≡ bare i.row) × IsInstruction i
-        × IsTrue (is_other asked.now i.row)) }
-    ensures named { (row : ℕ) → row < 446 → word ≡ row → IsTrue (is_other asked.now row)
+        × IsTrue (is_row_asked_for asked.now i.row)) }
+    ensures named { (row : ℕ) → row < 446 → word ≡ row → IsTrue (is_row_asked_for asked.now row)
         → result ≡ Some (bare row) }
 {
     if word < ROWS as u64 {

@@ -2,8 +2,8 @@
 ghost use Rattle.std.specs.Prelude.{◌≡◌, ◌<◌, ◌≤◌, ℕ, false, List, None, is_some, length, IfNone, IfOk, IfSome, IsTrue};
 ghost use Rattle.wasm_code.specs.Instruction.{Instruction};
 ghost use Rattle.body_changes.specs.Kinds.{IsNewWithin};
-ghost use Rattle.body_changes.specs.Proposals.{IsNewFrom, IsPlace, MakesAt, NamesAt};
-ghost use Rattle.body_changes.specs.Replacing.{context_of};
+ghost use Rattle.body_changes.specs.Proposals.{IsNewFrom, IsPlace, MakesAtPlace, NamesAt};
+ghost use Rattle.body_changes.specs.Replacing.{source_context};
 
 use crate::change::Change;
 use crate::kinds::accesses::{Indexed, other_access};
@@ -49,15 +49,15 @@ fn propose(
     requires place { IsPlace place.now }
     requires some { 0 < most }
     ensures made { IfOk result (λ o. IfSome o (λ p.
-        MakesAt place.now most words.now change p.start p.code.items)) }
+        MakesAtPlace place.now most words.now change p.start p.code.items)) }
     ensures new { IfOk result (λ o. IfSome o (λ p. (start : ℕ) (code : List Instruction)
-        → MakesAt place.now most words.now change start code → IsNewFrom place.now start code
+        → MakesAtPlace place.now most words.now change start code → IsNewFrom place.now start code
         → IsNewFrom place.now p.start p.code.items)) }
     ensures none { IfOk result (λ o. IfNone o ((start : ℕ) (code : List Instruction)
-        → MakesAt place.now most words.now change start code
+        → MakesAtPlace place.now most words.now change start code
         → ¬ (IsNewFrom place.now start code))) }
     ensures named { IfOk result (λ o. IfSome o (λ p. (start : ℕ) (code : List Instruction)
-        → MakesAt place.now most words.now change start code → IsNewFrom place.now start code
+        → MakesAtPlace place.now most words.now change start code → IsNewFrom place.now start code
         → NamesAt place.now change words.now code → p.code.items ≡ code)) }
 {
     match change {
@@ -87,9 +87,9 @@ fn is_new(
 ) -> Result<bool, AllocError>
     requires inside { range.end ≤ length source.now.operators.now }
     requires some { range.start < range.end }
-    ensures new { IfOk result (λ b. IsTrue b → IsNewWithin (context_of source.now)
+    ensures new { IfOk result (λ b. IsTrue b → IsNewWithin (source_context source.now)
         source.now.operators.now range.start range.end code.now) }
-    ensures never { IfOk result (λ b. b ≡ false → ¬ (IsNewWithin (context_of source.now)
+    ensures never { IfOk result (λ b. b ≡ false → ¬ (IsNewWithin (source_context source.now)
         source.now.operators.now range.start range.end code.now)) }
 {
     if are_these(&source.operators[range.start..range.end], code) {
@@ -109,13 +109,13 @@ pub(crate) fn made_of(
     requires place { IsPlace place.now }
     requires some { 0 < most }
     ensures made { IfOk result (λ o. IfSome o (λ p.
-        MakesAt place.now most words.now change p.start p.code.items)) }
+        MakesAtPlace place.now most words.now change p.start p.code.items)) }
     ensures new { IfOk result (λ o. IfSome o (λ p. IsNewFrom place.now p.start p.code.items)) }
     ensures none { IfOk result (λ o. IfNone o ((start : ℕ) (code : List Instruction)
-        → MakesAt place.now most words.now change start code
+        → MakesAtPlace place.now most words.now change start code
         → ¬ (IsNewFrom place.now start code))) }
     ensures named { IfOk result (λ o. IfSome o (λ p. (start : ℕ) (code : List Instruction)
-        → MakesAt place.now most words.now change start code → IsNewFrom place.now start code
+        → MakesAtPlace place.now most words.now change start code → IsNewFrom place.now start code
         → NamesAt place.now change words.now code → p.code.items ≡ code)) }
 {
     let Some(proposal) = propose(alloc, place, most, change, words)? else {

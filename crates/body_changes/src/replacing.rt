@@ -4,17 +4,17 @@ ghost use Rattle.std.specs.List.{All};
 ghost use Rattle.wasm_types.specs.declared.types.PrimitiveTypeInfo.{PrimitiveTypeInfo};
 ghost use Rattle.body_splices.specs.OwnBytes.{IsBodyIn};
 ghost use Rattle.body_splices.specs.Splice.{IsPieceIn};
-ghost use Rattle.body_changes.specs.Replacing.{context_of, new_pieces, AppendsReplaced, CanReplace, IsClosed};
+ghost use Rattle.body_changes.specs.Replacing.{source_context, new_pieces, AppendsReplaced, CanReplace, IsClosed};
 
 use crate::own::instrs_of;
 use crate::source::Source;
 use crate::typed::{are_same, types_of_code};
 use body_splices::laws::spliced_operators_are;
 use body_splices::{Piece, splice};
-use peephole_programs::validity::{replaced_code_stays_valid, typed_rows_check};
 use std::alloc::{AllocError, Global};
 use std::ops::Range;
 use wasm_code::{Function, Instr, OperatorAndByteOffset, SinkError};
+use wasm_equivalence::validity::{replaced_code_stays_valid, typed_rows_check};
 use wasm_types::PrimitiveTypeInfo;
 
 /// The types of the values that the operators in `range` leave, the last one on top; none where there are none of them, one is no
@@ -28,10 +28,10 @@ pub fn types_in_place(
 ) -> Result<Option<Vec<PrimitiveTypeInfo>>, AllocError>
     requires { range.end ≤ length source.now.operators.now }
     ensures some { IfOk result (λ o. IfSome o (λ types.
-        IsClosed (context_of source.now) source.now.operators.now range.start range.end
+        IsClosed (source_context source.now) source.now.operators.now range.start range.end
         types.items)) }
     ensures none { IfOk result (λ o. IfNone o ((types : List PrimitiveTypeInfo)
-        → ¬ (IsClosed (context_of source.now) source.now.operators.now range.start range.end
+        → ¬ (IsClosed (source_context source.now) source.now.operators.now range.start range.end
         types))) }
 {
     if range.start >= range.end {
@@ -52,9 +52,9 @@ pub(crate) fn can_replace(
     code: &[Instr],
 ) -> Result<bool, AllocError>
     requires { range.end ≤ length source.now.operators.now }
-    ensures can { IfOk result (λ b. IsTrue b → CanReplace (context_of source.now)
+    ensures can { IfOk result (λ b. IsTrue b → CanReplace (source_context source.now)
         source.now.operators.now range.start range.end code.now) }
-    ensures never { IfOk result (λ b. b ≡ false → ¬ (CanReplace (context_of source.now)
+    ensures never { IfOk result (λ b. b ≡ false → ¬ (CanReplace (source_context source.now)
         source.now.operators.now range.start range.end code.now)) }
 {
     let Some(old) = types_in_place(alloc, source, range)? else {
@@ -103,11 +103,11 @@ pub fn replace_code(
     requires inside { range.end < length source.now.operators.now }
     // The body with the code, which is valid where it was.
     ensures replaced { IfOk result (λ b. IsTrue b
-        → AppendsReplaced (context_of source.now) source.now.input.now source.now.operators.now
+        → AppendsReplaced (source_context source.now) source.now.input.now source.now.operators.now
         range.start range.end code.now newfunc.old newfunc.new) }
     // Not only where the code can't stand there; then nothing is written.
     ensures never { IfOk result (λ b. b ≡ false
-        → ¬ (CanReplace (context_of source.now) source.now.operators.now range.start range.end
+        → ¬ (CanReplace (source_context source.now) source.now.operators.now range.start range.end
         code.now)) }
     ensures kept { IfOk result (λ b. b ≡ false → newfunc.new ≡ newfunc.old) }
     ensures restored { OnErr result (newfunc.new ≡ newfunc.old) }

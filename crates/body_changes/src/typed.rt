@@ -1,12 +1,12 @@
 //! The types that code leaves which needs nothing from what stands before it.
 ghost use Rattle.std.specs.Prelude.{◌≡◌, ◌↔◌, ◌≤◌, ◌++◌, [], None, Some, false, length, take, IfOk, IfNone, IfSome, IsTrue, OnOk};
-ghost use Rattle.peephole_machine.specs.Row.{list_of};
-ghost use Rattle.peephole_machine.specs.Values.{context_in};
-ghost use Rattle.body_changes.specs.Typed.{is_told_apart, keep, told_apart, told_types, types_after, types_behind, Leaves};
+ghost use Rattle.wasm_execution.specs.Row.{list_of};
+ghost use Rattle.wasm_execution.specs.Values.{context_in};
+ghost use Rattle.body_changes.specs.Typed.{is_told_apart, keep, told_apart, told_types, told_types_after, told_types_behind, LeavesTypes};
 
-use peephole_machine::{instruction_types, operand_count};
 use std::alloc::{AllocError, Global};
 use wasm_code::Instr;
+use wasm_execution::{instruction_types, operand_count};
 use wasm_types::{ModuleInfo, PrimitiveTypeInfo};
 
 /// Whether it is no reference, or one to a function or an external one.
@@ -73,10 +73,10 @@ fn go_behind(
     types: &mut Vec<PrimitiveTypeInfo>,
 ) -> Result<bool, AllocError>
     ensures typed { IfOk result (λ b. IsTrue b
-        → types_behind (context_in info.now locals.now) instr.now types.old.items
+        → told_types_behind (context_in info.now locals.now) instr.now types.old.items
         ≡ Some types.new.items) }
     ensures untyped { IfOk result (λ b. b ≡ false
-        → types_behind (context_in info.now locals.now) instr.now types.old.items ≡ None) }
+        → told_types_behind (context_in info.now locals.now) instr.now types.old.items ≡ None) }
 {
     let count = operand_count(info, instr);
     let all = types.len();
@@ -105,9 +105,9 @@ pub fn types_of_code(
     code: &[Instr],
 ) -> Result<Option<Vec<PrimitiveTypeInfo>>, AllocError>
     ensures some { IfOk result (λ o. IfSome o (λ types.
-        Leaves (context_in info.now locals.now) code.now types.items)) }
+        LeavesTypes (context_in info.now locals.now) code.now types.items)) }
     ensures none { IfOk result (λ o. IfNone o (
-        types_after (context_in info.now locals.now) code.now [] ≡ None)) }
+        told_types_after (context_in info.now locals.now) code.now [] ≡ None)) }
 {
     let mut types = Vec::new(alloc);
     for i in 0..code.len() {

@@ -2,15 +2,15 @@
 //! stands before it.
 ghost use Rattle.std.specs.Prelude.{◌≡◌, ◌<◌, ◌+◌, ℕ, List, [], ◌++◌, length, take, IfOk, OnOk};
 ghost use Rattle.wasm_code.specs.declared.operator.Operator.{Operator as BodyOperator};
-ghost use Rattle.peephole_machine.specs.Row.{list_of};
-ghost use Rattle.peephole_machine.specs.Values.{Context, context_in};
-ghost use Rattle.body_changes.specs.Pass.{start_of, start_where, takes_of, AreValues, IsNext};
+ghost use Rattle.wasm_execution.specs.Row.{list_of};
+ghost use Rattle.wasm_execution.specs.Values.{Context, context_in};
+ghost use Rattle.body_changes.specs.Pass.{value_start_of, start_where, takes_of, AreValues, IsNextUnit};
 ghost use Rattle.body_changes.specs.Units.{AreUnits, IsUnitAt};
 
 use crate::typed::told_types;
-use peephole_machine::operand_count;
 use std::alloc::{AllocError, Global};
 use wasm_code::{Instr, Operator, OperatorAndByteOffset};
+use wasm_execution::operand_count;
 use wasm_types::{ModuleInfo, PrimitiveTypeInfo};
 
 /// The operands that an operator takes, by their types, where there are one or two.
@@ -44,7 +44,7 @@ struct Values {
 
 // The start with that number, or else the other.
 fn start_at(starts: &[usize], number: usize, other: usize) -> usize
-    ensures { result ≡ start_of starts.now number other }
+    ensures { result ≡ value_start_of starts.now number other }
 {
     starts.get(number).copied().unwrap_or(other)
 }
@@ -112,7 +112,7 @@ impl Values {
         at: usize,
     ) -> Option<(usize, Unit)>
         requires { length self.now.types.items ≡ length self.now.starts.items }
-        ensures { IsNext (context_in info.now locals.now) instr.now at self.now.starts.items
+        ensures { IsNextUnit (context_in info.now locals.now) instr.now at self.now.starts.items
             self.now.types.items result }
     {
         let count = operand_count(info, instr);

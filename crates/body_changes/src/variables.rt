@@ -1,8 +1,8 @@
 //! Variables that words name.
 ghost use Rattle.std.specs.Prelude.{◌≡◌, ◌+◌, ◌*◌, ◌<◌, ◌≤◌, ◌^◌, ℕ, Some, None, count_by, IfNone, IfSome};
-ghost use Rattle.peephole_machine.specs.Values.{same_type};
-ghost use Rattle.body_changes.specs.Drawing.{rank};
-ghost use Rattle.body_changes.specs.Goals.{context_for, indexed, Gives, HasVariable};
+ghost use Rattle.wasm_execution.specs.Values.{same_type};
+ghost use Rattle.body_changes.specs.Drawing.{variable_rank};
+ghost use Rattle.body_changes.specs.Goals.{context_for, indexed, GivesFromNothing, HasVariable};
 
 use crate::constants::instr;
 use crate::source::Scope;
@@ -31,7 +31,7 @@ fn count_of(types: &[PrimitiveTypeInfo], wanted: PrimitiveTypeInfo) -> usize
 // The index of the one with that number among the variables of the type.
 fn place_of(types: &[PrimitiveTypeInfo], wanted: PrimitiveTypeInfo, number: usize) -> Option<usize>
     ensures some { IfSome result (HasVariable types.now wanted) }
-    ensures only { (n : ℕ) → HasVariable types.now wanted n → rank types.now wanted n ≡ number
+    ensures only { (n : ℕ) → HasVariable types.now wanted n → variable_rank types.now wanted n ≡ number
         → result ≡ Some n }
 {
     let mut before = 0;
@@ -62,7 +62,7 @@ fn index_of(place: usize) -> Option<u32>
 fn variable_of(types: &[PrimitiveTypeInfo], wanted: PrimitiveTypeInfo, number: u64) -> Option<u32>
     ensures some { IfSome result (HasVariable types.now wanted) }
     ensures only { (n : ℕ) → n < 2 ^ 32 → HasVariable types.now wanted n
-        → rank types.now wanted n ≡ number → result ≡ Some n }
+        → variable_rank types.now wanted n ≡ number → result ≡ Some n }
 {
     let count = count_of(types, wanted);
     if count == 0 {
@@ -76,9 +76,9 @@ fn variable_of(types: &[PrimitiveTypeInfo], wanted: PrimitiveTypeInfo, number: u
 
 // The value of a local of the type, which the number names.
 fn local_of(scope: &Scope<'_>, wanted: PrimitiveTypeInfo, number: u64) -> Option<Instr>
-    ensures some { IfSome result (Gives (context_for scope.now) wanted) }
+    ensures some { IfSome result (GivesFromNothing (context_for scope.now) wanted) }
     ensures only { (n : ℕ) → n < 2 ^ 32 → HasVariable scope.now.locals.now wanted n
-        → rank scope.now.locals.now wanted n ≡ number → result ≡ Some (indexed 4 n) }
+        → variable_rank scope.now.locals.now wanted n ≡ number → result ≡ Some (indexed 4 n) }
 {
     match variable_of(scope.locals, wanted, number) {
         Some(index) => Some(instr(4, Imm::Index(index))),
@@ -95,9 +95,9 @@ pub(crate) fn globals_of<'a>(info: &'a ModuleInfo<'_>) -> &'a [PrimitiveTypeInfo
 
 // The value of a global of the type, which the number names.
 fn global_of(scope: &Scope<'_>, wanted: PrimitiveTypeInfo, number: u64) -> Option<Instr>
-    ensures some { IfSome result (Gives (context_for scope.now) wanted) }
+    ensures some { IfSome result (GivesFromNothing (context_for scope.now) wanted) }
     ensures only { (n : ℕ) → n < 2 ^ 32 → HasVariable scope.now.info.now.globals wanted n
-        → rank scope.now.info.now.globals wanted n ≡ number → result ≡ Some (indexed 7 n) }
+        → variable_rank scope.now.info.now.globals wanted n ≡ number → result ≡ Some (indexed 7 n) }
 {
     match variable_of(globals_of(scope.info), wanted, number) {
         Some(index) => Some(instr(7, Imm::Index(index))),
@@ -107,11 +107,11 @@ fn global_of(scope: &Scope<'_>, wanted: PrimitiveTypeInfo, number: u64) -> Optio
 
 /// The value of a variable of the type, by the word: a local, a global, or none.
 pub(crate) fn variable(scope: &Scope<'_>, wanted: PrimitiveTypeInfo, choice: u64) -> Option<Instr>
-    ensures some { IfSome result (Gives (context_for scope.now) wanted) }
+    ensures some { IfSome result (GivesFromNothing (context_for scope.now) wanted) }
     ensures local { (n : ℕ) → n < 2 ^ 32 → HasVariable scope.now.locals.now wanted n
-        → choice ≡ 8 * rank scope.now.locals.now wanted n + 1 → result ≡ Some (indexed 4 n) }
+        → choice ≡ 8 * variable_rank scope.now.locals.now wanted n + 1 → result ≡ Some (indexed 4 n) }
     ensures global { (n : ℕ) → n < 2 ^ 32 → HasVariable scope.now.info.now.globals wanted n
-        → choice ≡ 8 * rank scope.now.info.now.globals wanted n + 2 → result ≡ Some (indexed 7 n) }
+        → choice ≡ 8 * variable_rank scope.now.info.now.globals wanted n + 2 → result ≡ Some (indexed 7 n) }
     ensures none { choice ≡ 32 → result ≡ None }
 {
     match choice % 4 {

@@ -3,14 +3,15 @@ use Rattle.std.proofs.Common.{◌≡◌, ℕ, zero, suc, ◌+◌, ◌<◌, Bool,
 use Rattle.std.specs.Prelude.{if◌then◌else◌, slice_get, slice_index_or}
 use Rattle.std.proofs.lemmas.Option.{slice_get_within}
 use Rattle.wasm_code.specs.Instruction.{Instruction}
-use Rattle.peephole_machine.specs.Values.{Context}
+use Rattle.wasm_execution.specs.Values.{Context}
 use Rattle.rewrite_rules.specs.declared.pattern.Part.{Part}
 use Rattle.rewrite_rules.specs.declared.pattern.Part.TheVariants.{Hole, Constant, Drawn, Apply}
 use Rattle.rewrite_rules.specs.Numbers.{constant_at}
 use Rattle.rewrite_rules.specs.Parts.{part_code}
 use Rattle.body_rewrites.specs.Trees.{Stands}
 use Rattle.body_rewrites.specs.Cutting.{HasPart, AreCut}
-use Rattle.body_rewrites.specs.Matching.{is_hole, is_slot, number_at, slot_at, operand_at, operand_of, operand_code, HasSomeCode, HasSomePart, HasSomeCut, IsAlike, AreAlike, AreAllAlike}
+use Rattle.body_rewrites.specs.Matching.{is_hole, is_slot, number_at, slot_at, operand_at, operand_of, operand_code, HasSomeCode}
+use Rattle.body_rewrites.specs.Matching.{HasSomePart, HasSomeCut, IsAlike, AreAlike, AreAllAlike}
 use Rattle.body_rewrites.proofs.StandsLemmas.{Operators, stands_nothing}
 
 pub cut_length : (context : Context) (operators : Operators) (ps : List Part) (ks : List ℕ) (end : ℕ) → AreCut context operators ps ks end →

@@ -1,14 +1,15 @@
 -- An operator has one tree at most.
-use Rattle.std.proofs.Common.{◌≡◌, ℕ, ◌+◌, ◌-◌, ◌<◌, ◌≤◌, List, [], ◌∷◌, ◌++◌, length, map, take, drop, Option, Some, None, refl, sym, ap, ap₂, ◌∙◌, subst, append_assoc, length-append, arith}
+use Rattle.std.proofs.Common.{◌≡◌, ℕ, ◌+◌, ◌-◌, ◌<◌, ◌≤◌, List, [], ◌∷◌, ◌++◌, length, map, take, drop, Option, Some, None, refl, sym, ap}
+use Rattle.std.proofs.Common.{ap₂, ◌∙◌, subst, append_assoc, length-append, arith}
 use Rattle.std.specs.Prelude.{option_and_then, slice_range}
 use Rattle.std.proofs.lemmas.List.{map-append, length-map, length-drop, length-take-le, drop-drop, take_at, drop_at}
 use Rattle.std.proofs.Math.Seq.{take-add}
 use Rattle.wasm_code.specs.Instruction.{Instruction}
 use Rattle.wasm_code.specs.declared.operator.Operator.{Operator}
 use Rattle.wasm_code.specs.declared.operator.Operator.TheVariants.{Instr}
-use Rattle.peephole_machine.specs.Values.{Context}
-use Rattle.peephole_machine.specs.Row.{instruction_types, instruction_count}
-use Rattle.peephole_machine.specs.RowLemmas.{and_then_some}
+use Rattle.wasm_execution.specs.Values.{Context}
+use Rattle.wasm_execution.specs.Row.{instruction_types, instruction_count}
+use Rattle.wasm_execution.specs.RowLemmas.{and_then_some}
 use Rattle.body_rewrites.specs.Trees.{one_type, tree_behind, tree_after, Stands}
 use Rattle.body_rewrites.proofs.StandsLemmas.{Operators, Types, given, gives_one}
 

@@ -1,12 +1,13 @@
 -- The lines of the table, as operators are asked for them.
-use Rattle.std.proofs.Common.{◌≡◌, ℕ, zero, suc, ◌+◌, ◌<◌, ◌≤◌, ◌⊎◌, inl, inr, Bool, true, false, cond, List, [], ◌∷◌, ◌++◌, length, map, take, get_or, Option, Some, None, refl, sym, ap, ap₂, subst, ◌∙◌, arith, lit<, append-nil, append_assoc}
+use Rattle.std.proofs.Common.{◌≡◌, ℕ, zero, suc, ◌+◌, ◌<◌, ◌≤◌, ◌⊎◌, inl, inr, Bool, true, false, cond, List, [], ◌∷◌, ◌++◌, length, map}
+use Rattle.std.proofs.Common.{take, get_or, Option, Some, None, refl, sym, ap, ap₂, subst, ◌∙◌, arith, lit<, append-nil, append_assoc}
 use Rattle.std.specs.Prelude.{slice_get, Result, Ok, Err, IfOk, IfSome}
 use Rattle.std.specs.Global.{Vec}
 use Rattle.std.specs.List.{filter}
 use Rattle.std.proofs.lemmas.List.{take_more, length-take-le, map-append}
 use Rattle.std.proofs.lemmas.Option.{get_or_from_slice_get, same_Some, slice_get_within, slice_get-get_or}
-use Rattle.peephole_machine.specs.declared.integer.IntegerType.{IntegerType}
-use Rattle.peephole_machine.specs.Values.{Context}
+use Rattle.wasm_execution.specs.declared.integer.IntegerType.{IntegerType}
+use Rattle.wasm_execution.specs.Values.{Context}
 use Rattle.rewrite_rules.specs.declared.table.Row.{Row}
 use Rattle.rewrite_rules.specs.Table.{parts, ROWS}
 use Rattle.body_rewrites.specs.declared.asked.Asked.{Asked}
@@ -14,7 +15,8 @@ use Rattle.body_rewrites.specs.declared.found.Found.{Found}
 use Rattle.body_rewrites.specs.declared.rewrite.Rewrite.{Rewrite}
 use Rattle.body_rewrites.specs.Rewrites.{IsAsked, asked_widths, by_rows}
 use Rattle.body_rewrites.specs.Listing.{AreThose, AreFound, AddsFound}
-use Rattle.body_rewrites.specs.Asking.{asked_as, asked_for, asked_in, asked_from, all_asked, rewrite_of, rewrites_of, is_candidate, candidates, IsUsed, AreLists, AreAsked, IsAskedSo}
+use Rattle.body_rewrites.specs.Asking.{asked_as, asked_for, asked_in, asked_from, all_asked, rewrite_of, rewrites_of, is_candidate}
+use Rattle.body_rewrites.specs.Asking.{candidates, IsUsed, AreLists, AreAsked, IsAskedSo}
 use Rattle.body_rewrites.proofs.StandsLemmas.{Operators}
 use Rattle.body_rewrites.proofs.ListingLemmas.{adds_more}
 use Rattle.body_rewrites.specs.ThoseLemmas.{those_with, those_without}
@@ -135,7 +137,8 @@ candidates_few exact class = let few = filter_few (is_candidate exact class) all
 pub class_is_used : (used : List Bool) (class : ℕ) → IsUsed used class → class < length used
 class_is_used used class marked = slice_get_within used class true marked
 
-pub list_is : (exact : Bool) (used : List Bool) (lists : List (Vec Asked)) → AreLists exact used all_asked lists → (class : ℕ) → class < 447 → IsUsed used class →
+pub list_is : (exact : Bool) (used : List Bool) (lists : List (Vec Asked)) → AreLists exact used all_asked lists → (class : ℕ) → class < 447 →
+    IsUsed used class →
     (lines : List Asked) → IfSome (slice_get lists class) (λ list. lines ≡ list.items) → lines ≡ candidates exact class
 list_is exact used lists are class l marked lines h = go (slice_get lists class) refl h
   where

@@ -12,7 +12,8 @@ use Rattle.body_rewrites.proofs.StandsLemmas.{Operators}
 use Rattle.body_rewrites.proofs.MatchingLemmas.{entry_in, one_there}
 use Rattle.body_rewrites.proofs.SplitLemmas.{count_is}
 
-pub behind_instruction : (operators : Operators) (at : ℕ) (i : Instruction) → HasInstruction operators at i → IsTrue (ends operators) → at + 1 < length operators
+pub behind_instruction : (operators : Operators) (at : ℕ) (i : Instruction) → HasInstruction operators at i → IsTrue (ends operators) →
+    at + 1 < length operators
 behind_instruction [] at i e h = absurd (false≢true h)
 behind_instruction (x ∷ []) zero i e h = absurd (false≢true (sym (ap is_end (let is : x.0 ≡ Instr i = cc in is)) ∙ h))
 behind_instruction (x ∷ []) (suc at) i e h = absurd cc

@@ -5,11 +5,11 @@ use Rattle.wasm_code.specs.declared.immediate.BlockType.TheVariants.{Empty}
 use Rattle.wasm_code.specs.declared.operator.Operator.{Operator}
 use Rattle.wasm_code.specs.declared.operator.Operator.TheVariants as op
 use Rattle.body_splices.specs.OwnBytes.{without_offsets}
-use Rattle.peephole_machine.specs.Values.{Context}
+use Rattle.wasm_execution.specs.Values.{Context}
 use Rattle.rewrite_rules.specs.declared.table.Own.TheVariants.{BrIfToIf, IfToBrIf}
 use Rattle.body_rewrites.specs.declared.own.Made.{Made}
 use Rattle.body_rewrites.specs.declared.own.Made.TheVariants as made
-use Rattle.body_rewrites.specs.Blocks.{HasRoom}
+use Rattle.body_rewrites.specs.Blocks.{HasRoomForBlock}
 use Rattle.body_rewrites.specs.Own.{IsBareBranch, IsNestedBranch, Rewrites}
 use Rattle.body_rewrites.specs.OwnSites.{HasBranchIf, HasOuterBranch}
 use Rattle.body_rewrites.proofs.StandsLemmas.{Operators}
@@ -21,7 +21,7 @@ module _ (operators : Operators) where
 
   -- ---- what isn't found
 
-  pub no_bare_branch : (context : Context) (at : ℕ) → ((label : ℕ) → HasRoom operators → IsBareBranch operators at label → ⊥) →
+  pub no_bare_branch : (context : Context) (at : ℕ) → ((label : ℕ) → HasRoomForBlock operators → IsBareBranch operators at label → ⊥) →
       (start : ℕ) (m : Made) →
       Rewrites context operators BrIfToIf start at m → ⊥
   no_bare_branch context at none start (made.InConditional label) (e, room, h) = none label room h

@@ -7,9 +7,9 @@ use Rattle.wasm_code.specs.declared.immediate.BlockType.TheVariants.{Empty}
 use Rattle.wasm_code.specs.declared.operator.Operator.{Operator}
 use Rattle.wasm_code.specs.declared.operator.Operator.TheVariants as op
 use Rattle.body_splices.specs.OwnBytes.{none_of, without_offsets}
-use Rattle.peephole_machine.specs.Values.{Context}
-use Rattle.peephole_programs.specs.control.Standard.{asks_beyond}
-use Rattle.peephole_programs.specs.hosts.Embedder.{with_operators}
+use Rattle.wasm_execution.specs.Values.{Context}
+use Rattle.wasm_equivalence.specs.control.Standard.{asks_beyond}
+use Rattle.wasm_equivalence.specs.hosts.Embedder.{with_operators}
 use Rattle.wrapped_code.specs.Handlers.{none_handle}
 use Rattle.body_rewrites.specs.declared.own.Made.TheVariants as made
 use Rattle.body_rewrites.specs.Doing.{DoesAsBody}

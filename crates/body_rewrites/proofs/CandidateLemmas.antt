@@ -1,5 +1,6 @@
 -- The lists of candidates, line by line.
-use Rattle.std.proofs.Common.{◌≡◌, ℕ, zero, suc, ◌+◌, ◌<◌, ◌≤◌, ◌≢◌, ◌⊎◌, inl, inr, Bool, true, false, cond, List, [], ◌∷◌, ◌++◌, length, map, take, get_or, Option, Some, None, refl, sym, ap, ap₂, subst, ◌∙◌, arith, append-nil, append_assoc}
+use Rattle.std.proofs.Common.{◌≡◌, ℕ, zero, suc, ◌+◌, ◌<◌, ◌≤◌, ◌≢◌, ◌⊎◌, inl, inr, Bool, true, false, cond, List, [], ◌∷◌, ◌++◌, length}
+use Rattle.std.proofs.Common.{map, take, get_or, Option, Some, None, refl, sym, ap, ap₂, subst, ◌∙◌, arith, append-nil, append_assoc}
 use Rattle.std.specs.Prelude.{◌&&◌, ◌||◌, not, nat_le, option_to_list, slice_get, slice_set, Result, Ok, Err, OnOk}
 use Rattle.std.specs.Global.{Vec}
 use Rattle.std.specs.List.{filter}
@@ -14,8 +15,9 @@ use Rattle.body_rewrites.specs.declared.trees.Tree.{Tree}
 use Rattle.rewrite_rules.specs.declared.table.Row.{Row}
 use Rattle.rewrite_rules.specs.Table.{ROWS, needs_exact}
 use Rattle.body_rewrites.proofs.AskingLemmas.{asked_next}
-use Rattle.peephole_machine.specs.declared.integer.IntegerType.{IntegerType}
-use Rattle.body_rewrites.specs.Asking.{asked_as, asked_for, asked_from, by_form, is_candidate, form_alone, is_alone, AddsLine, AreLists, AreLaidOut, NoneStands, NoneServes, AreRootClasses, AreCandidateClasses, IsUsed}
+use Rattle.wasm_execution.specs.declared.integer.IntegerType.{IntegerType}
+use Rattle.body_rewrites.specs.Asking.{asked_as, asked_for, asked_from, by_form, is_candidate, form_alone, is_alone, AddsLine, AreLists}
+use Rattle.body_rewrites.specs.Asking.{AreLaidOut, NoneStands, NoneServes, AreRootClasses, AreCandidateClasses, IsUsed}
 use Rattle.body_rewrites.specs.Alone.{form_of}
 use Rattle.body_rewrites.specs.Counting.{alone_slot, alone_slots, by_alone}
 use Rattle.body_rewrites.specs.Listing.{widths_told}
@@ -31,7 +33,8 @@ filter_without : {A : Type 0} (test : A → Bool) (xs : List A) (x : A) → test
 filter_without test xs x off =
     filter-append test xs (x ∷ []) ∙ (ap (λ b. filter test xs ++ cond b (x ∷ []) []) off ∙ append-nil (filter test xs))
 
-line_added : (exact : Bool) (used : List Bool) (lines : List Asked) (x : Asked) (old new : List (Vec Asked)) (classes : ℕ × ℕ) → AreCandidateClasses exact x classes →
+line_added : (exact : Bool) (used : List Bool) (lines : List Asked) (x : Asked) (old new : List (Vec Asked)) (classes : ℕ × ℕ) →
+    AreCandidateClasses exact x classes →
     AddsLine x used classes old new → AreLists exact used lines old → AreLists exact used (lines ++ x ∷ []) new
 line_added exact used lines x old new classes are adds so = record {
   long = adds.long ∙ so.long;
@@ -166,7 +169,8 @@ one_class used first last same off class marked = go (nat_le first class) (nat_l
         absurd (unused (subst (IsUsed used) (let is : class ≡ first = omega (arith, l, m, same) in is) marked))
 
 -- with those of the rows before
-pub row_laid_out : (exact : Bool) (used : List Bool) (number : ℕ) (row : Row) (lists : List (Vec Asked)) (alone : List Asked) → slice_get ROWS number ≡ Some row →
+pub row_laid_out : (exact : Bool) (used : List Bool) (number : ℕ) (row : Row) (lists : List (Vec Asked)) (alone : List Asked) →
+    slice_get ROWS number ≡ Some row →
     AreLaidOut exact used (asked_from 0 (take number ROWS) ++ asked_for number row) lists alone →
     AreLaidOut exact used (asked_from 0 (take (number + 1) ROWS)) lists alone
 row_laid_out exact used number row lists alone there so =

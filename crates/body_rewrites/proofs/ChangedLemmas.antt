@@ -12,14 +12,14 @@ use Rattle.body_splices.specs.declared.piece.Piece.{Piece}
 use Rattle.body_splices.specs.declared.piece.Piece.TheVariants.{Kept, New, Structural}
 use Rattle.body_splices.specs.OwnBytes.{none_of, without_offsets}
 use Rattle.body_splices.specs.Laws.{KeepsInstructions, piece_operators, pieces_operators, SplicedOperatorsAre, SplicesKeepOperators, SplicesKeepStructure}
-use Rattle.peephole_machine.specs.Values.{Context}
-use Rattle.peephole_programs.specs.control.Function.{RunsPieceByPiece}
-use Rattle.peephole_programs.specs.control.Laws.{ReplacedCodeIsInOnePiece}
-use Rattle.peephole_programs.specs.control.Standard.{asks_beyond}
-use Rattle.peephole_programs.specs.hosts.Embedder.{with_operators}
-use Rattle.peephole_programs.specs.hosts.EmbedderLaws.{PiecesDo}
-use Rattle.peephole_programs.specs.control.Wider.{wider}
-use Rattle.peephole_programs.specs.validation.StaysValid.{ReplacedCodeStaysValid, ChecksAs, StaysValid}
+use Rattle.wasm_execution.specs.Values.{Context}
+use Rattle.wasm_equivalence.specs.control.Function.{RunsPieceByPiece}
+use Rattle.wasm_equivalence.specs.control.Laws.{ReplacedCodeIsInOnePiece}
+use Rattle.wasm_equivalence.specs.control.Standard.{asks_beyond}
+use Rattle.wasm_equivalence.specs.hosts.Embedder.{with_operators}
+use Rattle.wasm_equivalence.specs.hosts.EmbedderLaws.{PiecesDo}
+use Rattle.wasm_equivalence.specs.control.Wider.{wider}
+use Rattle.wasm_equivalence.specs.validation.StaysValid.{ReplacedCodeStaysValid, ChecksAs, StaysValid}
 use Rattle.wrapped_code.specs.Handlers.{ReadCodeHasNoHandlers}
 use Rattle.body_rewrites.specs.Doing.{DoesAsBody}
 use Rattle.body_rewrites.specs.Changes.{Change, changed, pieces_code, KeepsCode, MayStand}

@@ -1,12 +1,13 @@
 -- What matches a pattern is its code.
-use Rattle.std.proofs.Common.{◌≡◌, ℕ, suc, ◌-◌, ◌≤◌, List, [], ◌∷◌, ◌++◌, Some, None, length, map, drop, inl, inr, refl, sym, ap, ap₂, subst, ◌∙◌, append_assoc, arith}
+use Rattle.std.proofs.Common.{◌≡◌, ℕ, suc, ◌-◌, ◌≤◌, List, [], ◌∷◌, ◌++◌, Some, None, length, map, drop, inl, inr, refl, sym, ap, ap₂}
+use Rattle.std.proofs.Common.{subst, ◌∙◌, append_assoc, arith}
 use Rattle.std.specs.Prelude.{reverse, slice_get, slice_range}
 use Rattle.std.proofs.lemmas.List.{append-nil, map-append, reverse-append}
 use Rattle.std.proofs.lemmas.Option.{none-some, slice_get_cases}
 use Rattle.wasm_code.specs.Instruction.{Instruction}
 use Rattle.wasm_code.specs.declared.operator.Operator.{Operator}
 use Rattle.wasm_code.specs.declared.operator.Operator.TheVariants.{Instr}
-use Rattle.peephole_machine.specs.Values.{Context}
+use Rattle.wasm_execution.specs.Values.{Context}
 use Rattle.rewrite_rules.specs.declared.pattern.Part.{Part}
 use Rattle.rewrite_rules.specs.declared.pattern.Part.TheVariants.{Hole, Constant, Drawn, Apply}
 use Rattle.rewrite_rules.specs.Numbers.{constant_at}
@@ -82,7 +83,8 @@ matches_are_the_code context operators parts starts end x numbers is =
 pub last_begins : (ks : List ℕ) (end k : ℕ) → slice_get ks (length ks - 1) ≡ Some k → k ≡ begin_of ks end
 last_begins [] end k e = absurd cc
 last_begins (j ∷ []) end k e = sym (let is : j ≡ k = cc in is)
-last_begins (j ∷ i ∷ ks) end k e = last_begins (i ∷ ks) j k (ap (slice_get (j ∷ i ∷ ks)) (let n : suc (length (i ∷ ks) - 1) ≡ length (j ∷ i ∷ ks) - 1 = omega arith in n) ∙ e)
+last_begins (j ∷ i ∷ ks) end k e = last_begins (i ∷ ks) j k (ap (slice_get (j ∷ i ∷ ks)) (let n :
+    suc (length (i ∷ ks) - 1) ≡ length (j ∷ i ∷ ks) - 1 = omega arith in n) ∙ e)
 
 pub none_begins : (ks : List ℕ) (end : ℕ) → slice_get ks (length ks - 1) ≡ None → end ≡ begin_of ks end
 none_begins [] end e = refl

@@ -1,14 +1,15 @@
 -- What is counted at an operator: what lines of an operand alone make of its tree, and what the candidates make.
-use Rattle.std.proofs.Common.{◌≡◌, ◌⊎◌, ℕ, suc, ◌+◌, ◌-◌, Bool, true, false, cond, List, [], ◌∷◌, ◌++◌, length, take, Option, Some, None, inl, inr, refl, sym, ap, ap₂, subst, ◌∙◌, arith}
+use Rattle.std.proofs.Common.{◌≡◌, ◌⊎◌, ℕ, suc, ◌+◌, ◌-◌, Bool, true, false, cond, List, [], ◌∷◌, ◌++◌, length, take, Option, Some, None}
+use Rattle.std.proofs.Common.{inl, inr, refl, sym, ap, ap₂, subst, ◌∙◌, arith}
 use Rattle.std.specs.Prelude.{◌==◌, ◌&&◌, ◌||◌, not, if◌then◌else◌, option_map, option_to_list, slice_get}
 use Rattle.std.specs.List.{filter}
 use Rattle.std.proofs.lemmas.Bool.{false≢true}
 use Rattle.std.proofs.lemmas.Option.{slice_get-map}
 use Rattle.wasm_types.specs.declared.types.PrimitiveTypeInfo.{PrimitiveTypeInfo}
 use Rattle.wasm_types.specs.declared.types.PrimitiveTypeInfo.TheVariants as primitive
-use Rattle.peephole_machine.specs.declared.integer.IntegerType.{IntegerType}
-use Rattle.peephole_machine.specs.declared.integer.IntegerType.TheVariants as integer
-use Rattle.peephole_machine.specs.Values.{Context, type_of, same_type}
+use Rattle.wasm_execution.specs.declared.integer.IntegerType.{IntegerType}
+use Rattle.wasm_execution.specs.declared.integer.IntegerType.TheVariants as integer
+use Rattle.wasm_execution.specs.Values.{Context, type_of, same_type}
 use Rattle.rewrite_rules.specs.declared.table.Row.{Row}
 use Rattle.rewrite_rules.specs.Applying.{ExactRowsAreTold}
 use Rattle.rewrite_rules.specs.Holes.{HolesAreTold}
@@ -26,14 +27,15 @@ use Rattle.body_rewrites.specs.declared.rewrite.Rewrite.{Rewrite}
 use Rattle.body_rewrites.specs.declared.trees.Tree.{Tree}
 use Rattle.body_rewrites.specs.Alone.{takes, alone_growth}
 use Rattle.body_rewrites.specs.Asking.{all_asked, by_form, is_candidate, candidates, rewrite_of, rewrites_of, IsAskedSo}
-use Rattle.body_rewrites.specs.Counting.{sample, slot_of, slot_in, is_slot, is_in_slot, AddsCounts, count_in, CountsFound, by_alone, alone_slot, alone_slots, slots_in, of_tree}
+use Rattle.body_rewrites.specs.Counting.{sample, slot_of, slot_in, is_slot, is_in_slot, AddsCounts, count_in, CountsFound, by_alone}
+use Rattle.body_rewrites.specs.Counting.{alone_slot, alone_slots, slots_in, of_tree}
 use Rattle.body_rewrites.specs.Listing.{HasGrowth, AreFound, found_as}
 use Rattle.body_rewrites.specs.Matching.{LeftsAreInstances}
 use Rattle.body_rewrites.specs.Rewrites.{IsMade, by_rows}
 use Rattle.body_rewrites.specs.Roots.{fits, IsClassAt}
 use Rattle.body_rewrites.specs.Trees.{IsTree, HasTree, IsTreeAt, TreesLeave}
 use Rattle.body_rewrites.proofs.StandsLemmas.{Operators}
-use Rattle.body_rewrites.proofs.AloneLineLemmas.{alone_some, alone_none}
+use Rattle.body_rewrites.proofs.AloneLineApplies.{alone_some, alone_none}
 use Rattle.body_rewrites.proofs.AskingLemmas.{rewrites_are, is_asked}
 use Rattle.body_rewrites.proofs.ExactnessLemmas.{exact_nothing}
 use Rattle.body_rewrites.proofs.FormLemmas.{form_alone, is_line}
@@ -128,7 +130,12 @@ module _ (context : Context) (operators : Operators) (at : ℕ) (test : Asked �
         AreFound context operators (rewrites_of at (filter test xs)) some → Both context operators (rewrites_of at (x ∷ xs)) some (slots (x ∷ xs))
     without some none off h =
         let r = rest some h in
-        record { found = r.found; are = inr (none, r.are); count = λ n. r.count n ∙ ap (λ o. count_in some n + slots_in (option_to_list o ++ slots xs) n) (sym off) }
+        record {
+          found = r.found;
+          are = inr (none, r.are);
+          count =
+              λ n. r.count n ∙ ap (λ o. count_in some n + slots_in (option_to_list o ++ slots xs) n) (sym off);
+        }
 
     by_slot : (some : List Found) (o : Option ℕ) → slot x ≡ o → test x ≡ false → AreFound context operators (rewrites_of at (filter test xs)) some →
         Both context operators (rewrites_of at (x ∷ xs)) some (slots (x ∷ xs))
@@ -175,9 +182,11 @@ module _ (context : Context) (operators : Operators) (at : ℕ) (test : Asked �
 -- ---- what a line of an operand alone makes
 
 has_rule : (n : ℕ) (row : Row) → slice_get ROWS n ≡ Some row → rule_of n ≡ None → ⊥
-has_rule n row there none = go (slice_get entries n) (sym (slice_get-map row_in entries n) ∙ there) (ap (option_map _) (sym (slice_get-map name_in entries n)) ∙ none)
+has_rule n row there none = go (slice_get entries n) (sym (slice_get-map row_in entries n)
+    ∙ there) (ap (option_map _) (sym (slice_get-map name_in entries n)) ∙ none)
   where
-    go : (o : Option Entry) → option_map row_in o ≡ Some row → option_map (λ (name : Option (List ℕ)). length (given (take (n + 1) begins)) - 1) (option_map name_in o) ≡ None → ⊥
+    go : (o : Option Entry) → option_map row_in o ≡ Some row →
+        option_map (λ (name : Option (List ℕ)). length (given (take (n + 1) begins)) - 1) (option_map name_in o) ≡ None → ⊥
     go None e h = cc
     go (Some x) e h = cc
 

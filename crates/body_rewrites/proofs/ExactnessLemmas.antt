@@ -3,7 +3,7 @@ use Rattle.std.proofs.Common.{◌≡◌, ℕ, suc, Bool, true, false, cond, List
 use Rattle.std.specs.Prelude.{◌||◌, not}
 use Rattle.std.specs.List.{filter}
 use Rattle.std.proofs.lemmas.Bool.{false≢true}
-use Rattle.peephole_machine.specs.Values.{Context}
+use Rattle.wasm_execution.specs.Values.{Context}
 use Rattle.rewrite_rules.specs.declared.table.Row.{Row}
 use Rattle.rewrite_rules.specs.declared.table.Widths.{Widths}
 use Rattle.rewrite_rules.specs.declared.table.Widths.TheVariants as widths
@@ -64,7 +64,8 @@ module _ (right : TableIsRight) (exacts : ExactRowsAreTold) (context : Context) 
   found_ready (a ∷ list) are found h = go (is_ready context.info.exact a) refl (found_ready list (λ n. are (suc n))) h
     where
       go : (b : Bool) → is_ready context.info.exact a ≡ b → ((more : List Found) →
-          AreFound context operators (rewrites_of at (filter (is_ready context.info.exact) list)) more → AreFound context operators (rewrites_of at list) more) →
+          AreFound context operators (rewrites_of at (filter (is_ready context.info.exact) list)) more →
+          AreFound context operators (rewrites_of at list) more) →
           AreFound context operators (rewrites_of at (cond b (a ∷ filter (is_ready context.info.exact) list) (filter (is_ready context.info.exact) list)))
           found → AreFound context operators (rewrites_of at (a ∷ list)) found
       go true on rest (inl (growth, has, more, is, so)) = inl (growth, has, more, is, rest more so)

@@ -8,18 +8,20 @@ use Rattle.wasm_code.specs.declared.operator.Operator.{Operator}
 use Rattle.wasm_types.specs.declared.types.PrimitiveTypeInfo.{PrimitiveTypeInfo}
 use Rattle.wasm_types.specs.declared.types.PrimitiveTypeInfo.TheVariants as primitive
 use Rattle.body_splices.specs.OwnBytes.{without_offsets}
-use Rattle.peephole_machine.specs.Values.{Context}
+use Rattle.wasm_execution.specs.Values.{Context}
 use Rattle.rewrite_rules.specs.Code.{writes}
 use Rattle.rewrite_rules.specs.Wrap.{value_of}
 use Rattle.rewrite_rules.specs.Flow.{is_leaf, zero_code, ne_code, eqz_code}
-use Rattle.rewrite_rules.specs.declared.table.Own.TheVariants.{SelectToIf, IfToSelect, TestCondition, DropConditionTest, DoubleCondition, DropDoubleCondition, PutDead, DropDead}
+use Rattle.rewrite_rules.specs.declared.table.Own.TheVariants.{SelectToIf, IfToSelect, TestCondition, DropConditionTest, DoubleCondition}
+use Rattle.rewrite_rules.specs.declared.table.Own.TheVariants.{DropDoubleCondition, PutDead, DropDead}
 use Rattle.body_rewrites.specs.declared.own.Made.{Made}
 use Rattle.body_rewrites.specs.declared.own.Made.TheVariants as made
 use Rattle.body_rewrites.specs.declared.trees.Tree.{Tree}
 use Rattle.body_rewrites.specs.Trees.{IsTree, HasTree}
 use Rattle.body_rewrites.specs.Open.{HasInstruction}
-use Rattle.body_rewrites.specs.Blocks.{HasRoom}
-use Rattle.body_rewrites.specs.Own.{AreLeaves, HasCondition, HasPlainLeave, IsAsked, IsChosen, IsDead, IsLeafAt, IsReadBefore, IsSelected, IsTested, Rewrites}
+use Rattle.body_rewrites.specs.Blocks.{HasRoomForBlock}
+use Rattle.body_rewrites.specs.Own.{AreLeaves, HasCondition, HasPlainLeave, IsAsked, IsConditionalChoice, IsDead, IsLeafAt, IsReadBefore}
+use Rattle.body_rewrites.specs.Own.{IsSelected, IsTested, Rewrites}
 use Rattle.body_rewrites.specs.OwnSites.{IsAskedBehind}
 use Rattle.body_rewrites.proofs.StandsLemmas.{Operators}
 use Rattle.body_rewrites.proofs.CutLemmas.{one_start}
@@ -124,13 +126,14 @@ module _ (context : Context) (operators : Operators) where
   -- ---- what isn't found
 
   module _ (at : ℕ) where
-    pub no_select : ((start : ℕ) (v : ValType) (condition : ℕ) → HasRoom operators → IsSelected context operators start at v condition → ⊥) →
+    pub no_select : ((start : ℕ) (v : ValType) (condition : ℕ) → HasRoomForBlock operators → IsSelected context operators start at v condition → ⊥) →
         (start : ℕ) (m : Made) →
         Rewrites context operators SelectToIf start at m → ⊥
     no_select none start (made.Conditional v condition) (room, h) = none start v condition room h
     no_select none start m h = h
 
-    pub no_choice : ((start : ℕ) → IsChosen context operators start at → ⊥) → (start : ℕ) (m : Made) → Rewrites context operators IfToSelect start at m → ⊥
+    pub no_choice : ((start : ℕ) → IsConditionalChoice context operators start at → ⊥) → (start : ℕ) (m : Made) →
+        Rewrites context operators IfToSelect start at m → ⊥
     no_choice none start made.Selected h = none start h
     no_choice none start m h = h
 

@@ -1,6 +1,7 @@
 -- What the rules on control flow make may stand in the place of what stood there: a conditional for a select and a select for it, a condition that is tested
 -- or isn't, and code that is never reached.
-use Rattle.std.proofs.Common.{◌≡◌, ℕ, ◌+◌, ◌-◌, ◌<◌, ◌≤◌, ◌&&◌, not, Bool, true, false, List, [], ◌∷◌, ◌++◌, length, map, take, drop, Some, refl, sym, ap, ap₂, subst, ◌∙◌, arith, append_assoc, append-nil}
+use Rattle.std.proofs.Common.{◌≡◌, ℕ, ◌+◌, ◌-◌, ◌<◌, ◌≤◌, ◌&&◌, not, Bool, true, false, List, [], ◌∷◌, ◌++◌, length, map, take, drop, Some}
+use Rattle.std.proofs.Common.{refl, sym, ap, ap₂, subst, ◌∙◌, arith, append_assoc, append-nil}
 use Rattle.std.specs.Prelude.{⊤, slice_range}
 use Rattle.std.specs.List.{All}
 use Rattle.std.proofs.lemmas.List.{map-append}
@@ -16,12 +17,12 @@ use Rattle.body_splices.specs.declared.piece.Piece.TheVariants.{Kept}
 use Rattle.body_splices.specs.OwnBytes.{none_of, without_offsets}
 use Rattle.body_splices.specs.Splice.{IsPieceIn}
 use Rattle.body_splices.specs.Laws.{pieces_operators}
-use Rattle.peephole_machine.specs.declared.integer.IntegerType.TheVariants as integer
-use Rattle.peephole_machine.specs.Values.{Context}
-use Rattle.peephole_programs.specs.control.Standard.{asks_beyond}
-use Rattle.peephole_programs.specs.control.Wider.{wider}
-use Rattle.peephole_programs.specs.hosts.Embedder.{with_operators}
-use Rattle.peephole_programs.specs.validation.StaysValid.{Pushes}
+use Rattle.wasm_execution.specs.declared.integer.IntegerType.TheVariants as integer
+use Rattle.wasm_execution.specs.Values.{Context}
+use Rattle.wasm_equivalence.specs.control.Standard.{asks_beyond}
+use Rattle.wasm_equivalence.specs.control.Wider.{wider}
+use Rattle.wasm_equivalence.specs.hosts.Embedder.{with_operators}
+use Rattle.wasm_equivalence.specs.validation.StaysValid.{Pushes}
 use Rattle.wrapped_code.specs.Wrapped.{written, WrappedRunsAs, WrappedChecksAs}
 use Rattle.wrapped_code.specs.Ways.{WrappedPushes, PushingCodeIsThere}
 use Rattle.wrapped_code.specs.Handlers.{none_handle}
@@ -32,12 +33,13 @@ use Rattle.wrapped_code.specs.Dead.{never_goes_on, DeadCodeMayChange}
 use Rattle.wrapped_code.specs.Nested.{BranchesMayNest, BranchesMayUnnest}
 use Rattle.rewrite_rules.specs.Beside.{drop_code}
 use Rattle.rewrite_rules.specs.Instance.{constant_code}
-use Rattle.rewrite_rules.specs.Flow.{zero_code, ne_code, eqz_code, select_code, MayBranch, SelectsAreConditionals, TestsAreConditions, BoundsAreIndices, DroppedCodePushesNothing, DroppedConstantsPushNothing}
+use Rattle.rewrite_rules.specs.Flow.{zero_code, ne_code, eqz_code, select_code, MayBranch, SelectsAreConditionals, TestsAreConditions}
+use Rattle.rewrite_rules.specs.Flow.{BoundsAreIndices, DroppedCodePushesNothing, DroppedConstantsPushNothing}
 use Rattle.body_rewrites.specs.declared.own.Made.TheVariants as made
 use Rattle.body_rewrites.specs.Trees.{Stands}
 use Rattle.body_rewrites.specs.Doing.{DoesAsBody}
 use Rattle.body_rewrites.specs.Changes.{Change, changed, MayStand}
-use Rattle.body_rewrites.specs.Own.{HasCondition, HasPlainLeave, IsAsked, IsChosen, IsDead, IsSelected, IsTested, new, change_of}
+use Rattle.body_rewrites.specs.Own.{HasCondition, HasPlainLeave, IsAsked, IsConditionalChoice, IsDead, IsSelected, IsTested, new, change_of}
 use Rattle.body_rewrites.proofs.StandsLemmas.{Operators, stands_snoc}
 use Rattle.body_rewrites.proofs.AloneLemmas.{range_split}
 use Rattle.body_rewrites.proofs.LeavesLemmas.{trees_leave}
@@ -106,7 +108,8 @@ module _ (context : Context) (operators : Operators) (at : ℕ) where
 
     may : MayBranch context (x ∷ y ∷ (c ++ select_code ∷ [])) h.leaves.type branched
     may =
-        laws.branches context x y c h.leaves.type v h.leaves.value_is h.leaves.one.leaf h.leaves.other.leaf (leaf_leaves context operators start h.leaves.type h.leaves.one)
+        laws.branches context x y c h.leaves.type v h.leaves.value_is h.leaves.one.leaf h.leaves.other.leaf
+        (leaf_leaves context operators start h.leaves.type h.leaves.one)
         (leaf_leaves context operators (start + 1) h.leaves.type h.leaves.other) (trees_leave context operators condition h.read.last primitive.I32 h.read.tree)
         h.read.reads
 
@@ -208,7 +211,8 @@ module _ (context : Context) (operators : Operators) (at : ℕ) where
 
   -- ---- a conditional as a select
 
-  module _ (laws : FlowLaws) (unwrapped : UnwrappedCodeDoes) (pushing : PushingCodeIsThere) (start : ℕ) (h : IsChosen context operators start at) where
+  module _ (laws : FlowLaws) (unwrapped : UnwrappedCodeDoes) (pushing : PushingCodeIsThere) (start : ℕ) (h :
+      IsConditionalChoice context operators start at) where
     abbrev taken : Change
     taken = change_of at (record { start = start; made = made.Selected })
 
@@ -329,7 +333,8 @@ module _ (context : Context) (operators : Operators) (at : ℕ) where
             (kept (at - 1) at (omega (arith, e)) (omega (arith, l)), (kept start (at - 4) (omega (arith, e, s)) (omega (arith, e, l)), (tt, tt))),
           );
       unasked = ap (none_of asks_beyond) opened_is
-          ∙ none-append asks_beyond (map instr_of asked) (op.If (Value h.value) ∷ instr_of one ∷ op.Else ∷ instr_of other ∷ op.End ∷ []) (code_unasked asked) refl;
+          ∙ none-append asks_beyond (map instr_of asked) (op.If (Value h.value) ∷ instr_of one ∷ op.Else ∷ instr_of other ∷ op.End
+          ∷ []) (code_unasked asked) refl;
       unasking = λ word. ap (none_of asks_beyond) (chosen_are word) ∙ code_unasked choice;
       does = λ word inside none. choice_does word none;
     }

@@ -3,7 +3,7 @@ use Rattle.std.proofs.Common.{◌≡◌, ℕ, ◌+◌, ◌-◌, Bool, true, fals
 use Rattle.std.specs.Prelude.{if◌then◌else◌, ⊤, slice_get, IfSome, IfNone}
 use Rattle.body_splices.specs.OwnBytes.{without_offsets}
 use Rattle.body_splices.specs.Laws.{pieces_operators}
-use Rattle.peephole_machine.specs.Values.{Context}
+use Rattle.wasm_execution.specs.Values.{Context}
 use Rattle.rewrite_rules.specs.declared.table.Own as own_rules
 use Rattle.rewrite_rules.specs.declared.table.Row.{Row}
 use Rattle.rewrite_rules.specs.declared.table.Widths.{Widths}
@@ -17,7 +17,7 @@ use Rattle.body_rewrites.specs.Alone.{are_alone, doubles, form_by}
 use Rattle.body_rewrites.specs.Changes.{Change}
 use Rattle.body_rewrites.specs.Growth.{IsGrowth, HasGrowth}
 use Rattle.body_rewrites.specs.Places.{IsLine}
-use Rattle.body_rewrites.specs.Rewrites.{asked_widths, growth_by, growth_of, IsAsked, IsLineChange, MakesBy}
+use Rattle.body_rewrites.specs.Rewrites.{asked_widths, growth_by_sizes, growth_of, IsAsked, IsLineChange, MakesBy}
 use Rattle.body_rewrites.proofs.StandsLemmas.{Operators}
 use Rattle.body_rewrites.proofs.GrowingLemmas.{shrinks, keeps, grows}
 
@@ -105,7 +105,7 @@ module _ (row : Row) where
 
 -- ---- what a change does to the number of operators
 
-as_told : (kind : Growth) (new old : ℕ) → IsGrowth kind new old → kind ≡ growth_by old new
+as_told : (kind : Growth) (new old : ℕ) → IsGrowth kind new old → kind ≡ growth_by_sizes old new
 as_told Shrinks new old h = shrinks old new h
 as_told Keeps new old h = keeps old new h
 as_told Grows new old h = grows old new h

@@ -6,8 +6,8 @@ use Rattle.std.proofs.lemmas.Bool.{eqb-true, eq-eqb, false≢true}
 use Rattle.std.proofs.lemmas.List.Elements.{All-head, All-tail}
 use Rattle.std.proofs.Math.Nat.{mod-mod}
 use Rattle.wasm_code.specs.Instruction.{Instruction}
-use Rattle.peephole_machine.specs.declared.integer.IntegerType.{IntegerType}
-use Rattle.peephole_machine.specs.Values.{Context}
+use Rattle.wasm_execution.specs.declared.integer.IntegerType.{IntegerType}
+use Rattle.wasm_execution.specs.Values.{Context}
 use Rattle.rewrite_rules.specs.declared.pattern.Number.TheVariants.{Literal, Ones, Bits, Sign, Slot, Turned, Next, Previous, Negated, Power, Place, Sum}
 use Rattle.rewrite_rules.specs.declared.pattern.Part.{Part}
 use Rattle.rewrite_rules.specs.declared.pattern.Part.TheVariants.{Hole, Constant, Drawn, Apply}
@@ -15,7 +15,8 @@ use Rattle.rewrite_rules.specs.Numbers.{low, constant_at}
 use Rattle.rewrite_rules.specs.Parts.{part_code}
 use Rattle.body_rewrites.specs.Trees.{Stands}
 use Rattle.body_rewrites.specs.Cutting.{HasPart, AreCut}
-use Rattle.body_rewrites.specs.Matching.{is_hole, is_slot, operand_at, instructions, operators_in, operand_code, number_at, slot_at, AreAlike, AreAllAlike, is_own, IsOwn, AreOwn, HasSomeMatch}
+use Rattle.body_rewrites.specs.Matching.{is_hole, is_slot, operand_at, instructions, operators_in, operand_code, number_at, slot_at}
+use Rattle.body_rewrites.specs.Matching.{AreAlike, AreAllAlike, is_own, IsOwn, AreOwn, HasSomeMatch}
 use Rattle.body_rewrites.proofs.StandsLemmas.{Operators}
 use Rattle.body_rewrites.proofs.CutLemmas.{one_place}
 use Rattle.body_rewrites.proofs.AlikeLemmas.{by_low, code_there, alike_constant}

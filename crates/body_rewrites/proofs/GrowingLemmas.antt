@@ -4,7 +4,7 @@ use Rattle.std.specs.Prelude.{◌==◌, if◌then◌else◌, get_or, slice_range
 use Rattle.std.proofs.lemmas.Bool.{lt-ltb, le-ltb, eq-eqb, ne_eqb}
 use Rattle.body_splices.specs.OwnBytes.{without_offsets}
 use Rattle.body_splices.specs.Laws.{pieces_operators}
-use Rattle.peephole_machine.specs.Values.{Context}
+use Rattle.wasm_execution.specs.Values.{Context}
 use Rattle.rewrite_rules.specs.declared.pattern.Part.{Part}
 use Rattle.rewrite_rules.specs.declared.pattern.Part.TheVariants.{Hole, Constant, Drawn, Apply}
 use Rattle.rewrite_rules.specs.Numbers.{constant_at}
@@ -15,29 +15,29 @@ use Rattle.body_rewrites.specs.declared.growth.Growth.TheVariants.{Shrinks, Keep
 use Rattle.body_rewrites.specs.declared.places.Line.{Line}
 use Rattle.body_rewrites.specs.declared.places.Place.{Place}
 use Rattle.body_rewrites.specs.LineMaking.{LineChangeGrows}
-use Rattle.body_rewrites.specs.Places.{IsPlaceOf}
-use Rattle.body_rewrites.specs.Rewrites.{growth_by, Differ}
+use Rattle.body_rewrites.specs.Places.{IsFoundPlaceOf}
+use Rattle.body_rewrites.specs.Rewrites.{growth_by_sizes, Differ}
 use Rattle.body_rewrites.specs.Writing.{side_pieces, part_count, parts_count, by_line}
 use Rattle.body_rewrites.proofs.StandsLemmas.{Operators}
 use Rattle.body_rewrites.proofs.MatchingLemmas.{length_in}
 
 -- ---- numbers
 
-pub shrinks : (old new : ℕ) → new < old → Shrinks ≡ growth_by old new
+pub shrinks : (old new : ℕ) → new < old → Shrinks ≡ growth_by_sizes old new
 shrinks old new l = sym (ap (λ b. if b then Shrinks else (if new == old then Keeps else Grows)) (lt-ltb new old l))
 
-pub keeps : (old new : ℕ) → new ≡ old → Keeps ≡ growth_by old new
+pub keeps : (old new : ℕ) → new ≡ old → Keeps ≡ growth_by_sizes old new
 keeps old new e =
     sym (ap (λ b. if b then Shrinks else (if new == old then Keeps else Grows)) (le-ltb new old (omega (arith, e)))
     ∙ ap (λ b. if b then Keeps else Grows) (eq-eqb new old e))
 
-pub grows : (old new : ℕ) → old < new → Grows ≡ growth_by old new
+pub grows : (old new : ℕ) → old < new → Grows ≡ growth_by_sizes old new
 grows old new l =
     sym (ap (λ b. if b then Shrinks else (if new == old then Keeps else Grows)) (le-ltb new old (omega (arith, l)))
     ∙ ap (λ b. if b then Keeps else Grows) (ne_eqb new old (λ e. absurd (omega (arith, l, e)))))
 
 -- as many are left as are not stood for
-pub rest_is : (old left parts : ℕ) → parts + left ≡ old + 0 → growth_by left 0 ≡ growth_by old parts
+pub rest_is : (old left parts : ℕ) → parts + left ≡ old + 0 → growth_by_sizes left 0 ≡ growth_by_sizes old parts
 rest_is old zero parts e = sym (keeps zero 0 refl) ∙ keeps old parts (omega (arith, e))
 rest_is old (suc left) parts e = sym (shrinks (suc left) 0 (omega arith)) ∙ shrinks old parts (omega (arith, e))
 
@@ -55,24 +55,24 @@ parts_counted operators operands c words (Constant t e ∷ ps) = let rest = part
 parts_counted operators operands c words (Drawn t ∷ ps) = let rest = parts_counted operators operands c (drop 1 words) ps in omega (arith, rest)
 parts_counted operators operands c words (Apply f ∷ ps) = let rest = parts_counted operators operands c words ps in omega (arith, rest)
 
-module _ (context : Context) (operators : Operators) (line : Line) (at : ℕ) (place : Place) (found : IsPlaceOf context operators line (at + 1) place) where
+module _ (context : Context) (operators : Operators) (line : Line) (at : ℕ) (place : Place) (found : IsFoundPlaceOf context operators line (at + 1) place) where
   written : length (pieces_operators (without_offsets operators) ((by_line line place).pieces 0))
       ≡ parts_count operators place.operands (parts_for line.width line.row.right)
   written = parts_counted operators place.operands (constant_at place.numbers) (0 ∷ []) (parts_for line.width line.row.right)
 
   -- something else is written
   pub place_keeps : (kind : Growth) → Differ operators place.start (at + 1) ((by_line line place).pieces 0) →
-      kind ≡ growth_by (at + 1 - place.start) (parts_count operators place.operands (parts_for line.width line.row.right)) →
+      kind ≡ growth_by_sizes (at + 1 - place.start) (parts_count operators place.operands (parts_for line.width line.row.right)) →
       LineChangeGrows context operators line at kind
   place_keeps kind differs is = record {
     change = by_line line place;
     makes = record { place = place; is = found; change_is = refl; differs = differs };
-    growth_is = ap (growth_by (at + 1 - place.start)) written ∙ sym is;
+    growth_is = ap (growth_by_sizes (at + 1 - place.start)) written ∙ sym is;
   }
 
   -- so it is where the number is another
   pub place_grows : (kind : Growth) → (kind ≡ Keeps → ⊥) →
-      kind ≡ growth_by (at + 1 - place.start) (parts_count operators place.operands (parts_for line.width line.row.right)) →
+      kind ≡ growth_by_sizes (at + 1 - place.start) (parts_count operators place.operands (parts_for line.width line.row.right)) →
       LineChangeGrows context operators line at kind
   place_grows kind other is =
       let inside = found.is.inside in

@@ -1,5 +1,6 @@
 -- Words that choose a rewrite.
-use Rattle.std.proofs.Common.{◌≡◌, ◌⊎◌, ℕ, zero, suc, ◌+◌, ◌*◌, ◌%◌, ◌^◌, ◌<◌, inl, inr, List, [], ◌∷◌, ◌++◌, length, map, Some, option_map, refl, sym, ap, ap₂, subst, ◌∙◌, arith}
+use Rattle.std.proofs.Common.{◌≡◌, ◌⊎◌, ℕ, zero, suc, ◌+◌, ◌*◌, ◌%◌, ◌^◌, ◌<◌, inl, inr, List, [], ◌∷◌, ◌++◌, length, map, Some, option_map}
+use Rattle.std.proofs.Common.{refl, sym, ap, ap₂, subst, ◌∙◌, arith}
 use Rattle.std.specs.Prelude.{Contains, slice_get}
 use Rattle.std.proofs.lemmas.Bool.{cases_eq}
 use Rattle.std.proofs.lemmas.List.{length-append, length-map}
@@ -10,13 +11,15 @@ use Rattle.rand_core.specs.Stream.{Stream, next_u64}
 use Rattle.wasm_code.specs.Instruction.{Instruction}
 use Rattle.wasm_code.specs.declared.operator.Operator.{Operator}
 use Rattle.wasm_code.specs.declared.operator.Operator.TheVariants.{Instr}
-use Rattle.peephole_machine.specs.declared.integer.IntegerType.{IntegerType}
-use Rattle.peephole_machine.specs.Values.{Context}
+use Rattle.wasm_execution.specs.declared.integer.IntegerType.{IntegerType}
+use Rattle.wasm_execution.specs.Values.{Context}
 use Rattle.rewrite_rules.specs.declared.rule.Rule.{Rule}
 use Rattle.rewrite_rules.specs.declared.pattern.Operator.TheVariants.{Whole}
 use Rattle.rewrite_rules.specs.declared.table.Own.{Own}
-use Rattle.rewrite_rules.specs.declared.table.Own.TheVariants.{Unfold, ThroughGlobal, WithNop, Fold, Forget, TeeToSet, DropNop, SetToTee, Access as Accesses, Wrap as Wraps, Unwrap as Unwraps}
-use Rattle.rewrite_rules.specs.declared.table.Own.TheVariants.{SelectToIf, IfToSelect, TestCondition, DropConditionTest, DoubleCondition, DropDoubleCondition, PutDead, DropDead}
+use Rattle.rewrite_rules.specs.declared.table.Own.TheVariants.{Unfold, ThroughGlobal, WithNop, Fold, Forget, TeeToSet, DropNop, SetToTee}
+use Rattle.rewrite_rules.specs.declared.table.Own.TheVariants.{Access as Accesses, Wrap as Wraps, Unwrap as Unwraps}
+use Rattle.rewrite_rules.specs.declared.table.Own.TheVariants.{SelectToIf, IfToSelect, TestCondition, DropConditionTest, DoubleCondition}
+use Rattle.rewrite_rules.specs.declared.table.Own.TheVariants.{DropDoubleCondition, PutDead, DropDead}
 use Rattle.rewrite_rules.specs.declared.table.Own.TheVariants.{BoundIndex, DropIndexBound, BrIfToIf, IfToBrIf}
 use Rattle.rewrite_rules.specs.declared.table.Row.{Row}
 use Rattle.rewrite_rules.specs.declared.table.Widths.{Widths}
@@ -40,7 +43,7 @@ use Rattle.body_rewrites.specs.ThoseLemmas.{contained_cases, those_bounded, thos
 use Rattle.body_rewrites.proofs.FlowLemmas.{there_inside}
 use Rattle.body_rewrites.proofs.IndexLemmas.{bound_inside}
 use Rattle.body_rewrites.proofs.AccessLemmas.{access_inside, stands_inside}
-use Rattle.body_rewrites.proofs.CountingLemmas.{asked_few}
+use Rattle.body_rewrites.proofs.CountingBounds.{asked_few}
 
 within : (i n : ℕ) → i < n → i % n ≡ i
 within i n less =
@@ -202,7 +205,8 @@ chooses_one context stream rules wanted operators r q a b =
 
 module _ (table : length ROWS < 65535) (context : Context) (rules : List Rule) (wanted : List Growth) (operators : List (Operator × ℕ)) (r : Rewrite)
     (few : length rules < 2 ^ 64) (kinds_few : length wanted < 2 ^ 64) (short : length operators < 2 ^ 32) where
-  words_among : (kind : Growth) (rule : Rule) → Contains wanted kind → Contains rules rule → Contains (asked_below (length operators)) r → IsOf context operators kind rule r →
+  words_among : (kind : Growth) (rule : Rule) → Contains wanted kind → Contains rules rule → Contains (asked_below (length operators)) r →
+      IsOf context operators kind rule r →
       (kinds : List Growth) → AreThose (HasOpen context operators rules) wanted kinds →
       (ways : List Rule) → AreThose (IsOpen context operators kind) rules ways →
       (places : List Rewrite) → AreThose (IsOf context operators kind rule) (asked_below (length operators)) places →

@@ -6,8 +6,8 @@ use Rattle.wasm_code.specs.declared.operator.Operator.{Operator}
 use Rattle.wasm_code.specs.declared.operator.Operator.TheVariants.{BrTable}
 use Rattle.wasm_types.specs.declared.types.PrimitiveTypeInfo.TheVariants as primitive
 use Rattle.body_splices.specs.OwnBytes.{without_offsets}
-use Rattle.peephole_machine.specs.declared.integer.IntegerType.TheVariants as integer
-use Rattle.peephole_machine.specs.Values.{Context}
+use Rattle.wasm_execution.specs.declared.integer.IntegerType.TheVariants as integer
+use Rattle.wasm_execution.specs.Values.{Context}
 use Rattle.rewrite_rules.specs.Code.{writes, asks}
 use Rattle.rewrite_rules.specs.Flow.{below_code, select_code}
 use Rattle.rewrite_rules.specs.Instance.{constant_code}

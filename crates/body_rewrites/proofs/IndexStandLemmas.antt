@@ -12,11 +12,11 @@ use Rattle.body_splices.specs.declared.piece.Piece.TheVariants.{Kept}
 use Rattle.body_splices.specs.OwnBytes.{none_of, without_offsets}
 use Rattle.body_splices.specs.Splice.{IsPieceIn}
 use Rattle.body_splices.specs.Laws.{pieces_operators}
-use Rattle.peephole_machine.specs.declared.integer.IntegerType.TheVariants as integer
-use Rattle.peephole_machine.specs.Values.{Context}
-use Rattle.peephole_programs.specs.control.Standard.{asks_beyond}
-use Rattle.peephole_programs.specs.hosts.Embedder.{with_operators}
-use Rattle.peephole_programs.specs.validation.StaysValid.{Pushes}
+use Rattle.wasm_execution.specs.declared.integer.IntegerType.TheVariants as integer
+use Rattle.wasm_execution.specs.Values.{Context}
+use Rattle.wasm_equivalence.specs.control.Standard.{asks_beyond}
+use Rattle.wasm_equivalence.specs.hosts.Embedder.{with_operators}
+use Rattle.wasm_equivalence.specs.validation.StaysValid.{Pushes}
 use Rattle.wrapped_code.specs.Alike.{SameAs}
 use Rattle.wrapped_code.specs.Indices.{LabelAlike}
 use Rattle.rewrite_rules.specs.Instance.{constant_code}

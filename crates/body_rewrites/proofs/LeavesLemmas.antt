@@ -4,11 +4,11 @@ use Rattle.std.specs.Prelude.{nat_le, if◌then◌else◌, option_map, option_an
 use Rattle.std.proofs.lemmas.Bool.{le-leb}
 use Rattle.wasm_code.specs.Instruction.{Instruction}
 use Rattle.wasm_types.specs.declared.types.PrimitiveTypeInfo.{PrimitiveTypeInfo}
-use Rattle.peephole_machine.specs.Values.{Context}
-use Rattle.peephole_machine.specs.IntegerRow.{integer_row, operand_count, row_types}
-use Rattle.peephole_machine.specs.Row.{at_most_one, instruction_types, instruction_count}
-use Rattle.peephole_machine.specs.RowLemmas.{and_then_some, row_types_count}
-use Rattle.peephole_machine.specs.CountLemmas.{row_count_is}
+use Rattle.wasm_execution.specs.Values.{Context}
+use Rattle.wasm_execution.specs.IntegerRow.{integer_row, operand_count, row_types}
+use Rattle.wasm_execution.specs.Row.{at_most_one, instruction_types, instruction_count}
+use Rattle.wasm_execution.specs.RowLemmas.{and_then_some, row_types_count}
+use Rattle.wasm_execution.specs.CountLemmas.{row_count_is}
 use Rattle.rewrite_rules.specs.Code.{types_behind, types_after}
 use Rattle.body_rewrites.specs.Trees.{one_type, tree_behind, tree_after, TreesLeave}
 use Rattle.body_rewrites.proofs.StandsLemmas.{Types, given}
@@ -30,7 +30,8 @@ module _ (context : Context) where
       types_behind context i ts ≡ Some (take (length ts - count) ts ++ t ∷ [])
   behind_is i ts t count is enough row =
       ap
-      (λ n. if nat_le n (length ts) then option_map (λ us. take (length ts - n) ts ++ us) (row_types context (integer_row i) (drop (length ts - n) ts)) else None)
+      (λ n. if nat_le n (length ts) then option_map (λ us. take (length ts - n) ts
+      ++ us) (row_types context (integer_row i) (drop (length ts - n) ts)) else None)
       is
       ∙ (ap (λ b. if b then option_map (λ us. take (length ts - count) ts ++ us) (row_types context (integer_row i) (drop (length ts - count) ts)) else None)
       (le-leb count (length ts) enough)

@@ -17,6 +17,7 @@ pub mod LeftRowLemmas
 pub mod PlaceLemmas
 pub mod FormLemmas
 pub mod AloneLineLemmas
+pub mod AloneLineApplies
 pub mod OperatorLemmas
 pub mod WritingLemmas
 pub mod CandidateLemmas
@@ -54,6 +55,7 @@ pub mod OwnGrowthLemmas
 pub mod ListingLemmas
 pub mod ReachedLemmas
 pub mod CountingLemmas
+pub mod CountingBounds
 pub mod ChoiceLemmas
 pub mod HasWordsLemmas
 pub mod RootLemmas

@@ -4,7 +4,7 @@ use Rattle.std.specs.Prelude.{get_or}
 use Rattle.std.specs.List.{All}
 use Rattle.std.proofs.lemmas.List.Elements.{All-nil, All-cons}
 use Rattle.body_splices.specs.Laws.{AreInstructions}
-use Rattle.peephole_machine.specs.Values.{Context}
+use Rattle.wasm_execution.specs.Values.{Context}
 use Rattle.rewrite_rules.specs.declared.pattern.Part.{Part}
 use Rattle.rewrite_rules.specs.declared.pattern.Part.TheVariants.{Hole, Constant, Drawn, Apply}
 use Rattle.rewrite_rules.specs.Numbers.{constant_at}
@@ -18,7 +18,7 @@ use Rattle.body_rewrites.specs.Cutting.{AreCut}
 use Rattle.body_rewrites.specs.Matching.{operand_at}
 use Rattle.body_rewrites.specs.Changes.{Change}
 use Rattle.body_rewrites.specs.Writing.{piece_for, side_pieces, by_line}
-use Rattle.body_rewrites.specs.Places.{IsPlaceOf, left_parts, operands_told, place_told}
+use Rattle.body_rewrites.specs.Places.{IsFoundPlaceOf, left_parts, hole_places_told, place_told}
 use Rattle.body_rewrites.specs.Rewrites.{Differ, IsLineChange}
 use Rattle.body_rewrites.specs.Differing.{IsKept, IsKeptRange}
 use Rattle.body_rewrites.proofs.StandsLemmas.{Operators}
@@ -30,13 +30,13 @@ use Rattle.body_rewrites.proofs.PlaceLemmas.{one_place_of}
 -- ---- one thing
 
 by_one_place : (context : Context) (operators : Operators) (line : Line) (at : ℕ) (place : Place) (change : Change) →
-    IsPlaceOf context operators line (at + 1) place → IsLineChange context operators line at change → change ≡ by_line line place
+    IsFoundPlaceOf context operators line (at + 1) place → IsLineChange context operators line at change → change ≡ by_line line place
 by_one_place context operators line at place change found is =
     is.change_is ∙ ap (by_line line) (one_place_of context operators line (at + 1) is.place place is.is found)
 
 -- where it makes something, that differs from what stands in its place
 pub differs_there : (context : Context) (operators : Operators) (line : Line) (at : ℕ) (place : Place) (change : Change) →
-    IsPlaceOf context operators line (at + 1) place → IsLineChange context operators line at change →
+    IsFoundPlaceOf context operators line (at + 1) place → IsLineChange context operators line at change →
     Differ operators place.start (at + 1) ((by_line line place).pieces 0)
 differs_there context operators line at place change found is =
     subst (λ (c : Change). Differ operators c.start (at + 1) (c.pieces 0)) (by_one_place context operators line at place change found is) is.differs
@@ -44,7 +44,7 @@ differs_there context operators line at place change found is =
 -- ---- what it writes
 
 pub instructions_there : (context : Context) (operators : Operators) (line : Line) (end : ℕ) (place : Place) →
-    IsPlaceOf context operators line end place → AreInstructions operators place.start end
+    IsFoundPlaceOf context operators line end place → AreInstructions operators place.start end
 instructions_there context operators line end place found = record { instructions = _; stand = found.is.stands }
 
 module _ (operators : Operators) (trees : List (Option Tree)) (operands : List (ℕ × ℕ)) (c : ℕ → ℕ)
@@ -73,14 +73,14 @@ module _ (context : Context) (operators : Operators) (trees : List (Option Tree)
     told = λ s e l k same. inl (let long = same_length operators (s, e) (0, 0) k (omega arith) same in omega (arith, long, l));
   }
 
-  operand_kept : (n : ℕ) → IsKeptRange operators trees (get_or (operands_told parts starts end) n (0, 0))
+  operand_kept : (n : ℕ) → IsKeptRange operators trees (get_or (hole_places_told parts starts end) n (0, 0))
   operand_kept zero = range_kept 0
   operand_kept (suc zero) = range_kept 1
   operand_kept (suc (suc zero)) = range_kept 2
   operand_kept (suc (suc (suc n))) = nothing_kept
 
 pub line_pieces_kept : (context : Context) (operators : Operators) (trees : List (Option Tree)) (line : Line) (end : ℕ) (place : Place) (word : ℕ) →
-    AreTrees context operators trees → IsPlaceOf context operators line end place → All (IsKept operators trees) ((by_line line place).pieces word)
+    AreTrees context operators trees → IsFoundPlaceOf context operators line end place → All (IsKept operators trees) ((by_line line place).pieces word)
 line_pieces_kept context operators trees line end place word known found =
     subst (λ (p : Place). All (IsKept operators trees) ((by_line line p).pieces word)) (sym found.place_is)
     (all_kept operators trees told.operands (constant_at told.numbers)

@@ -1,7 +1,7 @@
 -- What a line of the table writes in its place may stand there.
-use Rattle.peephole_programs.specs.control.Laws.{ReplacedCodeIsInOnePiece}
-use Rattle.peephole_programs.specs.hosts.EmbedderLaws.{PiecesDo}
-use Rattle.peephole_programs.specs.validation.StaysValid.{ReplacedCodeStaysValid}
+use Rattle.wasm_equivalence.specs.control.Laws.{ReplacedCodeIsInOnePiece}
+use Rattle.wasm_equivalence.specs.hosts.EmbedderLaws.{PiecesDo}
+use Rattle.wasm_equivalence.specs.validation.StaysValid.{ReplacedCodeStaysValid}
 use Rattle.rewrite_rules.specs.Laws.{TableIsRight}
 use Rattle.rewrite_rules.specs.Holes.{HolesAreTold}
 use Rattle.rewrite_rules.specs.Table.{SidesAreParts}

@@ -9,11 +9,13 @@ use Rattle.wasm_code.specs.declared.operator.Operator.{Operator}
 use Rattle.wasm_code.specs.declared.operator.Operator.TheVariants.{Instr}
 use Rattle.body_splices.specs.OwnBytes.{IsBodyIn}
 use Rattle.body_splices.specs.Splice.{IsRangeIn}
-use Rattle.peephole_machine.specs.declared.integer.IntegerType.{IntegerType}
-use Rattle.peephole_machine.specs.Values.{Context}
+use Rattle.wasm_execution.specs.declared.integer.IntegerType.{IntegerType}
+use Rattle.wasm_execution.specs.Values.{Context}
 use Rattle.rewrite_rules.specs.declared.table.Own.{Own}
-use Rattle.rewrite_rules.specs.declared.table.Own.TheVariants.{Unfold, ThroughGlobal, WithNop, Fold, Forget, TeeToSet, DropNop, SetToTee, Access as Accesses, Wrap as Wraps, Unwrap as Unwraps}
-use Rattle.rewrite_rules.specs.declared.table.Own.TheVariants.{SelectToIf, IfToSelect, TestCondition, DropConditionTest, DoubleCondition, DropDoubleCondition, PutDead, DropDead}
+use Rattle.rewrite_rules.specs.declared.table.Own.TheVariants.{Unfold, ThroughGlobal, WithNop, Fold, Forget, TeeToSet, DropNop, SetToTee}
+use Rattle.rewrite_rules.specs.declared.table.Own.TheVariants.{Access as Accesses, Wrap as Wraps, Unwrap as Unwraps}
+use Rattle.rewrite_rules.specs.declared.table.Own.TheVariants.{SelectToIf, IfToSelect, TestCondition, DropConditionTest, DoubleCondition}
+use Rattle.rewrite_rules.specs.declared.table.Own.TheVariants.{DropDoubleCondition, PutDead, DropDead}
 use Rattle.rewrite_rules.specs.declared.table.Own.TheVariants.{BoundIndex, DropIndexBound, BrIfToIf, IfToBrIf}
 use Rattle.rewrite_rules.specs.declared.table.Widths.{Widths}
 use Rattle.rewrite_rules.specs.declared.table.Widths.TheVariants as widths
@@ -110,7 +112,8 @@ module _ (lines : LineChangesMayStand) (owns : OwnChangesMayStand) where
       (slice_get (widths_in w) ≡ slice_get (asked_widths w)) → line.row.widths ≡ w → IsLineChange context operators line at change →
       MayStand context operators at change
   stand_by context operators number line at change w asked same e is =
-      let width = ap (λ (f : ℕ → Option IntegerType). f asked.place) (ap (λ v. slice_get (widths_in v)) e ∙ (same ∙ ap (λ v. slice_get (asked_widths v)) (sym e))) in
+      let width = ap (λ (f : ℕ → Option IntegerType). f asked.place) (ap (λ v. slice_get (widths_in v)) e
+      ∙ (same ∙ ap (λ v. slice_get (asked_widths v)) (sym e))) in
       let line_is : IsLine line = record { number = number; row_is = asked.row_is; place = asked.place; width_is = width ∙ asked.width_is } in
       subst (MayStand context operators at) (sym is.change_is) (lines context operators line at is.place line_is is.is)
 

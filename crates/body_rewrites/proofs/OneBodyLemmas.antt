@@ -6,7 +6,7 @@ use Rattle.wasm_code.specs.declared.operator.Operator.{Operator}
 use Rattle.wasm_types.specs.declared.types.PrimitiveTypeInfo.{PrimitiveTypeInfo}
 use Rattle.body_splices.specs.OwnBytes.{own_bytes}
 use Rattle.body_splices.specs.Splice.{pieces_bytes}
-use Rattle.peephole_machine.specs.Values.{Context}
+use Rattle.wasm_execution.specs.Values.{Context}
 use Rattle.rewrite_rules.specs.declared.rule.Rule.{Rule}
 use Rattle.body_rewrites.specs.declared.growth.Growth.{Growth}
 use Rattle.body_rewrites.specs.declared.places.Line.{Line}
@@ -53,7 +53,8 @@ rewritten_one one context input operators r word old new other asks others a b =
 
 pub one_body : OneChange → ((context : Context) (stream : Stream) (rules : List Rule) (wanted : List Growth) (operators : List (Operator × ℕ))
     (r q : Rewrite) → Chooses context stream rules wanted operators r → Chooses context stream rules wanted operators q → r ≡ q) → (context : Context)
-    (stream : Stream) (rules : List Rule) (wanted : List Growth) (input : List ℕ) (operators : List (Operator × ℕ)) (r q : Rewrite) (old new other : List ℕ) (asks others : List PrimitiveTypeInfo)
+    (stream : Stream) (rules : List Rule) (wanted : List Growth) (input : List ℕ) (operators : List (Operator × ℕ)) (r q : Rewrite) (old new other :
+    List ℕ) (asks others : List PrimitiveTypeInfo)
     (after later : Stream) → AppendsByWords context stream rules wanted input operators r old new asks after →
     AppendsByWords context stream rules wanted input operators q old other others later →
     (r ≡ q) × (new ≡ other) × (asks ≡ others) × (after ≡ later)
@@ -70,4 +71,5 @@ none_chosen context stream rules wanted operators r none c =
     let places = c.draws_rewrite in
     let (asked, of) = one_of (IsOf context operators c.growth c.rule) (asked_below (length operators)) places.those places.are
     ((next_u64 (after_word (after_word stream))).0 % length places.those) r places.is in
-    none_of (IsWantedBy context operators rules wanted) (asked_below (length operators)) none r asked (chosen_is_wanted context stream rules wanted operators r c)
+    none_of (IsWantedBy context operators rules wanted) (asked_below (length operators)) none r asked
+    (chosen_is_wanted context stream rules wanted operators r c)

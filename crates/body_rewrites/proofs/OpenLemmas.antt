@@ -1,5 +1,6 @@
 -- The trees before the next operator: what is kept of them is right, and stays so.
-use Rattle.std.proofs.Common.{◌≡◌, ℕ, zero, suc, ◌+◌, ◌-◌, ◌<◌, ◌≤◌, ◌⊎◌, inl, inr, Bool, true, false, List, [], ◌∷◌, ◌++◌, length, take, drop, Option, Some, None, refl, sym, ap, ap₂, ◌∙◌, subst, length-append, arith}
+use Rattle.std.proofs.Common.{◌≡◌, ℕ, zero, suc, ◌+◌, ◌-◌, ◌<◌, ◌≤◌, ◌⊎◌, inl, inr, Bool, true, false, List, [], ◌∷◌, ◌++◌, length, take}
+use Rattle.std.proofs.Common.{drop, Option, Some, None, refl, sym, ap, ap₂, ◌∙◌, subst, length-append, arith}
 use Rattle.std.specs.Prelude.{◌||◌, nat_lt, option_and_then, slice_get}
 use Rattle.std.specs.Option.{unwrap_or}
 use Rattle.std.proofs.lemmas.Bool.{cases_lt, lt-ltb, ltb-false, le-ltb}
@@ -9,16 +10,17 @@ use Rattle.wasm_code.specs.Instruction.{Instruction}
 use Rattle.wasm_code.specs.declared.operator.Operator.{Operator}
 use Rattle.wasm_code.specs.declared.operator.Operator.TheVariants.{Instr}
 use Rattle.wasm_types.specs.declared.types.PrimitiveTypeInfo.{PrimitiveTypeInfo}
-use Rattle.peephole_machine.specs.Values.{Context}
-use Rattle.peephole_machine.specs.IntegerRow.{integer_row, is_other}
-use Rattle.peephole_machine.specs.Row.{instruction_types, instruction_count}
-use Rattle.peephole_machine.specs.RowLemmas.{and_then_some}
+use Rattle.wasm_execution.specs.Values.{Context}
+use Rattle.wasm_execution.specs.IntegerRow.{integer_row, is_other}
+use Rattle.wasm_execution.specs.Row.{instruction_types, instruction_count}
+use Rattle.wasm_execution.specs.RowLemmas.{and_then_some}
 use Rattle.rewrite_rules.specs.Code.{row_writes, writes, instruction_traps, traps, asks}
 use Rattle.body_rewrites.specs.declared.trees.Tree.{Tree}
 use Rattle.body_rewrites.specs.declared.trees.Open.{Open}
 use Rattle.body_rewrites.specs.Trees.{one_type, tree_behind, tree_after, Stands, IsTree, HasTree}
-use Rattle.body_rewrites.specs.Open.{start_of, AreLast, AreOpen, HasInstruction, behind_if, HasEffectsOf, HasNoted, IsTold, IsNext}
-use Rattle.body_rewrites.proofs.StandsLemmas.{Operators, Types, nothing_stands, stands_nothing, entry_of, stands_snoc, snoc_of, after_snoc, Given, given, gives_one, writes_last, traps_last, asks_last}
+use Rattle.body_rewrites.specs.Open.{start_of, AreLast, AreOpen, HasInstruction, behind_if, HasEffectsOf, HasNoted, TreeIsTold, IsNextTree}
+use Rattle.body_rewrites.proofs.StandsLemmas.{Operators, Types, nothing_stands, stands_nothing, entry_of, stands_snoc, snoc_of, after_snoc}
+use Rattle.body_rewrites.proofs.StandsLemmas.{Given, given, gives_one, writes_last, traps_last, asks_last}
 
 -- ---- nothing open
 
@@ -256,7 +258,7 @@ module _ (context : Context) (operators : Operators) (at : ℕ) (o : Open) (h : 
         ∙ (drop-drop (length v.types - n) (length o.types.items - length v.types) o.types.items ∙ ap (λ k. drop k o.types.items) whole)
 
     -- where it has no tree
-    pub no_types : IsNext context i at mid None → (s : ℕ) (code : List Instruction) (us : Types) → s ≤ at → Stands operators s (at + 1) code →
+    pub no_types : IsNextTree context i at mid None → (s : ℕ) (code : List Instruction) (us : Types) → s ≤ at → Stands operators s (at + 1) code →
         tree_after context code [] ≡ Some us → ⊥
     no_types next s code us le st e =
         let n = instruction_count context.info i in
@@ -275,7 +277,7 @@ module _ (context : Context) (operators : Operators) (at : ℕ) (o : Open) (h : 
         differ e f = cc
 
     -- where it has one
-    module _ (below : ℕ) (tree : Tree) (told : IsTold context i at mid below tree) where
+    module _ (below : ℕ) (tree : Tree) (told : TreeIsTold context i at mid below tree) where
       count : ℕ
       count = instruction_count context.info i
 
@@ -499,7 +501,7 @@ nothing_open context operators o starts types w t a = record {
 
 -- no tree, with the operands behind these
 pub none_told : (context : Context) (i : Instruction) (at : ℕ) (o : Open) (below : ℕ) → below + instruction_count context.info i ≡ length o.starts.items →
-    one_type (instruction_types context i (drop below o.types.items)) ≡ None → IsNext context i at o None
+    one_type (instruction_types context i (drop below o.types.items)) ≡ None → IsNextTree context i at o None
 none_told context i at o below sum none other same =
     ap (λ n. one_type (instruction_types context i (drop n o.types.items))) (let e : other ≡ below = omega arith in e) ∙ none
 

@@ -3,14 +3,14 @@ use Rattle.std.proofs.Common.{◌≡◌, ℕ, ◌-◌, ◌≤◌, Bool, ◌⊎�
 use Rattle.std.specs.Prelude.{◌==◌, ◌&&◌, ◌||◌, nat_le, if◌then◌else◌}
 use Rattle.std.proofs.lemmas.Bool.{and_parts, eqb-true, leb-true}
 use Rattle.wasm_code.specs.Instruction.{Instruction}
-use Rattle.peephole_machine.specs.declared.integer.IntegerType.TheVariants as integer
-use Rattle.peephole_machine.specs.declared.operation.Unary.TheVariants.{Clz}
-use Rattle.peephole_machine.specs.declared.operation.Binary.TheVariants.{Add}
-use Rattle.peephole_machine.specs.declared.operation.Comparison.TheVariants.{Eq}
-use Rattle.peephole_machine.specs.declared.operation.Operation.{Operation}
-use Rattle.peephole_machine.specs.declared.operation.Operation.TheVariants.{Eqz, Compare, Unary, Binary, Extend8S, Extend16S}
-use Rattle.peephole_machine.specs.Opcode.{opcode, operations, with_opcode, operation_of}
-use Rattle.peephole_machine.specs.Operation.{operator_of}
+use Rattle.wasm_execution.specs.declared.integer.IntegerType.TheVariants as integer
+use Rattle.wasm_execution.specs.declared.operation.Unary.TheVariants.{Clz}
+use Rattle.wasm_execution.specs.declared.operation.Binary.TheVariants.{Add}
+use Rattle.wasm_execution.specs.declared.operation.Comparison.TheVariants.{Eq}
+use Rattle.wasm_execution.specs.declared.operation.Operation.{Operation}
+use Rattle.wasm_execution.specs.declared.operation.Operation.TheVariants.{Eqz, Compare, Unary, Binary, Extend8S, Extend16S}
+use Rattle.wasm_execution.specs.Opcode.{opcode, operations, with_opcode, operation_of}
+use Rattle.wasm_execution.specs.Operation.{operator_of}
 use Rattle.rewrite_rules.specs.declared.pattern.Operator.TheVariants.{Whole}
 use Rattle.rewrite_rules.specs.Instance.{row_number, operator_code}
 use Rattle.body_rewrites.specs.Roots.{class_of}

@@ -5,7 +5,7 @@ use Rattle.std.proofs.lemmas.List.{append-nil}
 use Rattle.std.proofs.lemmas.Option.{same_Some, slice_get_within}
 use Rattle.wasm_code.specs.Instruction.{Instruction}
 use Rattle.wasm_code.specs.declared.immediate.Imm.{Imm}
-use Rattle.peephole_machine.specs.Values.{Context}
+use Rattle.wasm_execution.specs.Values.{Context}
 use Rattle.rewrite_rules.specs.declared.access.Access.{Access}
 use Rattle.rewrite_rules.specs.declared.table.Own.TheVariants.{Access as Accesses}
 use Rattle.rewrite_rules.specs.Access.{access_at, conversion_size, left_code, code_with, side_code, written_imm}

@@ -3,9 +3,9 @@ use Rattle.std.proofs.Common.{ℕ, zero, suc, ◌+◌, ◌^◌, ◌<◌, ◌≤�
 use Rattle.std.specs.Prelude.{IfNone, Option, Some, None}
 use Rattle.wasm_code.specs.Instruction.{Instruction}
 use Rattle.wasm_code.specs.declared.immediate.Imm.{Imm}
-use Rattle.peephole_machine.specs.Values.{Context}
-use Rattle.peephole_machine.specs.declared.integer.IntegerType.{IntegerType}
-use Rattle.peephole_machine.specs.declared.integer.IntegerType.TheVariants as integer
+use Rattle.wasm_execution.specs.Values.{Context}
+use Rattle.wasm_execution.specs.declared.integer.IntegerType.{IntegerType}
+use Rattle.wasm_execution.specs.declared.integer.IntegerType.TheVariants as integer
 use Rattle.rewrite_rules.specs.declared.access.AccessKind.{AccessKind}
 use Rattle.rewrite_rules.specs.declared.access.AccessKind.TheVariants.{Load, Store, Constant}
 use Rattle.rewrite_rules.specs.declared.access.Conversion.{Conversion}
@@ -15,8 +15,10 @@ use Rattle.rewrite_rules.specs.Instance.{constant_code}
 use Rattle.rewrite_rules.specs.Beside.{nop_code, drop_code, get_local, tee_local}
 use Rattle.body_rewrites.specs.declared.changes.NewCode.{NewCode}
 use Rattle.rewrite_rules.specs.declared.table.Own.{Own}
-use Rattle.rewrite_rules.specs.declared.table.Own.TheVariants.{Unfold, ThroughGlobal, WithNop, Fold, Forget, TeeToSet, DropNop, SetToTee, Access as Accesses, Wrap as Wraps, Unwrap as Unwraps}
-use Rattle.rewrite_rules.specs.declared.table.Own.TheVariants.{SelectToIf, IfToSelect, TestCondition, DropConditionTest, DoubleCondition, DropDoubleCondition, PutDead, DropDead}
+use Rattle.rewrite_rules.specs.declared.table.Own.TheVariants.{Unfold, ThroughGlobal, WithNop, Fold, Forget, TeeToSet, DropNop, SetToTee}
+use Rattle.rewrite_rules.specs.declared.table.Own.TheVariants.{Access as Accesses, Wrap as Wraps, Unwrap as Unwraps}
+use Rattle.rewrite_rules.specs.declared.table.Own.TheVariants.{SelectToIf, IfToSelect, TestCondition, DropConditionTest, DoubleCondition}
+use Rattle.rewrite_rules.specs.declared.table.Own.TheVariants.{DropDoubleCondition, PutDead, DropDead}
 use Rattle.rewrite_rules.specs.declared.table.Own.TheVariants.{BoundIndex, DropIndexBound, BrIfToIf, IfToBrIf}
 use Rattle.body_rewrites.specs.declared.own.Made.{Made}
 use Rattle.body_rewrites.specs.declared.own.Made.TheVariants as made
@@ -24,7 +26,7 @@ use Rattle.body_rewrites.specs.declared.own.Site.{Site}
 use Rattle.body_rewrites.specs.Open.{HasInstruction}
 use Rattle.body_rewrites.specs.Changes.{Change, IsWritten}
 use Rattle.body_rewrites.specs.Own.{Rewrites, made_pieces, made_asks, change_of, IsOwnChange}
-use Rattle.body_rewrites.specs.OwnSites.{AreOfRows, IsCode, IsWritable}
+use Rattle.body_rewrites.specs.OwnSites.{AreOfRows, IsNewCode, IsWritable}
 use Rattle.body_rewrites.proofs.AccessLemmas.{access_inside}
 use Rattle.body_rewrites.proofs.OwnRowLemmas.{i32_const_row, i64_const_row}
 use Rattle.body_rewrites.proofs.StandsLemmas.{Operators}
@@ -68,7 +70,7 @@ module _ (context : Context) (operators : Operators) (at : ℕ) where
   none_behind far own change is = let l = within own is.site.start is.site.made is.rewrites in omega arith
 
   pub is_change : (own : Own) (site : Site) (word : ℕ) (code : NewCode) → Rewrites context operators own site.start at site.made →
-      IsCode site.start (made_pieces site.start at site.made word) (made_asks site.made) code →
+      IsNewCode site.start (made_pieces site.start at site.made word) (made_asks site.made) code →
       (change : Change) × IsOwnChange context operators own at change × IsWritten change word code
   is_change own site word code r is = (
     change_of at site,

@@ -7,7 +7,7 @@ use Rattle.wasm_code.specs.Instruction.{Instruction}
 use Rattle.wasm_code.specs.declared.immediate.Imm.TheVariants as imm
 use Rattle.wasm_types.specs.Module.{Module}
 use Rattle.wasm_types.specs.declared.types.PrimitiveTypeInfo.{PrimitiveTypeInfo}
-use Rattle.peephole_machine.specs.Values.{Context}
+use Rattle.wasm_execution.specs.Values.{Context}
 use Rattle.rewrite_rules.specs.Code.{writes, traps}
 use Rattle.rewrite_rules.specs.declared.table.Own.TheVariants.{ThroughGlobal, WithNop, Forget}
 use Rattle.body_rewrites.specs.declared.own.Made.{Made}

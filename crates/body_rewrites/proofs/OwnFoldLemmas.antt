@@ -1,5 +1,6 @@
 -- Where an operator on constants is folded, by what is read of a body.
-use Rattle.std.proofs.Common.{◌≡◌, ℕ, ◌+◌, ◌-◌, ◌<◌, ◌≤◌, inl, inr, true, false, List, [], ◌∷◌, ◌++◌, length, map, Option, Some, None, refl, sym, ap, ap₂, subst, ◌∙◌, arith}
+use Rattle.std.proofs.Common.{◌≡◌, ℕ, ◌+◌, ◌-◌, ◌<◌, ◌≤◌, inl, inr, true, false, List, [], ◌∷◌, ◌++◌, length, map, Option, Some, None, refl}
+use Rattle.std.proofs.Common.{sym, ap, ap₂, subst, ◌∙◌, arith}
 use Rattle.std.specs.Prelude.{IfSome, IfNone, is_some, slice_get}
 use Rattle.std.proofs.lemmas.Bool.{true≢false}
 use Rattle.std.proofs.lemmas.Nat.{pow_pos}
@@ -8,12 +9,12 @@ use mir.Val.{bits}
 use Rattle.wasm_code.specs.Instruction.{Instruction}
 use Rattle.wasm_code.specs.declared.immediate.Imm.{Imm}
 use Rattle.wasm_code.specs.declared.immediate.Imm.TheVariants as imm
-use Rattle.peephole_machine.specs.declared.integer.IntegerType.{IntegerType}
-use Rattle.peephole_machine.specs.declared.operation.Operation.{Operation}
-use Rattle.peephole_machine.specs.Computed.{computed}
-use Rattle.peephole_machine.specs.Operation.{operator_of}
-use Rattle.peephole_machine.specs.Opcode.{opcode, operations, operation_of}
-use Rattle.peephole_machine.specs.Values.{Context, Value, whole, type_of, width_of, types}
+use Rattle.wasm_execution.specs.declared.integer.IntegerType.{IntegerType}
+use Rattle.wasm_execution.specs.declared.operation.Operation.{Operation}
+use Rattle.wasm_execution.specs.Computed.{computed}
+use Rattle.wasm_execution.specs.Operation.{operator_of}
+use Rattle.wasm_execution.specs.Opcode.{opcode, operations, operation_of}
+use Rattle.wasm_execution.specs.Values.{Context, Value, whole, type_of, width_of, types}
 use Rattle.rewrite_rules.specs.declared.pattern.Operator.TheVariants.{Whole}
 use Rattle.rewrite_rules.specs.Numbers.{low}
 use Rattle.rewrite_rules.specs.Instance.{constant_code, operator_code}

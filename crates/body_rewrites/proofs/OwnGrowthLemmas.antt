@@ -10,16 +10,18 @@ use Rattle.wasm_code.specs.declared.operator.Operator.TheVariants as op
 use Rattle.body_splices.specs.OwnBytes.{without_offsets}
 use Rattle.body_splices.specs.declared.piece.Piece.TheVariants.{Kept}
 use Rattle.body_splices.specs.Laws.{pieces_operators}
-use Rattle.peephole_machine.specs.declared.integer.IntegerType.TheVariants as integer
-use Rattle.peephole_machine.specs.Values.{Context}
+use Rattle.wasm_execution.specs.declared.integer.IntegerType.TheVariants as integer
+use Rattle.wasm_execution.specs.Values.{Context}
 use Rattle.rewrite_rules.specs.declared.growth.Growth.TheVariants as rows
 use Rattle.rewrite_rules.specs.Access.{conversion_size, right_code}
 use Rattle.rewrite_rules.specs.Beside.{drop_code, get_global, set_global}
 use Rattle.rewrite_rules.specs.Flow.{zero_code, ne_code, eqz_code, below_code, select_code}
 use Rattle.rewrite_rules.specs.Instance.{constant_code}
 use Rattle.rewrite_rules.specs.declared.table.Own.{Own}
-use Rattle.rewrite_rules.specs.declared.table.Own.TheVariants.{Unfold, ThroughGlobal, WithNop, Fold, Forget, TeeToSet, DropNop, SetToTee, Access as Accesses, Wrap as Wraps, Unwrap as Unwraps}
-use Rattle.rewrite_rules.specs.declared.table.Own.TheVariants.{SelectToIf, IfToSelect, TestCondition, DropConditionTest, DoubleCondition, DropDoubleCondition, PutDead, DropDead}
+use Rattle.rewrite_rules.specs.declared.table.Own.TheVariants.{Unfold, ThroughGlobal, WithNop, Fold, Forget, TeeToSet, DropNop, SetToTee}
+use Rattle.rewrite_rules.specs.declared.table.Own.TheVariants.{Access as Accesses, Wrap as Wraps, Unwrap as Unwraps}
+use Rattle.rewrite_rules.specs.declared.table.Own.TheVariants.{SelectToIf, IfToSelect, TestCondition, DropConditionTest, DoubleCondition}
+use Rattle.rewrite_rules.specs.declared.table.Own.TheVariants.{DropDoubleCondition, PutDead, DropDead}
 use Rattle.rewrite_rules.specs.declared.table.Own.TheVariants.{BoundIndex, DropIndexBound, BrIfToIf, IfToBrIf}
 use Rattle.body_rewrites.specs.declared.own.Made.{Made}
 use Rattle.body_rewrites.specs.declared.own.Made.TheVariants as made
@@ -126,7 +128,8 @@ module _ (context : Context) (operators : Operators) (at : ℕ) where
       let ends = h.ends in
       let inside = h.inside in
       let count = inner_count operators from end (omega (arith, last, ordered)) (omega (arith, ends, inside)) in
-      (let l : length (pieces_operators (without_offsets operators) (Kept from end ∷ [])) < at + 1 - start = omega (arith, count, some, begins, ends, last, ordered) in l)
+      (let l : length (pieces_operators (without_offsets operators) (Kept from end ∷ [])) < at + 1 - start =
+      omega (arith, count, some, begins, ends, last, ordered) in l)
   growth_at SelectToIf start (made.Conditional v condition) (room, h) word =
       let read = h.read.tree.ordered in
       let last = h.read.last_is in
@@ -149,7 +152,8 @@ module _ (context : Context) (operators : Operators) (at : ℕ) where
       let one = range_count operators (at - 3) (at - 2) (omega (arith, inside)) in
       let two = range_count operators (at - 1) at (omega (arith, inside)) in
       let three = range_count operators start (at - 4) (omega (arith, inside)) in
-      let first = length-append (slice_range os (at - 3) (at - 2)) (slice_range os (at - 1) at ++ (slice_range os start (at - 4) ++ (op.Instr select_code ∷ []))) in
+      let first = length-append (slice_range os (at - 3) (at - 2)) (slice_range os (at - 1) at
+      ++ (slice_range os start (at - 4) ++ (op.Instr select_code ∷ []))) in
       let second = length-append (slice_range os (at - 1) at) (slice_range os start (at - 4) ++ (op.Instr select_code ∷ [])) in
       let third = length-append (slice_range os start (at - 4)) (op.Instr select_code ∷ []) in
       (let l : length (pieces_operators os (made_pieces start at made.Selected word)) < at + 1 - start =

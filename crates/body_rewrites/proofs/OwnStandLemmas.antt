@@ -11,23 +11,26 @@ use Rattle.wasm_code.specs.declared.operator.Operator.TheVariants.{Instr}
 use Rattle.body_splices.specs.OwnBytes.{without_offsets}
 use Rattle.body_splices.specs.Splice.{IsPieceIn}
 use Rattle.body_splices.specs.Laws.{pieces_operators, KeepsInstructions}
-use Rattle.peephole_machine.specs.Values.{Context}
+use Rattle.wasm_execution.specs.Values.{Context}
 use Rattle.rewrite_rules.specs.declared.pattern.Operator.TheVariants.{Whole}
 use Rattle.rewrite_rules.specs.Access.{left_code, right_code}
 use Rattle.rewrite_rules.specs.Instance.{constant_code, operator_code}
-use Rattle.rewrite_rules.specs.Beside.{StandsWith, BesidesKeepCode, nop_code, drop_code, get_local, set_local, tee_local, get_global, set_global, constants, sum_code}
+use Rattle.rewrite_rules.specs.Beside.{StandsWith, BesidesKeepCode, nop_code, drop_code, get_local, set_local, tee_local, get_global}
+use Rattle.rewrite_rules.specs.Beside.{set_global, constants, sum_code}
 use Rattle.rewrite_rules.specs.declared.table.Own.{Own}
-use Rattle.rewrite_rules.specs.declared.table.Own.TheVariants.{Unfold, ThroughGlobal, WithNop, Fold, Forget, TeeToSet, DropNop, SetToTee, Access as Accesses, Wrap as Wraps, Unwrap as Unwraps}
-use Rattle.rewrite_rules.specs.declared.table.Own.TheVariants.{SelectToIf, IfToSelect, TestCondition, DropConditionTest, DoubleCondition, DropDoubleCondition, PutDead, DropDead}
+use Rattle.rewrite_rules.specs.declared.table.Own.TheVariants.{Unfold, ThroughGlobal, WithNop, Fold, Forget, TeeToSet, DropNop, SetToTee}
+use Rattle.rewrite_rules.specs.declared.table.Own.TheVariants.{Access as Accesses, Wrap as Wraps, Unwrap as Unwraps}
+use Rattle.rewrite_rules.specs.declared.table.Own.TheVariants.{SelectToIf, IfToSelect, TestCondition, DropConditionTest, DoubleCondition}
+use Rattle.rewrite_rules.specs.declared.table.Own.TheVariants.{DropDoubleCondition, PutDead, DropDead}
 use Rattle.rewrite_rules.specs.declared.table.Own.TheVariants.{BoundIndex, DropIndexBound, BrIfToIf, IfToBrIf}
 use Rattle.body_rewrites.specs.declared.own.Made.{Made}
 use Rattle.body_rewrites.specs.declared.own.Made.TheVariants as made
 use Rattle.body_rewrites.specs.Trees.{Stands}
 use Rattle.body_rewrites.specs.Open.{HasInstruction}
 use Rattle.body_rewrites.specs.Matching.{instructions}
-use Rattle.peephole_programs.specs.control.Laws.{ReplacedCodeIsInOnePiece}
-use Rattle.peephole_programs.specs.hosts.EmbedderLaws.{PiecesDo}
-use Rattle.peephole_programs.specs.validation.StaysValid.{ReplacedCodeStaysValid}
+use Rattle.wasm_equivalence.specs.control.Laws.{ReplacedCodeIsInOnePiece}
+use Rattle.wasm_equivalence.specs.hosts.EmbedderLaws.{PiecesDo}
+use Rattle.wasm_equivalence.specs.validation.StaysValid.{ReplacedCodeStaysValid}
 use Rattle.wrapped_code.specs.Laws.{WrappedCodeDoes, UnwrappedCodeDoes}
 use Rattle.wrapped_code.specs.Ways.{PushingCodeIsThere}
 use Rattle.rewrite_rules.specs.Wrap.{WrapsAreRight}
@@ -38,7 +41,8 @@ use Rattle.body_rewrites.proofs.StandsLemmas.{Operators, stands_nothing, stands_
 use Rattle.body_rewrites.proofs.LeavesLemmas.{trees_leave}
 use Rattle.body_rewrites.proofs.ChangedLemmas.{keeps_may_stand}
 use Rattle.body_rewrites.proofs.WrapStandLemmas.{wrap_stands, unwrap_stands}
-use Rattle.body_rewrites.proofs.FlowStandLemmas.{FlowLaws, select_stands, choice_stands, test_stands, double_stands, untest_stands, undouble_stands, put_stands, gone_stands}
+use Rattle.body_rewrites.proofs.FlowStandLemmas.{FlowLaws, select_stands, choice_stands, test_stands, double_stands, untest_stands}
+use Rattle.body_rewrites.proofs.FlowStandLemmas.{undouble_stands, put_stands, gone_stands}
 use Rattle.body_rewrites.proofs.IndexStandLemmas.{bound_stands, unbound_stands}
 use Rattle.body_rewrites.proofs.BranchStandLemmas.{nest_stands, unnest_stands}
 
@@ -235,7 +239,8 @@ module _ (laws : BesidesKeepCode) (context : Context) (operators : Operators) (a
 
 -- ---- each rule
 
-module _ (laws : BesidesKeepCode) (wraps : WrapsAreRight) (wrapped : WrappedCodeDoes) (unwrapped : UnwrappedCodeDoes) (pushing : PushingCodeIsThere) (flow : FlowLaws)
+module _ (laws : BesidesKeepCode) (wraps : WrapsAreRight) (wrapped : WrappedCodeDoes) (unwrapped : UnwrappedCodeDoes) (pushing :
+    PushingCodeIsThere) (flow : FlowLaws)
     (one_piece : ReplacedCodeIsInOnePiece) (valid : ReplacedCodeStaysValid) (do_as : PiecesDo) (context : Context) (operators : Operators) (at : ℕ) where
   abbrev MadeStands : ℕ → Made → Type 0
   MadeStands start m = MayStand context operators at (change_of at (record { start = start; made = m }))

@@ -3,9 +3,9 @@ use Rattle.std.proofs.Common.{◌≡◌, ℕ, zero, suc, ◌+◌, ◌-◌, ◌<�
 use Rattle.std.specs.Prelude.{◌==◌, reverse, slice_get, slice_index_or}
 use Rattle.std.proofs.lemmas.List.{get_or-reverse, length-reverse}
 use Rattle.std.proofs.lemmas.Option.{same_Some, slice_get-get_or}
-use Rattle.peephole_machine.specs.declared.integer.IntegerType.{IntegerType}
+use Rattle.wasm_execution.specs.declared.integer.IntegerType.{IntegerType}
 use Rattle.rewrite_rules.specs.declared.pattern.Part.{Part}
-use Rattle.peephole_machine.specs.declared.operation.Operation.TheVariants as operation
+use Rattle.wasm_execution.specs.declared.operation.Operation.TheVariants as operation
 use Rattle.rewrite_rules.specs.declared.pattern.Number.{Number}
 use Rattle.rewrite_rules.specs.declared.pattern.Operator.TheVariants as operator
 use Rattle.rewrite_rules.specs.declared.pattern.Part.TheVariants.{Hole, Apply}
@@ -59,7 +59,8 @@ reversed_at ps n l =
     ∙ (ap (λ p. Some p) (get_or-reverse ps n (Hole 0) l) ∙ sym (slice_get-get_or ps (length ps - 1 - n) (Hole 0) (omega (arith, l))))
 
 -- the part with the number, from the last one on, is that of its step
-pub part_from_end : (t : IntegerType) (steps : List Step) (count n : ℕ) (d : Step) → count ≡ length (parts_for t steps) → n < length (reverse (parts_for t steps)) →
+pub part_from_end : (t : IntegerType) (steps : List Step) (count n : ℕ) (d : Step) → count ≡ length (parts_for t steps) →
+    n < length (reverse (parts_for t steps)) →
     slice_get (reverse (parts_for t steps)) n ≡ part_for t (slice_index_or steps (count - 1 - n) d)
 part_from_end t steps count n d e l =
     let inside : n < length (parts_for t steps) = omega (arith, length-reverse (parts_for t steps), l) in

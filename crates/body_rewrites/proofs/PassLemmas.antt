@@ -1,7 +1,7 @@
 -- The trees of the operators so far, operator by operator.
 use Rattle.std.proofs.Common.{◌≡◌, ℕ, zero, suc, ◌+◌, List, [], ◌∷◌, ◌++◌, length, Option, Some, refl, sym, ap, ◌∙◌, subst, length-append}
 use Rattle.std.specs.Prelude.{slice_get}
-use Rattle.peephole_machine.specs.Values.{Context}
+use Rattle.wasm_execution.specs.Values.{Context}
 use Rattle.body_rewrites.specs.declared.trees.Tree.{Tree}
 use Rattle.body_rewrites.specs.Trees.{IsTreeAt, AreTrees}
 use Rattle.body_rewrites.specs.Open.{AreTreesBefore}

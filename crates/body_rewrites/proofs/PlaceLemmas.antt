@@ -1,5 +1,6 @@
 -- Where a pattern that is found is a line's place, and that no place is forgotten.
-use Rattle.std.proofs.Common.{◌≡◌, ℕ, zero, suc, ◌+◌, ◌-◌, ◌%◌, ◌^◌, ◌<◌, ◌≤◌, Bool, true, false, List, [], Option, Some, None, refl, sym, ap, ap₂, subst, ◌∙◌, arith}
+use Rattle.std.proofs.Common.{◌≡◌, ℕ, zero, suc, ◌+◌, ◌-◌, ◌%◌, ◌^◌, ◌<◌, ◌≤◌, Bool, true, false, List, [], Option, Some, None, refl, sym}
+use Rattle.std.proofs.Common.{ap, ap₂, subst, ◌∙◌, arith}
 use Rattle.std.specs.Prelude.{◌&&◌, ◌==◌, nat_lt, get_or, length, option_map, reverse, slice_get}
 use Rattle.std.specs.Option.{option_flatten}
 use Rattle.std.proofs.lemmas.Bool.{and_parts}
@@ -7,9 +8,9 @@ use Rattle.std.proofs.lemmas.Option.{slice_get-map, slice_get_past}
 use Rattle.std.proofs.lemmas.List.{get_or_past, reverse-reverse}
 use Rattle.wasm_code.specs.Instruction.{Instruction}
 use Rattle.wasm_types.specs.declared.types.PrimitiveTypeInfo.{PrimitiveTypeInfo}
-use Rattle.peephole_machine.specs.declared.integer.IntegerType.{IntegerType}
+use Rattle.wasm_execution.specs.declared.integer.IntegerType.{IntegerType}
 use mir.Val.{bits}
-use Rattle.peephole_machine.specs.Values.{width_of, Context}
+use Rattle.wasm_execution.specs.Values.{width_of, Context}
 use Rattle.rewrite_rules.specs.declared.order.Effects.{Effects}
 use Rattle.rewrite_rules.specs.declared.pattern.Part.{Part}
 use Rattle.rewrite_rules.specs.declared.table.Step.{Step}
@@ -26,14 +27,15 @@ use Rattle.rewrite_rules.specs.Order.{is_in, effect_at}
 use Rattle.rewrite_rules.specs.Instance.{Applies}
 use Rattle.rewrite_rules.specs.Operands.{IsTypeIn}
 use Rattle.rewrite_rules.specs.Table.{parts_for, conditions_for, SidesAreParts}
-use Rattle.rewrite_rules.specs.Applying.{effects_of, IsFormed, AreFound}
+use Rattle.rewrite_rules.specs.Applying.{effects_of, IsFormed, AreFoundInHoles}
 use Rattle.body_rewrites.specs.declared.places.Line.{Line}
 use Rattle.body_rewrites.specs.declared.places.Place.{Place}
 use Rattle.body_rewrites.specs.Trees.{Stands}
 use Rattle.body_rewrites.specs.Cutting.{AreCut}
 use Rattle.body_rewrites.specs.Matching.{is_own, operand_at, operand_code, slots_told, begin_of, AreAlike, IsMatch, HasSomeMatch, LeftsAreInstances}
 use Rattle.body_rewrites.specs.Operands.{has_hole}
-use Rattle.body_rewrites.specs.Places.{IsLine, meant, IsPlace, IsPlaceOf, left_parts, operands_in, operands_told, place_told, IsKnown, AreKnown}
+use Rattle.body_rewrites.specs.Places.{IsLine, meant, IsPlaceOfLine, IsFoundPlaceOf, left_parts, hole_operands_in, hole_places_told}
+use Rattle.body_rewrites.specs.Places.{place_told, HoleIsKnown, AreKnown}
 use Rattle.body_rewrites.proofs.StandsLemmas.{Operators}
 use Rattle.body_rewrites.proofs.FoundLemmas.{one_cut, code_found, number_found}
 use Rattle.body_rewrites.proofs.LeftRowLemmas.{IsPlainLeft, plain_left, asks_slot, slot_in, hole_some}
@@ -91,7 +93,7 @@ module _ (right : TableIsRight) (holes_are : HolesAreTold) (line : Line) (is : I
       go false e = e
 
   module _ (context : Context) (operators : Operators) (sides : SidesAreParts) (codes : PartsAreTheCode) (end start : ℕ) (y : ℕ → List Instruction)
-      (nums : List ℕ) (p : IsPlace context operators (meant line) start end y nums) where
+      (nums : List ℕ) (p : IsPlaceOfLine context operators (meant line) start end y nums) where
     -- the parts stand there
     cut_so : IsCutSo context operators y (constant_at nums) parts start end
     cut_so =
@@ -143,11 +145,11 @@ module _ (right : TableIsRight) (holes_are : HolesAreTold) (line : Line) (is : I
     -- ---- what is known of what stands there
 
     module _ (types : List (Option PrimitiveTypeInfo)) (effects : List Effects) (known : AreKnown context operators parts starts end types effects) where
-      of_code : (n : ℕ) (b : Bool) (t : Option PrimitiveTypeInfo) (e : Effects) → has_hole parts n ≡ b → IsKnown context (x n) b t e → e ≡ effects_of (x n)
+      of_code : (n : ℕ) (b : Bool) (t : Option PrimitiveTypeInfo) (e : Effects) → has_hole parts n ≡ b → HoleIsKnown context (x n) b t e → e ≡ effects_of (x n)
       of_code n b (Some t) e k (f, g, h) = h
       of_code n b None e k (f, g) = g ∙ sym (ap effects_of (none_elsewhere n (has n ∙ (k ∙ f))))
 
-      typed : (n : ℕ) (b : Bool) (t : Option PrimitiveTypeInfo) (e : Effects) → IsKnown context (x n) b t e → IsTypeIn context (x n) b t
+      typed : (n : ℕ) (b : Bool) (t : Option PrimitiveTypeInfo) (e : Effects) → HoleIsKnown context (x n) b t e → IsTypeIn context (x n) b t
       typed n b (Some t) e (f, g, h) = (f, g)
       typed n b None e (f, g) = f
 
@@ -173,7 +175,7 @@ module _ (right : TableIsRight) (holes_are : HolesAreTold) (line : Line) (is : I
       anywhere (suc (suc zero)) = inside 2 (omega arith)
       anywhere (suc (suc (suc n))) = outside (suc (suc (suc n))) (omega arith)
 
-      pub are_found : (exact : Bool) → exact ≡ context.info.exact → AreFound context x line.row line.width types effects exact
+      pub are_found : (exact : Bool) → exact ≡ context.info.exact → AreFoundInHoles context x line.row line.width types effects exact
       are_found exact is = record {
         types_are = λ n. subst (λ b. IsTypeIn context (x n) b (option_flatten (slice_get types n))) (sym (has n)) (anywhere n).0;
         effects_are = λ n. (anywhere n).1;
@@ -182,8 +184,8 @@ module _ (right : TableIsRight) (holes_are : HolesAreTold) (line : Line) (is : I
 
     -- ---- the place
 
-    same_operands : (n : ℕ) → x n ≡ operands_in operators
-        (operands_told parts starts end) n
+    same_operands : (n : ℕ) → x n ≡ hole_operands_in operators
+        (hole_places_told parts starts end) n
     same_operands zero = refl
     same_operands (suc zero) = refl
     same_operands (suc (suc zero)) = refl
@@ -191,9 +193,9 @@ module _ (right : TableIsRight) (holes_are : HolesAreTold) (line : Line) (is : I
 
     place_at : LeftsAreInstances → end ≤ length operators → (numbers : List ℕ) → IsMatch context operators parts starts end x numbers →
         Applies context (meant line) x (constant_at numbers) →
-        IsPlace context operators (meant line) (begin_of starts end) end (operands_in operators (operands_told parts starts end)) numbers
+        IsPlaceOfLine context operators (meant line) (begin_of starts end) end (hole_operands_in operators (hole_places_told parts starts end)) numbers
     place_at lefts l numbers match applies =
-        let there : IsPlace context operators (meant line) (begin_of starts end) end x numbers =
+        let there : IsPlaceOfLine context operators (meant line) (begin_of starts end) end x numbers =
         record {
           ordered = begins_before context operators parts starts end cut;
           inside = l;
@@ -202,13 +204,13 @@ module _ (right : TableIsRight) (holes_are : HolesAreTold) (line : Line) (is : I
           elsewhere = none_elsewhere;
           applies = applies;
         } in
-        subst (λ z. IsPlace context operators (meant line) (begin_of starts end) end z numbers) (λ i. λ n. same_operands n i) there
+        subst (λ z. IsPlaceOfLine context operators (meant line) (begin_of starts end) end z numbers) (λ i. λ n. same_operands n i) there
 
     pub is_place : LeftsAreInstances → end ≤ length operators → (place : Place) → place ≡ place_told operators parts starts end →
         IsMatch context operators parts starts end x place.numbers → Applies context (meant line) x (constant_at place.numbers) →
-        IsPlaceOf context operators line end place
+        IsFoundPlaceOf context operators line end place
     is_place lefts l place told match applies = record {
-      is = subst (λ (p : Place). IsPlace context operators (meant line) p.start end (operands_in operators p.operands) p.numbers) (sym told)
+      is = subst (λ (p : Place). IsPlaceOfLine context operators (meant line) p.start end (hole_operands_in operators p.operands) p.numbers) (sym told)
           (place_at lefts l (place_told operators parts starts end).numbers
           (subst (λ (p : Place). IsMatch context operators parts starts end x p.numbers) told match)
           (subst (λ (p : Place). Applies context (meant line) x (constant_at p.numbers)) told applies));
@@ -222,25 +224,25 @@ module _ (right : TableIsRight) (holes_are : HolesAreTold) (line : Line) (is : I
 
 -- ---- of what is found
 
-pub one_place_of : (context : Context) (operators : Operators) (line : Line) (end : ℕ) (p q : Place) → IsPlaceOf context operators line end p →
-    IsPlaceOf context operators line end q → p ≡ q
+pub one_place_of : (context : Context) (operators : Operators) (line : Line) (end : ℕ) (p q : Place) → IsFoundPlaceOf context operators line end p →
+    IsFoundPlaceOf context operators line end q → p ≡ q
 one_place_of context operators line end p q a b =
     a.place_is
     ∙ (ap (λ ks. place_told operators (left_parts line) ks end) (one_cut context operators (left_parts line) a.starts b.starts end a.cut b.cut)
     ∙ sym b.place_is)
 
 pub operand_found : TableIsRight → HolesAreTold → (context : Context) (operators : Operators) (line : Line) (end : ℕ) (place : Place) → IsLine line →
-    IsPlaceOf context operators line end place → (n : ℕ) → is_in (holes (meant line).left) n ≡ true →
-    StandsIn operators end (get_or place.operands n (0, 0)) (operands_in operators place.operands n)
+    IsFoundPlaceOf context operators line end place → (n : ℕ) → is_in (holes (meant line).left) n ≡ true →
+    StandsIn operators end (get_or place.operands n (0, 0)) (hole_operands_in operators place.operands n)
 operand_found right holes_are context operators line end place is found n e =
-    subst (λ (p : Place). StandsIn operators end (get_or p.operands n (0, 0)) (operands_in operators p.operands n)) (sym found.place_is)
-    (subst (λ p. StandsIn operators end p (operands_in operators (operands_told (left_parts line) found.starts end) n)) (at n e)
+    subst (λ (p : Place). StandsIn operators end (get_or p.operands n (0, 0)) (hole_operands_in operators p.operands n)) (sym found.place_is)
+    (subst (λ p. StandsIn operators end p (hole_operands_in operators (hole_places_told (left_parts line) found.starts end) n)) (at n e)
     (subst (StandsIn operators end (operand_at (left_parts line) found.starts end n)) (same n)
     (operand_stands context operators n (left_parts line) found.starts end
     (sym (has right holes_are line is (left_parts line) (reverse-reverse (parts_for line.width line.row.left)) n) ∙ e) found.cut)))
   where
     at : (n : ℕ) → is_in (holes (meant line).left) n ≡ true →
-        operand_at (left_parts line) found.starts end n ≡ get_or (operands_told (left_parts line) found.starts end) n (0, 0)
+        operand_at (left_parts line) found.starts end n ≡ get_or (hole_places_told (left_parts line) found.starts end) n (0, 0)
     at zero e = refl
     at (suc zero) e = refl
     at (suc (suc zero)) e = refl
@@ -249,12 +251,12 @@ operand_found right holes_are context operators line end place is found n e =
         absurd (omega arith)
 
     same : (n : ℕ) → operand_code operators (left_parts line) found.starts end n ≡
-        operands_in operators (operands_told (left_parts line) found.starts end) n
+        hole_operands_in operators (hole_places_told (left_parts line) found.starts end) n
     same n =
         same_operands right holes_are line is (left_parts line) (reverse-reverse (parts_for line.width line.row.left)) context operators found.starts end
         found.cut n
 
 pub told_is : (operators : Operators) (parts : List Part) (starts : List ℕ) (end start : ℕ) (operands : List (ℕ × ℕ)) (numbers : List ℕ) →
-    start ≡ begin_of starts end → operands ≡ operands_told parts starts end → numbers ≡ slots_told operators parts starts →
+    start ≡ begin_of starts end → operands ≡ hole_places_told parts starts end → numbers ≡ slots_told operators parts starts →
     ◌≡◌ {A = Place} (record { start = start; operands = operands; numbers = numbers }) (place_told operators parts starts end)
 told_is operators parts starts end start operands numbers a b c = λ i. record { start = a i; operands = b i; numbers = c i }

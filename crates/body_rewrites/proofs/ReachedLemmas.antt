@@ -1,12 +1,13 @@
 -- Which operators of a body rules reach.
-use Rattle.std.proofs.Common.{◌≡◌, ℕ, zero, suc, ◌+◌, ◌<◌, ◌⊎◌, inl, inr, Bool, true, false, List, [], ◌∷◌, ◌++◌, length, map, Some, refl, sym, ap, subst, ◌∙◌, arith, length-append}
+use Rattle.std.proofs.Common.{◌≡◌, ℕ, zero, suc, ◌+◌, ◌<◌, ◌⊎◌, inl, inr, Bool, true, false, List, [], ◌∷◌, ◌++◌, length, map, Some, refl}
+use Rattle.std.proofs.Common.{sym, ap, subst, ◌∙◌, arith, length-append}
 use Rattle.std.specs.Prelude.{Contains, slice_get, if◌then◌else◌}
 use Rattle.std.proofs.lemmas.Bool.{cases_eq, false≢true}
 use Rattle.std.proofs.lemmas.List.Elements.{Contains-append_cases}
 use Rattle.std.proofs.lemmas.Option.{same_Some, slice_get_within}
 use Rattle.wasm_code.specs.declared.operator.Operator.{Operator}
-use Rattle.peephole_machine.specs.declared.integer.IntegerType.{IntegerType}
-use Rattle.peephole_machine.specs.Values.{Context}
+use Rattle.wasm_execution.specs.declared.integer.IntegerType.{IntegerType}
+use Rattle.wasm_execution.specs.Values.{Context}
 use Rattle.rewrite_rules.specs.declared.rule.Rule.{Rule}
 use Rattle.rewrite_rules.specs.declared.table.Row.{Row}
 use Rattle.rewrite_rules.specs.Table.{ROWS}
@@ -15,7 +16,7 @@ use Rattle.body_rewrites.specs.declared.growth.Growth.{Growth}
 use Rattle.body_rewrites.specs.declared.rewrite.Rewrite.{Rewrite}
 use Rattle.body_rewrites.specs.Rewrites.{IsMade, asked_widths, by_rows}
 use Rattle.body_rewrites.specs.Listing.{IsWantedBy, OneChange, AreFound, AreRules, found_as, is_wanted}
-use Rattle.body_rewrites.specs.Reached.{IsReached, IsMarked, AreReachedBelow, has_wanted}
+use Rattle.body_rewrites.specs.Reached.{IsReached, OperatorIsMarked, AreReachedBelow, has_wanted}
 use Rattle.body_rewrites.specs.ThoseLemmas.{head_contained, tail_contained, contained_cases}
 use Rattle.body_rewrites.proofs.ListingLemmas.{is_wanted_to, is_wanted_from}
 use Rattle.body_rewrites.proofs.HasWordsLemmas.{made_is_here}
@@ -53,7 +54,8 @@ module _ (context : Context) (operators : List (Operator × ℕ)) (rows : List �
   found_first : (f : Found) (fs : List Found) → is_wanted rows rules wanted f ≡ true → has_wanted rows rules wanted (f ∷ fs) ≡ true
   found_first f fs e = ap (λ c. if c then true else has_wanted rows rules wanted fs) e
 
-  found_later : (f : Found) (fs : List Found) (b : Bool) → is_wanted rows rules wanted f ≡ b → has_wanted rows rules wanted fs ≡ true → has_wanted rows rules wanted (f ∷ fs) ≡ true
+  found_later : (f : Found) (fs : List Found) (b : Bool) → is_wanted rows rules wanted f ≡ b → has_wanted rows rules wanted fs ≡ true →
+      has_wanted rows rules wanted (f ∷ fs) ≡ true
   found_later f fs true e h = found_first f fs e
   found_later f fs false e h = ap (λ c. if c then true else has_wanted rows rules wanted fs) e ∙ h
 
@@ -73,7 +75,8 @@ module _ (context : Context) (operators : List (Operator × ℕ)) (rows : List �
   has_from (x ∷ items) found (inl (kind, has, rest, e, more)) r c by =
       ap (has_wanted rows rules wanted) e ∙ elim (contained_cases x items r c) [
         | inl same ↦ found_first (found_as x kind) rest
-            (is_wanted_from context operators rows are rules wanted law x kind has (subst (λ (y : Rewrite). IsWantedBy context operators rules wanted y) (sym same) by))
+            (is_wanted_from context operators rows are rules wanted law x kind has
+            (subst (λ (y : Rewrite). IsWantedBy context operators rules wanted y) (sym same) by))
         | inr d ↦ found_later (found_as x kind) rest (is_wanted rows rules wanted (found_as x kind)) refl (has_from items rest more r d by)
       ]
   has_from (x ∷ items) found (inr (never, more)) r c by = elim (contained_cases x items r c) [
@@ -100,17 +103,24 @@ module _ (context : Context) (operators : List (Operator × ℕ)) (rows : List �
   get_last (x ∷ xs) b (suc n) e t = get_last xs b n (omega arith) t
 
   module _ (at : ℕ) (inside : at < length operators) (found : List Found) (here : AreFound context operators (by_rows at 0 ROWS) found)
-      (marks new : List Bool) (next : new ≡ marks ++ has_wanted rows rules wanted found ∷ []) (before : AreReachedBelow context operators rules wanted at marks) where
-    marked_to : (n : ℕ) → n < at + 1 → IsMarked new n → IsReached context operators rules wanted n
+      (marks new : List Bool) (next : new ≡ marks ++ has_wanted rows rules wanted found ∷ []) (before :
+      AreReachedBelow context operators rules wanted at marks) where
+    marked_to : (n : ℕ) → n < at + 1 → OperatorIsMarked new n → IsReached context operators rules wanted n
     marked_to n l m = elim (get_cases marks (has_wanted rows rules wanted found) n (ap (λ zs. slice_get zs n) (sym next) ∙ m)) [
       | inl early ↦ (let less = slice_get_within marks n true early in (before.each n (let e = before.count in omega arith)).0 early)
       | inr (e, by) ↦
           let (r, among, is) = has_to (by_rows at 0 ROWS) found here by in
           let same : n ≡ at = e ∙ before.count in
-          record { inside = subst (λ k. k < length operators) (sym same) inside; rewrite = r; at_is = its_operator at 0 ROWS r among ∙ sym same; is_wanted = is }
+          record {
+            inside = subst (λ k. k < length operators) (sym same) inside;
+            rewrite = r;
+            at_is =
+                its_operator at 0 ROWS r among ∙ sym same;
+            is_wanted = is;
+          }
     ]
 
-    marked_from : (n : ℕ) → n < at + 1 → IsReached context operators rules wanted n → IsMarked new n
+    marked_from : (n : ℕ) → n < at + 1 → IsReached context operators rules wanted n → OperatorIsMarked new n
     marked_from n l h = ap (λ zs. slice_get zs n) next ∙ elim (cases_eq n at) [
       | inr other ↦
           let early : n < at = omega (arith, l, other) in

@@ -8,14 +8,16 @@ use Rattle.wasm_code.specs.declared.operator.Operator.{Operator}
 use Rattle.wasm_types.specs.declared.types.PrimitiveTypeInfo.{PrimitiveTypeInfo}
 use Rattle.wasm_types.specs.declared.types.PrimitiveTypeInfo.TheVariants as primitive
 use Rattle.body_splices.specs.OwnBytes.{without_offsets}
-use Rattle.peephole_machine.specs.declared.integer.IntegerType.TheVariants as integer
-use Rattle.peephole_machine.specs.Values.{Context}
+use Rattle.wasm_execution.specs.declared.integer.IntegerType.TheVariants as integer
+use Rattle.wasm_execution.specs.Values.{Context}
 use Rattle.rewrite_rules.specs.declared.pattern.Part.{Part}
 use Rattle.rewrite_rules.specs.declared.pattern.Part.TheVariants.{Hole, Constant, Drawn, Apply}
 use Rattle.rewrite_rules.specs.declared.pattern.Operator.TheVariants.{Whole}
 use Rattle.rewrite_rules.specs.declared.table.Own as own_rules
-use Rattle.rewrite_rules.specs.declared.table.Own.TheVariants.{Unfold, ThroughGlobal, WithNop, Fold, Forget, TeeToSet, DropNop, SetToTee, Access as Accesses, Wrap as Wraps, Unwrap as Unwraps}
-use Rattle.rewrite_rules.specs.declared.table.Own.TheVariants.{SelectToIf, IfToSelect, TestCondition, DropConditionTest, DoubleCondition, DropDoubleCondition, PutDead, DropDead}
+use Rattle.rewrite_rules.specs.declared.table.Own.TheVariants.{Unfold, ThroughGlobal, WithNop, Fold, Forget, TeeToSet, DropNop, SetToTee}
+use Rattle.rewrite_rules.specs.declared.table.Own.TheVariants.{Access as Accesses, Wrap as Wraps, Unwrap as Unwraps}
+use Rattle.rewrite_rules.specs.declared.table.Own.TheVariants.{SelectToIf, IfToSelect, TestCondition, DropConditionTest, DoubleCondition}
+use Rattle.rewrite_rules.specs.declared.table.Own.TheVariants.{DropDoubleCondition, PutDead, DropDead}
 use Rattle.rewrite_rules.specs.declared.table.Own.TheVariants.{BoundIndex, DropIndexBound, BrIfToIf, IfToBrIf}
 use Rattle.rewrite_rules.specs.declared.table.Widths.{Widths}
 use Rattle.rewrite_rules.specs.declared.table.Widths.TheVariants.{Both, Only, Any, Operands, Own}
@@ -42,7 +44,8 @@ use Rattle.body_rewrites.specs.Rewrites.{MakesBy, Makes, IsLineChange}
 use Rattle.body_rewrites.specs.declared.asked.Asked.{Asked}
 use Rattle.body_rewrites.specs.declared.here.Here.{Here}
 use Rattle.body_rewrites.specs.Asking.{IsAskedSo, IsHere}
-use Rattle.body_rewrites.specs.Roots.{class_of, class_in, class_told, IsClassAt, one_row, part_root, first_root, side_root, access_root, own_root, root_by, root_of, HasRoot, fits}
+use Rattle.body_rewrites.specs.Roots.{class_of, class_in, class_told, IsClassAt, one_row, part_root, first_root, side_root, access_root}
+use Rattle.body_rewrites.specs.Roots.{own_root, root_by, root_of, HasRoot, fits}
 use Rattle.body_rewrites.specs.Trees.{IsTree}
 use Rattle.body_rewrites.proofs.AccessLemmas.{access_start}
 use Rattle.body_rewrites.proofs.OwnAccessLemmas.{they_stand_from}

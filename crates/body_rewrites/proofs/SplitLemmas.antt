@@ -1,5 +1,6 @@
 -- Where the code of a pattern's parts stands, with trees in its holes, the parts stand.
-use Rattle.std.proofs.Common.{◌≡◌, ℕ, suc, ◌+◌, ◌-◌, ◌<◌, ◌≤◌, Bool, true, false, List, [], ◌∷◌, ◌++◌, length, map, take, drop, Some, refl, sym, ap, subst, ◌∙◌, arith}
+use Rattle.std.proofs.Common.{◌≡◌, ℕ, suc, ◌+◌, ◌-◌, ◌<◌, ◌≤◌, Bool, true, false, List, [], ◌∷◌, ◌++◌, length, map, take, drop, Some, refl}
+use Rattle.std.proofs.Common.{sym, ap, subst, ◌∙◌, arith}
 use Rattle.std.specs.Prelude.{◌||◌, reverse, slice_get, slice_range}
 use Rattle.std.proofs.Math.Nat.{mod-lt, mod-mod}
 use Rattle.std.proofs.Math.Seq.{take-append_seam, drop-append_seam}
@@ -11,7 +12,7 @@ use Rattle.wasm_code.specs.declared.operator.Operator.{Operator}
 use Rattle.wasm_code.specs.declared.operator.Operator.TheVariants.{Instr}
 use Rattle.wasm_types.specs.declared.types.PrimitiveTypeInfo.{PrimitiveTypeInfo}
 use mir.Val.{bits}
-use Rattle.peephole_machine.specs.Values.{width_of, Context}
+use Rattle.wasm_execution.specs.Values.{width_of, Context}
 use Rattle.rewrite_rules.specs.declared.pattern.Part.{Part}
 use Rattle.rewrite_rules.specs.declared.pattern.Part.TheVariants.{Hole, Constant, Drawn, Apply}
 use Rattle.rewrite_rules.specs.Numbers.{number_of, low}
@@ -141,7 +142,8 @@ module _ (context : Context) (operators : Operators) (x : ℕ → List Instructi
       let (this, others) = neither (is_drawn p) (some_is is_drawn ps) plain in
       let two = split operators start end (parts_code x c [] (reverse ps)) (part_code x c [] p) o l
       (subst (Stands operators start end) (ap (parts_code x c []) (reverse-append (p ∷ []) ps) ∙ one_last x c (reverse ps) p) h) in
-      let rest = cut_of ps start two.at (omega (arith, two.behind, l)) two.before others (λ n e. trees n (or_second (is_hole p n) (has_hole ps n) e)) two.front in
+      let rest = cut_of ps start two.at (omega (arith, two.behind, l)) two.before others (λ n e. trees n (or_second (is_hole p n) (has_hole ps n) e))
+      two.front in
       record {
         starts = two.at ∷ rest.starts;
         cut = (part_there p two.at end l two.behind this (λ n e. trees n (or_first (is_hole p n) (has_hole ps n) e)) two.back, rest.cut);

@@ -1,5 +1,6 @@
 -- Code that stands in a body, with one operator more, and its types and effects.
-use Rattle.std.proofs.Common.{◌≡◌, ℕ, zero, suc, ◌+◌, ◌-◌, ◌≤◌, Bool, true, false, List, [], ◌∷◌, ◌++◌, length, map, take, drop, Option, Some, None, refl, sym, ap, ap₂, ◌∙◌, arith}
+use Rattle.std.proofs.Common.{◌≡◌, ℕ, zero, suc, ◌+◌, ◌-◌, ◌≤◌, Bool, true, false, List, [], ◌∷◌, ◌++◌, length, map, take, drop, Option}
+use Rattle.std.proofs.Common.{Some, None, refl, sym, ap, ap₂, ◌∙◌, arith}
 use Rattle.std.specs.Prelude.{◌||◌, nat_le, if◌then◌else◌, option_map, option_and_then, slice_get, slice_range}
 use Rattle.std.proofs.lemmas.Bool.{le-leb, leb-true}
 use Rattle.std.proofs.lemmas.List.{map-append, drop-drop}
@@ -8,10 +9,10 @@ use Rattle.wasm_code.specs.Instruction.{Instruction}
 use Rattle.wasm_code.specs.declared.operator.Operator.{Operator}
 use Rattle.wasm_code.specs.declared.operator.Operator.TheVariants.{Instr}
 use Rattle.wasm_types.specs.declared.types.PrimitiveTypeInfo.{PrimitiveTypeInfo}
-use Rattle.peephole_machine.specs.Values.{Context}
-use Rattle.peephole_machine.specs.IntegerRow.{integer_row, is_other}
-use Rattle.peephole_machine.specs.Row.{instruction_types, instruction_count}
-use Rattle.peephole_machine.specs.RowLemmas.{map_some}
+use Rattle.wasm_execution.specs.Values.{Context}
+use Rattle.wasm_execution.specs.IntegerRow.{integer_row, is_other}
+use Rattle.wasm_execution.specs.Row.{instruction_types, instruction_count}
+use Rattle.wasm_execution.specs.RowLemmas.{map_some}
 use Rattle.rewrite_rules.specs.Code.{row_writes, writes, instruction_traps, traps, asks}
 use Rattle.body_rewrites.specs.Trees.{one_type, tree_behind, tree_after, Stands}
 use Rattle.body_rewrites.specs.Open.{HasInstruction}

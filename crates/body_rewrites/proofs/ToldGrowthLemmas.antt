@@ -1,5 +1,6 @@
 -- What is told of a row's size is so of its rewrites.
-use Rattle.std.proofs.Common.{◌≡◌, ◌⊎◌, inl, inr, ℕ, ◌+◌, ◌-◌, ◌<◌, ◌≤◌, Bool, true, false, List, [], ◌∷◌, ◌++◌, length, drop, Option, Some, None, refl, sym, ap, subst, ◌∙◌, arith}
+use Rattle.std.proofs.Common.{◌≡◌, ◌⊎◌, inl, inr, ℕ, ◌+◌, ◌-◌, ◌<◌, ◌≤◌, Bool, true, false, List, [], ◌∷◌, ◌++◌, length, drop, Option, Some}
+use Rattle.std.proofs.Common.{None, refl, sym, ap, subst, ◌∙◌, arith}
 use Rattle.std.specs.Prelude.{◌==◌, ◌&&◌, if◌then◌else◌, option_and_then, option_map, slice_get, slice_range}
 use Rattle.std.proofs.lemmas.Bool.{and_parts, cases_lt, eq-eqb, eqb-true, le-ltb, lt-ltb}
 use Rattle.std.proofs.lemmas.List.{length-append, length-map}
@@ -8,8 +9,8 @@ use Rattle.wasm_code.specs.Instruction.{Instruction}
 use Rattle.wasm_code.specs.declared.operator.Operator.TheVariants.{Instr}
 use Rattle.body_splices.specs.OwnBytes.{without_offsets}
 use Rattle.body_splices.specs.Laws.{pieces_operators}
-use Rattle.peephole_machine.specs.declared.integer.IntegerType.TheVariants as integer
-use Rattle.peephole_machine.specs.Values.{Context}
+use Rattle.wasm_execution.specs.declared.integer.IntegerType.TheVariants as integer
+use Rattle.wasm_execution.specs.Values.{Context}
 use Rattle.rewrite_rules.specs.declared.growth.Growth as told
 use Rattle.rewrite_rules.specs.declared.growth.Growth.TheVariants as rows
 use Rattle.rewrite_rules.specs.declared.table.Own.{Own}
@@ -39,7 +40,7 @@ use Rattle.body_rewrites.specs.Listing.{HasGrowth}
 use Rattle.body_rewrites.specs.Growth.{IsGrowth}
 use Rattle.body_rewrites.specs.Own.{Rewrites, made_pieces}
 use Rattle.body_rewrites.specs.OwnSites.{in_bodies}
-use Rattle.body_rewrites.specs.Places.{IsLine, IsPlaceOf, IsTreeCode, meant, operands_in}
+use Rattle.body_rewrites.specs.Places.{IsLine, IsFoundPlaceOf, IsTreeCode, meant, hole_operands_in}
 use Rattle.body_rewrites.specs.Rewrites.{IsLineChange, IsMadeBy, MakesBy, growth_of}
 use Rattle.body_rewrites.specs.Rewrites as bodies
 use Rattle.body_rewrites.specs.ToldGrowth.{IsAsTold}
@@ -198,7 +199,7 @@ module _ (x : ℕ → List Instruction) (l r : ℕ) (left right : List ℕ) (old
       let h = left_is x right left [] t.0 in
       omega (arith, old_is, new_is, h.0, t.1)
 
-  as_told : (told : told.Growth) → AllSome x left → shown told ≡ growth_by l r (left_over right left) → IsAsTold told (bodies.growth_by old new)
+  as_told : (told : told.Growth) → AllSome x left → shown told ≡ growth_by l r (left_over right left) → IsAsTold told (bodies.growth_by_sizes old new)
   as_told rows.Shrinks all e = sym (counted.shrinks old new (are_fewer all e))
   as_told rows.Keeps all e = sym (counted.keeps old new (are_as_many e))
   as_told rows.Grows all e = tt
@@ -206,18 +207,18 @@ module _ (x : ℕ → List Instruction) (l r : ℕ) (left right : List ℕ) (old
 -- ---- by a line
 
 module _ (right : TableIsRight) (holes_are : HolesAreTold) (sides : SidesAreParts) (codes : PartsAreTheCode) (besides : BesidesKeepCode) (context : Context)
-    (operators : Operators) (line : Line) (at : ℕ) (place : Place) (is : IsLine line) (found : IsPlaceOf context operators line (at + 1) place) where
+    (operators : Operators) (line : Line) (at : ℕ) (place : Place) (is : IsLine line) (found : IsFoundPlaceOf context operators line (at + 1) place) where
   old_size : at + 1 - place.start
-      ≡ own_size (meant line).left + in_holes (operands_in operators place.operands) (holes (meant line).left)
+      ≡ own_size (meant line).left + in_holes (hole_operands_in operators place.operands) (holes (meant line).left)
   old_size =
-      let code = code_of (operands_in operators place.operands) (constant_at place.numbers) [] (meant line).left in
+      let code = code_of (hole_operands_in operators place.operands) (constant_at place.numbers) [] (meant line).left in
       sym (count_is operators place.start (at + 1) code found.is.inside found.is.stands)
-      ∙ code_size (operands_in operators place.operands) (constant_at place.numbers) [] (meant line).left
+      ∙ code_size (hole_operands_in operators place.operands) (constant_at place.numbers) [] (meant line).left
 
   new_size : (word : ℕ) → length (pieces_operators (without_offsets operators) ((by_line line place).pieces word))
-      ≡ own_size (meant line).right + in_holes (operands_in operators place.operands) (holes (meant line).right)
+      ≡ own_size (meant line).right + in_holes (hole_operands_in operators place.operands) (holes (meant line).right)
   new_size word =
-      let x = operands_in operators place.operands in
+      let x = hole_operands_in operators place.operands in
       let c = constant_at place.numbers in
       let parts = parts_for line.width line.row.right in
       ap length (pieces_are operators (at + 1) place.operands x c (word ∷ []) parts
@@ -229,9 +230,9 @@ module _ (right : TableIsRight) (holes_are : HolesAreTold) (sides : SidesArePart
 
   line_as_told : (told : told.Growth) → GrowsAs line.row told → IsAsTold told (growth_of operators at (by_line line place))
   line_as_told told h =
-      as_told (operands_in operators place.operands) (own_size (meant line).left) (own_size (meant line).right) (holes (meant line).left)
+      as_told (hole_operands_in operators place.operands) (own_size (meant line).left) (own_size (meant line).right) (holes (meant line).left)
       (holes (meant line).right) (at + 1 - place.start) (length (pieces_operators (without_offsets operators) ((by_line line place).pieces 0))) old_size
-      (new_size 0) told (all_some context (operands_in operators place.operands) (holes (meant line).left) found.is.trees)
+      (new_size 0) told (all_some context (hole_operands_in operators place.operands) (holes (meant line).left) found.is.trees)
       (h.of_lines is.place line.width is.width_is (formed right line is))
 
 -- ---- by a rule beside the table
@@ -296,7 +297,7 @@ module _ (context : Context) (operators : Operators) (at start : ℕ) where
   as_many own m h e = absurd h
 
   own_as_told : (own : Own) (m : Made) (told : told.Growth) → Rewrites context operators own start at m → told ≡ own_growth own →
-      IsAsTold told (bodies.growth_by (at + 1 - start) (length (pieces_operators (without_offsets operators) (made_pieces start at m 0))))
+      IsAsTold told (bodies.growth_by_sizes (at + 1 - start) (length (pieces_operators (without_offsets operators) (made_pieces start at m 0))))
   own_as_told own m rows.Shrinks h e =
       sym (counted.shrinks (at + 1 - start) (length (pieces_operators (without_offsets operators) (made_pieces start at m 0))) (fewer own m h (sym e)))
   own_as_told own m rows.Keeps h e =
@@ -350,7 +351,8 @@ own_word operators start at (made.Global t g) word = refl
 own_word operators start at (made.SetAndGet n) word = refl
 own_word operators start at (made.Tee n) word = refl
 own_word operators start at (made.Access a w) word = refl
-own_word operators start at (made.Wrapped w t) word = wrapped_sizes (without_offsets operators) start at w t word ∙ sym (wrapped_sizes (without_offsets operators) start at w t 0)
+own_word operators start at (made.Wrapped w t) word = wrapped_sizes (without_offsets operators) start at w t word
+    ∙ sym (wrapped_sizes (without_offsets operators) start at w t 0)
 own_word operators start at (made.Inner from end) word = refl
 own_word operators start at (made.Conditional v condition) word = refl
 own_word operators start at made.Selected word = refl

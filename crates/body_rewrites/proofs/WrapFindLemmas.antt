@@ -1,5 +1,6 @@
 -- Where trees are wrapped, and where they are found wrapped.
-use Rattle.std.proofs.Common.{◌≡◌, ℕ, zero, suc, ◌+◌, ◌-◌, ◌<◌, ◌≤◌, List, [], ◌∷◌, ◌++◌, length, map, take, drop, get_or, append_assoc, IsTrue, Option, Some, None, refl, sym, ap, ap₂, subst, ◌∙◌, arith}
+use Rattle.std.proofs.Common.{◌≡◌, ℕ, zero, suc, ◌+◌, ◌-◌, ◌<◌, ◌≤◌, List, [], ◌∷◌, ◌++◌, length, map, take, drop, get_or, append_assoc}
+use Rattle.std.proofs.Common.{IsTrue, Option, Some, None, refl, sym, ap, ap₂, subst, ◌∙◌, arith}
 use Rattle.std.specs.Prelude.{nat_lt, slice_get}
 use Rattle.std.proofs.lemmas.Bool.{lt-ltb, ltb-true}
 use Rattle.std.proofs.lemmas.List.{map-append, take_more}
@@ -8,12 +9,12 @@ use Rattle.wasm_code.specs.Instruction.{Instruction}
 use Rattle.wasm_code.specs.declared.operator.Operator.TheVariants.{Instr}
 use Rattle.body_splices.specs.declared.piece.Piece.{Piece}
 use Rattle.body_splices.specs.OwnBytes.{without_offsets}
-use Rattle.peephole_machine.specs.declared.integer.IntegerType.TheVariants as integer
+use Rattle.wasm_execution.specs.declared.integer.IntegerType.TheVariants as integer
 use Rattle.rewrite_rules.specs.declared.wrap.WrapItem.TheVariants as item
 use Rattle.wasm_code.specs.declared.immediate.ValType.{ValType}
 use Rattle.wasm_code.specs.declared.operator.Operator.{Operator}
 use Rattle.wasm_types.specs.declared.types.PrimitiveTypeInfo.{PrimitiveTypeInfo}
-use Rattle.peephole_machine.specs.Values.{Context}
+use Rattle.wasm_execution.specs.Values.{Context}
 use Rattle.rewrite_rules.specs.declared.table.Own.TheVariants.{Wrap as Wraps, Unwrap as Unwraps}
 use Rattle.rewrite_rules.specs.declared.wrap.Wrap.{Wrap}
 use Rattle.rewrite_rules.specs.declared.wrap.WrapItem.{WrapItem}
@@ -22,7 +23,7 @@ use Rattle.body_rewrites.specs.declared.own.Made.{Made}
 use Rattle.body_rewrites.specs.declared.own.Made.TheVariants as made
 use Rattle.body_rewrites.specs.declared.trees.Tree.{Tree}
 use Rattle.body_rewrites.specs.Trees.{IsTree, HasTree}
-use Rattle.body_rewrites.specs.Blocks.{HasRoom}
+use Rattle.body_rewrites.specs.Blocks.{HasRoomForBlock}
 use Rattle.body_rewrites.specs.Own.{IsWrapped, HasItem, HaveItems, Rewrites, item_piece, item_pieces}
 use Rattle.body_rewrites.specs.OwnSites.{IsConstantOperator, IsWrapRound}
 use Rattle.body_rewrites.proofs.StandsLemmas.{Operators}
@@ -42,7 +43,7 @@ not_none v e = absurd cc
 -- ---- what is put round
 
 module _ (context : Context) (operators : Operators) (w : Wrap) where
-  pub no_room : (at : ℕ) → (HasRoom operators → ⊥) → (start : ℕ) (m : Made) → Rewrites context operators (Wraps w) start at m → ⊥
+  pub no_room : (at : ℕ) → (HasRoomForBlock operators → ⊥) → (start : ℕ) (m : Made) → Rewrites context operators (Wraps w) start at m → ⊥
   no_room at none start (made.Wrapped v t) (e, room, u, n, tree) = none room
   no_room at none start m r = r
 

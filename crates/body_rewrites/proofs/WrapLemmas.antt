@@ -1,5 +1,6 @@
 -- Operators of wrapped code: as pieces, and where they stand in a body.
-use Rattle.std.proofs.Common.{◌≡◌, ℕ, zero, suc, ◌+◌, ◌-◌, ◌%◌, ◌^◌, ◌<◌, ◌≤◌, ◌&&◌, not, Bool, false, List, [], ◌∷◌, ◌++◌, length, take, drop, Some, refl, sym, ap, ap₂, subst, ◌∙◌, arith, append_assoc, append-nil}
+use Rattle.std.proofs.Common.{◌≡◌, ℕ, zero, suc, ◌+◌, ◌-◌, ◌%◌, ◌^◌, ◌<◌, ◌≤◌, ◌&&◌, not, Bool, false, List, [], ◌∷◌, ◌++◌, length, take}
+use Rattle.std.proofs.Common.{drop, Some, refl, sym, ap, ap₂, subst, ◌∙◌, arith, append_assoc, append-nil}
 use Rattle.std.specs.Prelude.{slice_get, slice_range}
 use Rattle.std.specs.List.{All}
 use Rattle.std.proofs.Math.Nat.{mod-lt, mod-mod}
@@ -14,8 +15,8 @@ use Rattle.body_splices.specs.declared.piece.Piece.TheVariants.{Kept}
 use Rattle.body_splices.specs.OwnBytes.{none_of, without_offsets}
 use Rattle.body_splices.specs.Splice.{IsPieceIn}
 use Rattle.body_splices.specs.Laws.{piece_operators, pieces_operators}
-use Rattle.peephole_machine.specs.declared.integer.IntegerType.TheVariants as integer
-use Rattle.peephole_programs.specs.control.Standard.{asks_beyond}
+use Rattle.wasm_execution.specs.declared.integer.IntegerType.TheVariants as integer
+use Rattle.wasm_equivalence.specs.control.Standard.{asks_beyond}
 use Rattle.rewrite_rules.specs.declared.wrap.Wrap.{Wrap}
 use Rattle.rewrite_rules.specs.declared.wrap.Wrap.TheVariants.{InBlock, InLoop, InIf, InElse, LeaveBlock, LeaveOver, LeaveDead, MayLeave, SurelyLeave, Once}
 use Rattle.rewrite_rules.specs.declared.wrap.WrapItem.{WrapItem}
@@ -183,7 +184,8 @@ wrapped_sizes os start at w t word =
     (length-append (slice_range os start (at + 1)) (pieces_operators os back)
     ∙ ap (λ (n : ℕ). length (slice_range os start (at + 1)) + n) behind))
 
-pub wrapped_count : (operators : Operators) (start at : ℕ) (w : Wrap) (t : ValType) (word : ℕ) → length (operators_in operators start (at + 1)) ≡ at + 1 - start →
+pub wrapped_count : (operators : Operators) (start at : ℕ) (w : Wrap) (t : ValType) (word : ℕ) →
+    length (operators_in operators start (at + 1)) ≡ at + 1 - start →
     length (pieces_operators (without_offsets operators) (item_pieces t word (front_of w) ++ Kept start (at + 1) ∷ item_pieces t word (back_of w)))
     ≡ length (front_of w) + (at + 1 - start + length (back_of w))
 wrapped_count operators start at w t word kept =

@@ -1,5 +1,6 @@
 -- A tree in control flow of its own may stand in the place of the tree, and the tree in the place of that.
-use Rattle.std.proofs.Common.{◌≡◌, ℕ, ◌+◌, ◌<◌, ◌≤◌, ◌&&◌, not, Bool, true, false, List, [], ◌∷◌, ◌++◌, length, map, take, drop, Some, refl, sym, ap, ap₂, subst, ◌∙◌, arith, append_assoc, append-nil}
+use Rattle.std.proofs.Common.{◌≡◌, ℕ, ◌+◌, ◌<◌, ◌≤◌, ◌&&◌, not, Bool, true, false, List, [], ◌∷◌, ◌++◌, length, map, take, drop, Some, refl}
+use Rattle.std.proofs.Common.{sym, ap, ap₂, subst, ◌∙◌, arith, append_assoc, append-nil}
 use Rattle.std.specs.Prelude.{slice_range}
 use Rattle.std.specs.List.{All}
 use mathlib.Core.List.{append_cancel_left}
@@ -14,11 +15,11 @@ use Rattle.body_splices.specs.declared.piece.Piece.TheVariants.{Kept}
 use Rattle.body_splices.specs.OwnBytes.{none_of, without_offsets}
 use Rattle.body_splices.specs.Splice.{IsPieceIn}
 use Rattle.body_splices.specs.Laws.{pieces_operators}
-use Rattle.peephole_machine.specs.Values.{Context}
-use Rattle.peephole_programs.specs.control.Standard.{asks_beyond}
-use Rattle.peephole_programs.specs.control.Wider.{wider}
-use Rattle.peephole_programs.specs.hosts.Embedder.{with_operators}
-use Rattle.peephole_programs.specs.validation.StaysValid.{Pushes}
+use Rattle.wasm_execution.specs.Values.{Context}
+use Rattle.wasm_equivalence.specs.control.Standard.{asks_beyond}
+use Rattle.wasm_equivalence.specs.control.Wider.{wider}
+use Rattle.wasm_equivalence.specs.hosts.Embedder.{with_operators}
+use Rattle.wasm_equivalence.specs.validation.StaysValid.{Pushes}
 use Rattle.wrapped_code.specs.Wrapped.{written, WrappedRunsAs, WrappedChecksAs}
 use Rattle.wrapped_code.specs.Ways.{WrappedPushes, PushingCodeIsThere}
 use Rattle.wrapped_code.specs.Handlers.{none_handle}
@@ -165,7 +166,8 @@ module _ (wraps : WrapsAreRight) (context : Context) (operators : Operators) (at
 
   -- ---- what is taken away
 
-  module _ (unwrapped : UnwrappedCodeDoes) (pushing : PushingCodeIsThere) (w : Wrap) (start from end : ℕ) (h : IsWrapped context operators w start at from end) where
+  module _ (unwrapped : UnwrappedCodeDoes) (pushing : PushingCodeIsThere) (w : Wrap) (start from end : ℕ) (h :
+      IsWrapped context operators w start at from end) where
     abbrev taken : Change
     taken = change_of at (record { start = start; made = made.Inner from end })
 
@@ -180,11 +182,13 @@ module _ (wraps : WrapsAreRight) (context : Context) (operators : Operators) (at
 
     opened_are : AreItems (front_of w) h.value opened
     opened_are =
-        subst (λ n. AreItems (front_of w) h.value (take n (drop start os))) (let e = h.begins in omega (arith, e)) (items_stand operators start (front_of w) h.value h.before)
+        subst (λ n. AreItems (front_of w) h.value (take n (drop start os))) (let e = h.begins in
+        omega (arith, e)) (items_stand operators start (front_of w) h.value h.before)
 
     closed_are : AreItems (back_of w) h.value closed
     closed_are =
-        subst (λ n. AreItems (back_of w) h.value (take n (drop end os))) (let e = h.ends in omega (arith, e)) (items_stand operators end (back_of w) h.value h.behind)
+        subst (λ n. AreItems (back_of w) h.value (take n (drop end os))) (let e = h.ends in
+        omega (arith, e)) (items_stand operators end (back_of w) h.value h.behind)
 
     unwrap_may : MayWrap context h.tree.code h.type opened closed
     unwrap_may =

@@ -1,5 +1,6 @@
 -- What a line writes is its right side's code, and may stand in its place.
-use Rattle.std.proofs.Common.{◌≡◌, ℕ, zero, suc, ◌+◌, ◌-◌, ◌<◌, ◌≤◌, Bool, true, false, List, [], ◌∷◌, ◌++◌, length, map, take, drop, ◌⊎◌, inl, inr, refl, sym, ap, ap₂, subst, ◌∙◌, arith}
+use Rattle.std.proofs.Common.{◌≡◌, ℕ, zero, suc, ◌+◌, ◌-◌, ◌<◌, ◌≤◌, Bool, true, false, List, [], ◌∷◌, ◌++◌, length, map, take, drop, ◌⊎◌}
+use Rattle.std.proofs.Common.{inl, inr, refl, sym, ap, ap₂, subst, ◌∙◌, arith}
 use Rattle.std.specs.Prelude.{◌==◌, ◌&&◌, ◌||◌, get_or, option_map, slice_range}
 use Rattle.std.specs.List.{All}
 use Rattle.std.proofs.lemmas.Bool.{and_parts, eqb-true, eq-eqb, false≢true}
@@ -12,7 +13,7 @@ use Rattle.wasm_code.specs.declared.operator.Operator.TheVariants.{Instr}
 use Rattle.body_splices.specs.OwnBytes.{without_offsets}
 use Rattle.body_splices.specs.Splice.{IsPieceIn}
 use Rattle.body_splices.specs.Laws.{piece_operators, pieces_operators, KeepsInstructions}
-use Rattle.peephole_machine.specs.Values.{Context}
+use Rattle.wasm_execution.specs.Values.{Context}
 use Rattle.rewrite_rules.specs.declared.pattern.Part.{Part}
 use Rattle.rewrite_rules.specs.declared.pattern.Part.TheVariants.{Hole, Constant, Drawn, Apply}
 use Rattle.rewrite_rules.specs.Beside.{StandsWith, BesidesKeepCode}
@@ -29,7 +30,7 @@ use Rattle.body_rewrites.specs.declared.places.Place.{Place}
 use Rattle.body_rewrites.specs.Trees.{Stands}
 use Rattle.body_rewrites.specs.Matching.{is_hole, instructions, operators_in}
 use Rattle.body_rewrites.specs.Operands.{has_hole}
-use Rattle.body_rewrites.specs.Places.{IsLine, meant, IsTreeCode, IsPlaceOf, operands_in}
+use Rattle.body_rewrites.specs.Places.{IsLine, meant, IsTreeCode, IsFoundPlaceOf, hole_operands_in}
 use Rattle.body_rewrites.specs.Changes.{pieces_code, KeepsCode}
 use Rattle.body_rewrites.specs.Writing.{piece_for, side_pieces, by_line}
 use Rattle.body_rewrites.proofs.StandsLemmas.{Operators, nothing_stands}
@@ -138,9 +139,9 @@ every_at f (m ∷ ms) n e i =
     go false k i first others = others i
 
 module _ (right : TableIsRight) (holes_are : HolesAreTold) (sides : SidesAreParts) (codes : PartsAreTheCode) (besides : BesidesKeepCode) (context : Context)
-    (operators : Operators) (line : Line) (at : ℕ) (place : Place) (is : IsLine line) (found : IsPlaceOf context operators line (at + 1) place) where
+    (operators : Operators) (line : Line) (at : ℕ) (place : Place) (is : IsLine line) (found : IsFoundPlaceOf context operators line (at + 1) place) where
   abbrev x : ℕ → List Instruction
-  x = operands_in operators place.operands
+  x = hole_operands_in operators place.operands
 
   abbrev c : ℕ → ℕ
   c = constant_at place.numbers
@@ -163,7 +164,8 @@ module _ (right : TableIsRight) (holes_are : HolesAreTold) (sides : SidesArePart
 
   pub stands_there : (n : ℕ) → has_hole parts n ≡ true → StandsIn operators (at + 1) (get_or place.operands n (0, 0)) (x n)
   stands_there n e =
-      operand_found right holes_are context operators line (at + 1) place is found n (right_in_left n (ap (λ ns. is_in ns n) (holes_are line.row line.width (formed right line is)).1
+      operand_found right holes_are context operators line (at + 1) place is found n
+      (right_in_left n (ap (λ ns. is_in ns n) (holes_are line.row line.width (formed right line is)).1
       ∙ (hole_in_parts line.width n line.row.right ∙ e)))
 
   written : (word : ℕ) → pieces_code operators ((by_line line place).pieces word) ≡ code_of x c (word ∷ []) (meant line).right

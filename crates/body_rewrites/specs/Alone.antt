@@ -1,7 +1,7 @@
 -- Lines whose left side is an operand alone, and what they do to the number of operators: for private functions (this project).
 use Rattle.std.specs.Prelude.{zero, ◌&&◌, ◌||◌, not, nat_lt, if◌then◌else◌, Bool, true, false, Option, Some, None, List, ◌∷◌, length}
-use Rattle.peephole_machine.specs.declared.integer.IntegerType.{IntegerType}
-use Rattle.peephole_machine.specs.Values.{type_of, same_type}
+use Rattle.wasm_execution.specs.declared.integer.IntegerType.{IntegerType}
+use Rattle.wasm_execution.specs.Values.{type_of, same_type}
 use Rattle.rewrite_rules.specs.declared.table.Row.{Row}
 use Rattle.rewrite_rules.specs.declared.table.Step.{Step}
 use Rattle.rewrite_rules.specs.declared.table.Step.TheVariants.{Operand, End}

@@ -30,8 +30,8 @@ pub record AreBlocks (operators : List (Operator × ℕ)) (blocks : Blocks) : Ty
   pub reached : (at : ℕ) × (length (opened operators at) ≡ blocks.deepest)
 
 -- A block more may be put anywhere: nowhere two hundred are open.
-abbrev pub HasRoom : List (Operator × ℕ) → Type 0
-HasRoom operators = (at : ℕ) → length (opened operators at) < 200
+abbrev pub HasRoomForBlock : List (Operator × ℕ) → Type 0
+HasRoomForBlock operators = (at : ℕ) → length (opened operators at) < 200
 
 -- ---- how they are found (for private functions)
 

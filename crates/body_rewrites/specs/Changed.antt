@@ -5,8 +5,8 @@ use Rattle.wasm_code.specs.declared.operator.Operator.{Operator}
 use Rattle.body_splices.specs.OwnBytes.{IsBodyIn, own_bytes, bytes_where, structural_bytes, without_offsets}
 use Rattle.body_splices.specs.Laws.{AreInstructions, KeepsInstructions}
 use Rattle.body_splices.specs.Splice.{AppendsSpliced}
-use Rattle.peephole_machine.specs.Values.{Context}
-use Rattle.peephole_programs.specs.control.Standard.{asks_beyond}
+use Rattle.wasm_execution.specs.Values.{Context}
+use Rattle.wasm_equivalence.specs.control.Standard.{asks_beyond}
 use Rattle.body_rewrites.specs.Doing.{DoesAsBody}
 use Rattle.body_rewrites.specs.Changes.{Change, MayStand}
 

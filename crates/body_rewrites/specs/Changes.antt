@@ -10,8 +10,8 @@ use Rattle.body_splices.specs.OwnBytes.{none_of, without_offsets}
 use Rattle.body_splices.specs.Splice.{IsPieceIn}
 use Rattle.body_splices.specs.Laws.{pieces_operators, KeepsInstructions}
 use Rattle.wasm_code.specs.Body.{ends}
-use Rattle.peephole_machine.specs.Values.{Context}
-use Rattle.peephole_programs.specs.control.Standard.{asks_beyond}
+use Rattle.wasm_execution.specs.Values.{Context}
+use Rattle.wasm_equivalence.specs.control.Standard.{asks_beyond}
 use Rattle.wrapped_code.specs.Handlers.{none_handle}
 use Rattle.body_rewrites.specs.Doing.{DoesAsBody}
 use Rattle.rewrite_rules.specs.Beside.{StandsWith}

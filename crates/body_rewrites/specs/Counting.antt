@@ -1,9 +1,10 @@
 -- How many rewrites of a body there are by each rule that do each thing to the number of operators, as they are counted. For private functions (this project).
-use Rattle.std.specs.Prelude.{◌≡◌, ◌+◌, ◌*◌, ◌^◌, ◌≤◌, ◌<◌, ◌==◌, ◌++◌, if◌then◌else◌, ℕ, zero, suc, List, [], ◌∷◌, Bool, false, length, Option, Some, None, option_map, option_to_list, Contains, Result, Ok, Err, slice_get}
+use Rattle.std.specs.Prelude.{◌≡◌, ◌+◌, ◌*◌, ◌^◌, ◌≤◌, ◌<◌, ◌==◌, ◌++◌, if◌then◌else◌, ℕ, zero, suc, List, [], ◌∷◌, Bool, false, length}
+use Rattle.std.specs.Prelude.{Option, Some, None, option_map, option_to_list, Contains, Result, Ok, Err, slice_get}
 use Rattle.std.specs.List.{filter}
 use Rattle.std.specs.Option.{option_flatten}
 use Rattle.wasm_code.specs.declared.operator.Operator.{Operator}
-use Rattle.peephole_machine.specs.Values.{Context}
+use Rattle.wasm_execution.specs.Values.{Context}
 use Rattle.rewrite_rules.specs.declared.rule.Rule.{Rule}
 use Rattle.rewrite_rules.specs.Names.{names, rule_of}
 use Rattle.rewrite_rules.specs.Rule.{rule_number}
@@ -121,7 +122,7 @@ abbrev pub HasCount : List ℕ → Growth → Rule → ℕ → Type 0
 HasCount counts growth rule n = slice_get counts (slot_of (rule_number rule) growth) ≡ Some n
 
 -- Of the rewrites of the operators before `end`, those by the rule that do that to the number of operators are as many as is counted.
-pub record IsCounted (context : Context) (operators : List (Operator × ℕ)) (end : ℕ) (counts : List ℕ) (growth : Growth) (rule : Rule) : Type 0 where
+pub record RewritesAreCounted (context : Context) (operators : List (Operator × ℕ)) (end : ℕ) (counts : List ℕ) (growth : Growth) (rule : Rule) : Type 0 where
   pub those : List Rewrite
   pub are : AreThose (IsOf context operators growth rule) (asked_below end) those
   pub count : HasCount counts growth rule (length those)
@@ -129,7 +130,7 @@ pub record IsCounted (context : Context) (operators : List (Operator × ℕ)) (e
 -- So it is of each rule.
 pub record AreCounts (context : Context) (operators : List (Operator × ℕ)) (end : ℕ) (counts : List ℕ) : Type 0 where
   pub count : length counts ≡ 3 * length names
-  pub each : (growth : Growth) (rule : Rule) → IsCounted context operators end counts growth rule
+  pub each : (growth : Growth) (rule : Rule) → RewritesAreCounted context operators end counts growth rule
   pub most : (slot n : ℕ) → slice_get counts slot ≡ Some n → n ≤ length (asked_below end)
 
 -- some rewrite by the rule is counted that does that to the number of operators

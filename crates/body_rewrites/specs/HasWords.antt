@@ -2,16 +2,16 @@
 use Rattle.std.specs.Prelude.{◌≡◌, ◌<◌, ◌^◌, ℕ, List, [], ◌∷◌}
 use Rattle.rand_core.specs.Stream.{Stream, next_u64}
 use Rattle.wasm_code.specs.declared.operator.Operator.{Operator}
-use Rattle.peephole_machine.specs.Values.{Context}
+use Rattle.wasm_execution.specs.Values.{Context}
 use Rattle.rewrite_rules.specs.declared.rule.Rule.{Rule}
 use Rattle.body_rewrites.specs.Choice.{Chooses}
 use Rattle.body_rewrites.specs.declared.growth.Growth.{Growth}
 use Rattle.body_rewrites.specs.declared.rewrite.Rewrite.{Rewrite}
 
 -- these words of 64 bits come next
-abbrev pub BeginsWith : (words : List ℕ) → Stream → Type 0
-BeginsWith [] s = Unit {0}
-BeginsWith (word ∷ words) s = ((next_u64 s).0 ≡ word) × BeginsWith words (next_u64 s).1
+abbrev pub BeginsWithWords : (words : List ℕ) → Stream → Type 0
+BeginsWithWords [] s = Unit {0}
+BeginsWithWords (word ∷ words) s = ((next_u64 s).0 ≡ word) × BeginsWithWords words (next_u64 s).1
 
 -- Three words of 64 bits with which every generator that begins with them chooses the rewrite, of those of the body by one of the rules that do one of the
 -- wanted things to the number of operators.
@@ -22,4 +22,4 @@ pub record HasWords (context : Context) (rules : List Rule) (wanted : List Growt
   pub one_fits : one < 2 ^ 64
   pub two_fits : two < 2 ^ 64
   pub three_fits : three < 2 ^ 64
-  pub choose : (stream : Stream) → BeginsWith (one ∷ two ∷ three ∷ []) stream → Chooses context stream rules wanted operators r
+  pub choose : (stream : Stream) → BeginsWithWords (one ∷ two ∷ three ∷ []) stream → Chooses context stream rules wanted operators r

@@ -1,7 +1,7 @@
 -- What a line of the table makes, as code has it (this project).
 use Rattle.std.specs.Prelude.{◌≡◌, ℕ, List}
 use Rattle.wasm_code.specs.declared.operator.Operator.{Operator}
-use Rattle.peephole_machine.specs.Values.{Context}
+use Rattle.wasm_execution.specs.Values.{Context}
 use Rattle.body_rewrites.specs.declared.changes.NewCode.{NewCode}
 use Rattle.body_rewrites.specs.declared.places.Body.{Body}
 use Rattle.body_rewrites.specs.declared.places.Line.{Line}

@@ -2,8 +2,8 @@
 use Rattle.std.specs.Prelude.{◌≡◌, ◌⊎◌, ◌==◌, ℕ, List, [], ◌∷◌, ◌++◌, Bool, true, false, if◌then◌else◌, map, Option, Some, None, Contains, slice_get}
 use Rattle.std.specs.List.{filter}
 use Rattle.wasm_code.specs.declared.operator.Operator.{Operator}
-use Rattle.peephole_machine.specs.declared.integer.IntegerType.{IntegerType}
-use Rattle.peephole_machine.specs.Values.{Context}
+use Rattle.wasm_execution.specs.declared.integer.IntegerType.{IntegerType}
+use Rattle.wasm_execution.specs.Values.{Context}
 use Rattle.rewrite_rules.specs.declared.rule.Rule.{Rule}
 use Rattle.rewrite_rules.specs.Names.{rule_of}
 use Rattle.rewrite_rules.specs.Rule.{rule_number}

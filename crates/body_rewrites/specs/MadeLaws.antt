@@ -1,7 +1,7 @@
 -- What holds of what rewrites make (this project).
 use Rattle.std.specs.Prelude.{◌≡◌, ℕ, ◌<◌, List, length}
 use Rattle.wasm_code.specs.declared.operator.Operator.{Operator}
-use Rattle.peephole_machine.specs.Values.{Context}
+use Rattle.wasm_execution.specs.Values.{Context}
 use Rattle.body_rewrites.specs.declared.changes.NewCode.{NewCode}
 use Rattle.body_rewrites.specs.declared.places.Body.{Body}
 use Rattle.body_rewrites.specs.declared.places.Line.{Line}
@@ -9,7 +9,8 @@ use Rattle.body_rewrites.specs.Changes.{Change, IsWritten, MayStand}
 use Rattle.body_rewrites.specs.Places.{context_of}
 use Rattle.body_rewrites.specs.Rewrites.{IsAsked, Makes}
 
--- What a row makes for a width that it is asked for may stand in the place of what stood there, where an operator of the body is; and it makes one thing at most.
+-- What a row makes for a width that it is asked for may stand in the place of what stood there, where an operator of the body is; and it
+-- makes one thing at most.
 pub record ChangesMayStand : Type 0 where
   pub stand : (context : Context) (operators : List (Operator × ℕ)) (number : ℕ) (line : Line) (at : ℕ) (change : Change) → IsAsked number line →
       Makes context operators line at change → MayStand context operators at change

@@ -1,5 +1,6 @@
 -- What stands in the holes of a pattern that stands in a body, and the numbers of its constants (this project).
-use Rattle.std.specs.Prelude.{◌≡◌, ℕ, ◌==◌, ◌||◌, ◌≤◌, Bool, true, false, IsTrue, if◌then◌else◌, ⊤, Option, Some, List, [], ◌∷◌, length, map, reverse, slice_get, slice_range}
+use Rattle.std.specs.Prelude.{◌≡◌, ℕ, ◌==◌, ◌||◌, ◌≤◌, Bool, true, false, IsTrue, if◌then◌else◌, ⊤, Option, Some, List, [], ◌∷◌, length}
+use Rattle.std.specs.Prelude.{map, reverse, slice_get, slice_range}
 use Rattle.std.specs.List.{All}
 use Rattle.std.specs.Int.{w32, w64, cast_unsigned}
 use Rattle.wasm_code.specs.Instruction.{Instruction}
@@ -7,8 +8,8 @@ use Rattle.wasm_code.specs.declared.immediate.Imm.{Imm}
 use Rattle.wasm_code.specs.declared.immediate.Imm.TheVariants as imm
 use Rattle.wasm_code.specs.declared.operator.Operator.{Operator}
 use Rattle.wasm_code.specs.declared.operator.Operator.TheVariants.{Instr}
-use Rattle.peephole_machine.specs.declared.integer.IntegerType.{IntegerType}
-use Rattle.peephole_machine.specs.Values.{Context}
+use Rattle.wasm_execution.specs.declared.integer.IntegerType.{IntegerType}
+use Rattle.wasm_execution.specs.Values.{Context}
 use Rattle.rewrite_rules.specs.declared.pattern.Number.{Number}
 use Rattle.rewrite_rules.specs.declared.pattern.Number.TheVariants.{Literal, Ones, Bits, Sign, Slot}
 use Rattle.rewrite_rules.specs.declared.pattern.Part.{Part}

@@ -5,9 +5,9 @@ use Rattle.wasm_code.specs.Instruction.{Instruction}
 use Rattle.wasm_code.specs.declared.operator.Operator.{Operator}
 use Rattle.wasm_code.specs.declared.operator.Operator.TheVariants.{Instr}
 use Rattle.wasm_types.specs.declared.types.PrimitiveTypeInfo.{PrimitiveTypeInfo}
-use Rattle.peephole_machine.specs.Values.{Context}
-use Rattle.peephole_machine.specs.IntegerRow.{integer_row, is_other}
-use Rattle.peephole_machine.specs.Row.{instruction_types, instruction_count}
+use Rattle.wasm_execution.specs.Values.{Context}
+use Rattle.wasm_execution.specs.IntegerRow.{integer_row, is_other}
+use Rattle.wasm_execution.specs.Row.{instruction_types, instruction_count}
 use Rattle.rewrite_rules.specs.Code.{row_writes, instruction_traps, writes, traps, asks}
 use Rattle.body_rewrites.specs.declared.trees.Tree.{Tree}
 use Rattle.body_rewrites.specs.declared.trees.Open.{Open}
@@ -64,7 +64,7 @@ pub record HasNoted (i : Instruction) (at : ℕ) (old new : Open) : Type 0 where
   pub asked : new.asked ≡ behind_if (is_other (integer_row i)) at old.asked
 
 -- The instruction's operands are the trees behind the first `below`, and its own tree begins with the first of them.
-pub record IsTold (context : Context) (i : Instruction) (at : ℕ) (o : Open) (below : ℕ) (tree : Tree) : Type 0 where
+pub record TreeIsTold (context : Context) (i : Instruction) (at : ℕ) (o : Open) (below : ℕ) (tree : Tree) : Type 0 where
   pub below_is : below + instruction_count context.info i ≡ length o.starts.items
   pub typed : one_type (instruction_types context i (drop below o.types.items)) ≡ Some tree.gives
   pub start_is : tree.start ≡ start_of o.starts.items below at
@@ -73,8 +73,8 @@ pub record IsTold (context : Context) (i : Instruction) (at : ℕ) (o : Open) (b
   pub asks_is : tree.asks ≡ nat_lt tree.start o.asked
 
 -- so, or there are too few trees, or these are no operands of it
-abbrev pub IsNext : Context → Instruction → (at : ℕ) → Open → Option (ℕ × Tree) → Type 0
-IsNext context i at o (Some (below, tree)) = IsTold context i at o below tree
-IsNext context i at o None =
+abbrev pub IsNextTree : Context → Instruction → (at : ℕ) → Open → Option (ℕ × Tree) → Type 0
+IsNextTree context i at o (Some (below, tree)) = TreeIsTold context i at o below tree
+IsNextTree context i at o None =
     (below : ℕ) → below + instruction_count context.info i ≡ length o.starts.items →
     one_type (instruction_types context i (drop below o.types.items)) ≡ None

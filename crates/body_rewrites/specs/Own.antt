@@ -13,16 +13,16 @@ use Rattle.body_splices.specs.declared.piece.Piece.{Piece}
 use Rattle.body_splices.specs.declared.piece.Piece.TheVariants.{Kept, New, Structural}
 use Rattle.body_splices.specs.declared.control.Control.TheVariants as control
 use Rattle.body_splices.specs.OwnBytes.{without_offsets}
-use Rattle.peephole_programs.specs.control.Standard.{asks_beyond}
+use Rattle.wasm_equivalence.specs.control.Standard.{asks_beyond}
 use Rattle.wrapped_code.specs.Conditions.{is_condition}
 use Rattle.wrapped_code.specs.Dead.{never_goes_on}
 use Rattle.wrapped_code.specs.Opened.{TakesNothing}
-use Rattle.peephole_machine.specs.declared.integer.IntegerType.{IntegerType}
-use Rattle.peephole_machine.specs.declared.integer.IntegerType.TheVariants as integer
-use Rattle.peephole_machine.specs.declared.operation.Operation.{Operation}
-use Rattle.peephole_machine.specs.Values.{Context, width_of, types}
-use Rattle.peephole_machine.specs.Computed.{computed}
-use Rattle.peephole_machine.specs.Operation.{operator_of}
+use Rattle.wasm_execution.specs.declared.integer.IntegerType.{IntegerType}
+use Rattle.wasm_execution.specs.declared.integer.IntegerType.TheVariants as integer
+use Rattle.wasm_execution.specs.declared.operation.Operation.{Operation}
+use Rattle.wasm_execution.specs.Values.{Context, width_of, types}
+use Rattle.wasm_execution.specs.Computed.{computed}
+use Rattle.wasm_execution.specs.Operation.{operator_of}
 use Rattle.rewrite_rules.specs.declared.pattern.Operator.TheVariants.{Whole}
 use Rattle.rewrite_rules.specs.declared.access.Access.{Access}
 use Rattle.rewrite_rules.specs.Access.{access_at, code_with, left_code, right_code, written_imm}
@@ -37,14 +37,15 @@ use Rattle.rewrite_rules.specs.Flow.{is_leaf, zero_code, ne_code, eqz_code, belo
 use Rattle.rewrite_rules.specs.declared.table.Own.{Own}
 use Rattle.rewrite_rules.specs.declared.table.Own.TheVariants as own_rule
 use Rattle.rewrite_rules.specs.declared.table.Own.TheVariants.{Unfold, ThroughGlobal, WithNop, Fold, Forget, TeeToSet, DropNop, SetToTee}
-use Rattle.rewrite_rules.specs.declared.table.Own.TheVariants.{SelectToIf, IfToSelect, TestCondition, DropConditionTest, DoubleCondition, DropDoubleCondition, PutDead, DropDead}
+use Rattle.rewrite_rules.specs.declared.table.Own.TheVariants.{SelectToIf, IfToSelect, TestCondition, DropConditionTest, DoubleCondition}
+use Rattle.rewrite_rules.specs.declared.table.Own.TheVariants.{DropDoubleCondition, PutDead, DropDead}
 use Rattle.rewrite_rules.specs.declared.table.Own.TheVariants.{BoundIndex, DropIndexBound, BrIfToIf, IfToBrIf}
 use Rattle.body_rewrites.specs.declared.own.Made.{Made}
 use Rattle.body_rewrites.specs.declared.own.Made.TheVariants as made
 use Rattle.body_rewrites.specs.declared.own.Site.{Site}
 use Rattle.body_rewrites.specs.Trees.{Stands, IsTree}
 use Rattle.body_rewrites.specs.Open.{HasInstruction}
-use Rattle.body_rewrites.specs.Blocks.{HasRoom}
+use Rattle.body_rewrites.specs.Blocks.{HasRoomForBlock}
 use Rattle.body_rewrites.specs.Changes.{Change, MayStand}
 
 -- ---- what stands there
@@ -157,7 +158,7 @@ pub record IsChoice (operators : List (Operator × ℕ)) (place : ℕ) (v : ValT
 
 -- From `start` on stands a tree that writes nothing, and behind it, up to the end at `at`, a conditional each part of which is a constant or a variable.
 -- Something stands behind it.
-pub record IsChosen (context : Context) (operators : List (Operator × ℕ)) (start at : ℕ) : Type 0 where
+pub record IsConditionalChoice (context : Context) (operators : List (Operator × ℕ)) (start at : ℕ) : Type 0 where
   pub inside : at + 1 < length operators
   pub place : ℕ
   pub ends : place + 4 ≡ at
@@ -278,10 +279,10 @@ Rewrites context operators SetToTee start at (made.Tee n) =
     (start + 1 ≡ at) × HasInstruction operators start (set_local n) × HasInstruction operators at (get_local n)
 Rewrites context operators (own_rule.Access n) start at (made.Access a m) = IsAccessed context operators n start at a m
 Rewrites context operators (own_rule.Wrap w) start at (made.Wrapped v t) =
-    (v ≡ w) × HasRoom operators × (u : PrimitiveTypeInfo) × (value_of u ≡ Some t) × IsTree context operators start at u
+    (v ≡ w) × HasRoomForBlock operators × (u : PrimitiveTypeInfo) × (value_of u ≡ Some t) × IsTree context operators start at u
 Rewrites context operators (own_rule.Unwrap w) start at (made.Inner from end) = IsWrapped context operators w start at from end
-Rewrites context operators SelectToIf start at (made.Conditional v condition) = HasRoom operators × IsSelected context operators start at v condition
-Rewrites context operators IfToSelect start at made.Selected = IsChosen context operators start at
+Rewrites context operators SelectToIf start at (made.Conditional v condition) = HasRoomForBlock operators × IsSelected context operators start at v condition
+Rewrites context operators IfToSelect start at made.Selected = IsConditionalChoice context operators start at
 Rewrites context operators TestCondition start at made.Tested = IsAsked context operators start at
 Rewrites context operators DropConditionTest start at (made.Inner from end) = (from ≡ start) × IsTested context operators zero_code ne_code start at end
 Rewrites context operators DoubleCondition start at made.DoublyTested = IsAsked context operators start at
@@ -290,7 +291,7 @@ Rewrites context operators PutDead start at made.Dead = (start ≡ at) × HasPla
 Rewrites context operators DropDead start at made.Nothing = IsDead context operators start at
 Rewrites context operators BoundIndex start at (made.Bounded count) = IsIndex context operators start at count
 Rewrites context operators DropIndexBound start at (made.Inner from end) = (from ≡ start) × IsBounded context operators start at end
-Rewrites context operators BrIfToIf start at (made.InConditional label) = (start ≡ at) × HasRoom operators × IsBareBranch operators at label
+Rewrites context operators BrIfToIf start at (made.InConditional label) = (start ≡ at) × HasRoomForBlock operators × IsBareBranch operators at label
 Rewrites context operators IfToBrIf start at (made.BranchIf label) = IsNestedBranch operators start at label
 Rewrites context operators own start at m = ⊥
 

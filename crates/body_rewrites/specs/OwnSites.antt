@@ -10,12 +10,12 @@ use Rattle.wasm_types.specs.declared.types.PrimitiveTypeInfo.TheVariants as prim
 use Rattle.body_splices.specs.declared.piece.Piece.{Piece}
 use Rattle.body_splices.specs.OwnBytes.{without_offsets}
 use Rattle.wrapped_code.specs.Opened.{opens_bare}
-use Rattle.peephole_machine.specs.declared.integer.IntegerType.{IntegerType}
-use Rattle.peephole_machine.specs.declared.integer.IntegerType.TheVariants as integer
-use Rattle.peephole_machine.specs.declared.operation.Operation.{Operation}
-use Rattle.peephole_machine.specs.Values.{Context, types}
-use Rattle.peephole_machine.specs.Computed.{computed}
-use Rattle.peephole_machine.specs.Operation.{operator_of}
+use Rattle.wasm_execution.specs.declared.integer.IntegerType.{IntegerType}
+use Rattle.wasm_execution.specs.declared.integer.IntegerType.TheVariants as integer
+use Rattle.wasm_execution.specs.declared.operation.Operation.{Operation}
+use Rattle.wasm_execution.specs.Values.{Context, types}
+use Rattle.wasm_execution.specs.Computed.{computed}
+use Rattle.wasm_execution.specs.Operation.{operator_of}
 use Rattle.rewrite_rules.specs.declared.pattern.Operator.TheVariants.{Whole}
 use Rattle.rewrite_rules.specs.declared.access.AccessKind.{AccessKind}
 use Rattle.rewrite_rules.specs.declared.access.AccessKind.TheVariants.{Load, Store, Constant}
@@ -164,10 +164,10 @@ pub record HasBareOpener (operators : List (Operator × ℕ)) (at : ℕ) : Type 
 -- ---- what is written
 
 -- the piece with the immediate, with those of the conversion
-abbrev pub ordered : AccessKind → (first : Piece) → (conversion : List Piece) → List Piece
-ordered Load first conversion = first ∷ conversion
-ordered Constant first conversion = first ∷ conversion
-ordered Store first conversion = conversion ++ first ∷ []
+abbrev pub pieces_in_order : AccessKind → (first : Piece) → (conversion : List Piece) → List Piece
+pieces_in_order Load first conversion = first ∷ conversion
+pieces_in_order Constant first conversion = first ∷ conversion
+pieces_in_order Store first conversion = conversion ++ first ∷ []
 
 -- each is an instruction of the standard
 abbrev pub AreOfRows : List Instruction → Type 0
@@ -181,7 +181,7 @@ IsWritable (made.InConditional label) = label + 1 < 2 ^ 8
 IsWritable m = ⊤
 
 -- the code is these pieces in the place of code from `start` on
-pub record IsCode (start : ℕ) (pieces : List Piece) (asks : List PrimitiveTypeInfo) (code : NewCode) : Type 0 where
+pub record IsNewCode (start : ℕ) (pieces : List Piece) (asks : List PrimitiveTypeInfo) (code : NewCode) : Type 0 where
   pub start_is : code.start ≡ start
   pub pieces_are : code.pieces.items ≡ pieces
   pub asks_are : option_to_list code.asks ≡ asks

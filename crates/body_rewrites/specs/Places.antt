@@ -4,7 +4,7 @@ use Rattle.std.specs.Option.{option_flatten}
 use Rattle.wasm_code.specs.Instruction.{Instruction}
 use Rattle.wasm_code.specs.declared.operator.Operator.{Operator}
 use Rattle.wasm_types.specs.declared.types.PrimitiveTypeInfo.{PrimitiveTypeInfo}
-use Rattle.peephole_machine.specs.Values.{Context, context_in}
+use Rattle.wasm_execution.specs.Values.{Context, context_in}
 use Rattle.rewrite_rules.specs.declared.order.Effects.{Effects}
 use Rattle.rewrite_rules.specs.declared.pattern.Part.{Part}
 use Rattle.rewrite_rules.specs.Pattern.{holes}
@@ -61,7 +61,7 @@ IsTreeCode context code = (t : PrimitiveTypeInfo) × (tree_after context code []
 
 -- In the body the code from `start` to before `end` is the line's left side, with constants of these numbers and the operands `x`, the code of a tree in each
 -- of its holes and nothing elsewhere; and there the line applies.
-pub record IsPlace (context : Context) (operators : List (Operator × ℕ)) (l : lines.Line) (start end : ℕ) (x : ℕ → List Instruction) (numbers : List ℕ) :
+pub record IsPlaceOfLine (context : Context) (operators : List (Operator × ℕ)) (l : lines.Line) (start end : ℕ) (x : ℕ → List Instruction) (numbers : List ℕ) :
     Type 0 where
   pub ordered : start ≤ end
   pub inside : end ≤ length operators
@@ -73,11 +73,11 @@ pub record IsPlace (context : Context) (operators : List (Operator × ℕ)) (l :
 -- so is some code before `end`
 abbrev pub HasSomePlace : Context → List (Operator × ℕ) → lines.Line → (end : ℕ) → Type 0
 HasSomePlace context operators l end =
-    (start : ℕ) × (x : ℕ → List Instruction) × (numbers : List ℕ) × IsPlace context operators l start end x numbers
+    (start : ℕ) × (x : ℕ → List Instruction) × (numbers : List ℕ) × IsPlaceOfLine context operators l start end x numbers
 
 -- the operands, by the operators that stand in each hole: from the first one to the one before the second
-abbrev pub operands_in : List (Operator × ℕ) → List (ℕ × ℕ) → ℕ → List Instruction
-operands_in operators places n =
+abbrev pub hole_operands_in : List (Operator × ℕ) → List (ℕ × ℕ) → ℕ → List Instruction
+hole_operands_in operators places n =
     instructions (operators_in operators (get_or places n (0, 0)).0 (get_or places n (0, 0)).1)
 
 -- the parts of its left side, the last one first
@@ -85,20 +85,20 @@ abbrev pub left_parts : Line → List Part
 left_parts line = reverse (parts_for line.width line.row.left)
 
 -- the three holes' places
-abbrev pub operands_told : List Part → (starts : List ℕ) → (end : ℕ) → List (ℕ × ℕ)
-operands_told parts starts end = operand_at parts starts end 0 ∷ operand_at parts starts end 1 ∷ operand_at parts starts end 2 ∷ []
+abbrev pub hole_places_told : List Part → (starts : List ℕ) → (end : ℕ) → List (ℕ × ℕ)
+hole_places_told parts starts end = operand_at parts starts end 0 ∷ operand_at parts starts end 1 ∷ operand_at parts starts end 2 ∷ []
 
 -- what is told of parts that begin at these places
 abbrev pub place_told : List (Operator × ℕ) → List Part → (starts : List ℕ) → (end : ℕ) → Place
 place_told operators parts starts end = record {
   start = begin_of starts end;
-  operands = operands_told parts starts end;
+  operands = hole_places_told parts starts end;
   numbers = slots_told operators parts starts;
 }
 
 -- A place of the line before `end` is found: its parts begin at some places, by which its start, its operands and its numbers are.
-pub record IsPlaceOf (context : Context) (operators : List (Operator × ℕ)) (line : Line) (end : ℕ) (place : Place) : Type 0 where
-  pub is : IsPlace context operators (meant line) place.start end (operands_in operators place.operands) place.numbers
+pub record IsFoundPlaceOf (context : Context) (operators : List (Operator × ℕ)) (line : Line) (end : ℕ) (place : Place) : Type 0 where
+  pub is : IsPlaceOfLine context operators (meant line) place.start end (hole_operands_in operators place.operands) place.numbers
   pub starts : List ℕ
   pub cut : AreCut context operators (left_parts line) starts end
   pub place_is : place ≡ place_told operators (left_parts line) starts end
@@ -114,9 +114,9 @@ effects_told (Some tree) = record { writes = tree.writes; traps = tree.traps; as
 effects_told None = record { writes = false; traps = false; asks = false }
 
 -- of the hole with an index, or that there is none
-abbrev pub IsKnown : Context → (code : List Instruction) → (is_there : Bool) → Option PrimitiveTypeInfo → Effects → Type 0
-IsKnown context code is_there (Some t) effects = (is_there ≡ true) × Leaves context code t × (effects ≡ effects_of code)
-IsKnown context code is_there None effects = (is_there ≡ false) × (effects ≡ effects_told None)
+abbrev pub HoleIsKnown : Context → (code : List Instruction) → (is_there : Bool) → Option PrimitiveTypeInfo → Effects → Type 0
+HoleIsKnown context code is_there (Some t) effects = (is_there ≡ true) × Leaves context code t × (effects ≡ effects_of code)
+HoleIsKnown context code is_there None effects = (is_there ≡ false) × (effects ≡ effects_told None)
 
 -- of each of the three holes that a line may have
 pub record AreKnown (context : Context) (operators : List (Operator × ℕ)) (parts : List Part) (starts : List ℕ) (end : ℕ)
@@ -124,4 +124,4 @@ pub record AreKnown (context : Context) (operators : List (Operator × ℕ)) (pa
   pub types_count : length types ≡ 3
   pub effects_count : length effects ≡ 3
   pub each : (n : ℕ) → n < 3 →
-      IsKnown context (operand_code operators parts starts end n) (has_hole parts n) (option_flatten (slice_get types n)) (effect_at effects n)
+      HoleIsKnown context (operand_code operators parts starts end n) (has_hole parts n) (option_flatten (slice_get types n)) (effect_at effects n)

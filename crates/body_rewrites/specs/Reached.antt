@@ -1,7 +1,7 @@
 -- Which operators of a body rules reach (this project).
 use Rattle.std.specs.Prelude.{◌≡◌, ◌↔◌, ◌<◌, ℕ, Bool, true, false, if◌then◌else◌, List, [], ◌∷◌, length, Some, slice_get}
 use Rattle.wasm_code.specs.declared.operator.Operator.{Operator}
-use Rattle.peephole_machine.specs.Values.{Context}
+use Rattle.wasm_execution.specs.Values.{Context}
 use Rattle.rewrite_rules.specs.declared.rule.Rule.{Rule}
 use Rattle.body_rewrites.specs.declared.found.Found.{Found}
 use Rattle.body_rewrites.specs.declared.growth.Growth.{Growth}
@@ -16,14 +16,14 @@ pub record IsReached (context : Context) (operators : List (Operator × ℕ)) (r
   pub is_wanted : IsWantedBy context operators rules wanted rewrite
 
 -- the operator there is marked
-abbrev pub IsMarked : (marks : List Bool) → (at : ℕ) → Type 0
-IsMarked marks at = slice_get marks at ≡ Some true
+abbrev pub OperatorIsMarked : (marks : List Bool) → (at : ℕ) → Type 0
+OperatorIsMarked marks at = slice_get marks at ≡ Some true
 
 -- There are as many marks as `end`, and just those are set that stand for reached operators.
 pub record AreReachedBelow (context : Context) (operators : List (Operator × ℕ)) (rules : List Rule) (wanted : List Growth) (end : ℕ)
     (marks : List Bool) : Type 0 where
   pub count : length marks ≡ end
-  pub each : (at : ℕ) → at < end → IsMarked marks at ↔ IsReached context operators rules wanted at
+  pub each : (at : ℕ) → at < end → OperatorIsMarked marks at ↔ IsReached context operators rules wanted at
 
 -- There is a mark for each operator, and just those are set that stand for reached ones.
 abbrev pub AreReached : Context → List (Operator × ℕ) → List Rule → List Growth → (marks : List Bool) → Type 0

@@ -5,9 +5,9 @@ use Rattle.wasm_types.specs.declared.types.PrimitiveTypeInfo.{PrimitiveTypeInfo}
 use Rattle.body_splices.specs.OwnBytes.{without_offsets}
 use Rattle.body_splices.specs.declared.piece.Piece.{Piece}
 use Rattle.body_splices.specs.Laws.{pieces_operators}
-use Rattle.peephole_machine.specs.declared.integer.IntegerType.{IntegerType}
-use Rattle.peephole_machine.specs.declared.integer.IntegerType.TheVariants as integer
-use Rattle.peephole_machine.specs.Values.{Context}
+use Rattle.wasm_execution.specs.declared.integer.IntegerType.{IntegerType}
+use Rattle.wasm_execution.specs.declared.integer.IntegerType.TheVariants as integer
+use Rattle.wasm_execution.specs.Values.{Context}
 use Rattle.rewrite_rules.specs.declared.table.Row.{Row}
 use Rattle.rewrite_rules.specs.declared.table.Widths.{Widths}
 use Rattle.rewrite_rules.specs.declared.table.Widths.TheVariants.{Own}
@@ -20,7 +20,7 @@ use Rattle.body_rewrites.specs.declared.places.Line.{Line}
 use Rattle.body_rewrites.specs.declared.places.Place.{Place}
 use Rattle.body_rewrites.specs.declared.rewrite.Rewrite.{Rewrite}
 use Rattle.body_rewrites.specs.Matching.{operators_in}
-use Rattle.body_rewrites.specs.Places.{context_of, IsPlaceOf}
+use Rattle.body_rewrites.specs.Places.{context_of, IsFoundPlaceOf}
 use Rattle.body_rewrites.specs.Changed.{AppendsChanged}
 use Rattle.body_rewrites.specs.Changes.{Change, IsWritten}
 use Rattle.body_rewrites.specs.Own.{IsOwnChange}
@@ -36,7 +36,7 @@ Differ operators start end pieces = pieces_operators (without_offsets operators)
 -- are the same code).
 pub record IsLineChange (context : Context) (operators : List (Operator × ℕ)) (line : Line) (at : ℕ) (change : Change) : Type 0 where
   pub place : Place
-  pub is : IsPlaceOf context operators line (at + 1) place
+  pub is : IsFoundPlaceOf context operators line (at + 1) place
   pub change_is : change ≡ by_line line place
   pub differs : Differ operators change.start (at + 1) (change.pieces 0)
 
@@ -82,12 +82,12 @@ IsMade context operators r = (change : Change) × IsMadeBy context operators r c
 
 -- ---- what it does to the number of operators
 
-abbrev pub growth_by : (old new : ℕ) → Growth
-growth_by old new = if nat_lt new old then Shrinks else (if new == old then Keeps else Grows)
+abbrev pub growth_by_sizes : (old new : ℕ) → Growth
+growth_by_sizes old new = if nat_lt new old then Shrinks else (if new == old then Keeps else Grows)
 
 abbrev pub growth_of : List (Operator × ℕ) → (at : ℕ) → Change → Growth
 growth_of operators at change =
-    growth_by (at + 1 - change.start) (length (pieces_operators (without_offsets operators) (change.pieces 0)))
+    growth_by_sizes (at + 1 - change.start) (length (pieces_operators (without_offsets operators) (change.pieces 0)))
 
 -- ---- all that may be asked of a body, in their order: by the operator, the row, the width
 

@@ -1,12 +1,13 @@
 -- The trees of a body's operators: code that stands together, each instruction of which leaves one value, and which needs nothing from before it
 -- (this project).
-use Rattle.std.specs.Prelude.{◌≡◌, ℕ, ◌-◌, ◌+◌, ◌≤◌, ◌<◌, nat_le, if◌then◌else◌, List, [], ◌∷◌, ◌++◌, length, map, take, drop, Option, Some, None, option_map, option_and_then, slice_get, slice_range}
+use Rattle.std.specs.Prelude.{◌≡◌, ℕ, ◌-◌, ◌+◌, ◌≤◌, ◌<◌, nat_le, if◌then◌else◌, List, [], ◌∷◌, ◌++◌, length, map, take, drop, Option, Some}
+use Rattle.std.specs.Prelude.{None, option_map, option_and_then, slice_get, slice_range}
 use Rattle.wasm_code.specs.Instruction.{Instruction}
 use Rattle.wasm_code.specs.declared.operator.Operator.{Operator}
 use Rattle.wasm_code.specs.declared.operator.Operator.TheVariants.{Instr}
 use Rattle.wasm_types.specs.declared.types.PrimitiveTypeInfo.{PrimitiveTypeInfo}
-use Rattle.peephole_machine.specs.Values.{Context}
-use Rattle.peephole_machine.specs.Row.{instruction_types, instruction_count}
+use Rattle.wasm_execution.specs.Values.{Context}
+use Rattle.wasm_execution.specs.Row.{instruction_types, instruction_count}
 use Rattle.rewrite_rules.specs.Code.{Leaves, writes, traps, asks}
 use Rattle.body_rewrites.specs.declared.trees.Tree.{Tree}
 

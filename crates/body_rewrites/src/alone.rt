@@ -1,13 +1,13 @@
 //! Lines whose left side is an operand alone.
 ghost use Rattle.std.specs.Prelude.{◌≡◌};
-ghost use Rattle.peephole_machine.specs.Values.{type_of};
+ghost use Rattle.wasm_execution.specs.Values.{type_of};
 ghost use Rattle.body_rewrites.specs.Alone.{are_alone, doubles, form_of, takes, alone_growth};
 
 use crate::asked::Form;
 use crate::growth::Growth;
 use crate::trees::Tree;
-use peephole_machine::IntegerType;
 use rewrite_rules::{Side, Step, TableRow, Widths, holes_of};
+use wasm_execution::IntegerType;
 use wasm_types::PrimitiveTypeInfo;
 
 // Whether the side is an operand alone.

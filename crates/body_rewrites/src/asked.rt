@@ -13,9 +13,9 @@ use crate::places::{Body, Line, is_exact};
 use crate::rewrite::Rewrite;
 use crate::root::Root;
 use crate::roots::root_of;
-use peephole_machine::IntegerType;
 use rewrite_rules::{Own, TableRow, Widths, row_count, width_by};
 use std::alloc::{AllocError, Global};
+use wasm_execution::IntegerType;
 
 /// What a line is, by which it is asked.
 #[derive(Clone, Copy, PartialEq, Eq)]

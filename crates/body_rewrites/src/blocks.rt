@@ -2,7 +2,7 @@
 ghost use Rattle.std.specs.Prelude.{◌≡◌, ◌<◌, ◌+◌, ℕ, List, length, IsTrue, IfOk};
 ghost use Rattle.wasm_code.specs.declared.operator.Operator.{Operator as BodyOperator};
 ghost use Rattle.wrapped_code.specs.Opened.{opens_block};
-ghost use Rattle.body_rewrites.specs.Blocks.{AreBlocks, AreInnermost, HasRoom, IsNest, IsOpenerOf, outer_at};
+ghost use Rattle.body_rewrites.specs.Blocks.{AreBlocks, AreInnermost, HasRoomForBlock, IsNest, IsOpenerOf, outer_at};
 
 use std::alloc::{AllocError, Global};
 use wasm_code::{Operator, OperatorAndByteOffset};
@@ -96,9 +96,9 @@ impl Blocks {
     // Whether nowhere so many blocks are open that there can't be one more.
     pub(crate) fn has_room(&self) -> bool
         ensures same { IsTrue result → (operators : List (BodyOperator × ℕ))
-            → AreBlocks operators self.now → HasRoom operators }
+            → AreBlocks operators self.now → HasRoomForBlock operators }
         ensures only { (operators : List (BodyOperator × ℕ)) → AreBlocks operators self.now
-            → HasRoom operators → IsTrue result }
+            → HasRoomForBlock operators → IsTrue result }
     {
         self.deepest < 200
     }

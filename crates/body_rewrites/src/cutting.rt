@@ -3,7 +3,7 @@ ghost use Rattle.std.specs.Option.{option_flatten};
 ghost use Rattle.std.specs.Prelude.{◌≡◌, ◌↔◌, ℕ, List, slice_get, IsTrue, IfSome, IfNone};
 ghost use Rattle.wasm_code.specs.Instruction.{Instruction};
 ghost use Rattle.wasm_code.specs.declared.operator.Operator.{Operator as BodyOperator};
-ghost use Rattle.peephole_machine.specs.Values.{Context};
+ghost use Rattle.wasm_execution.specs.Values.{Context};
 ghost use Rattle.rewrite_rules.specs.Instance.{operator_code};
 ghost use Rattle.body_rewrites.specs.Trees.{AreTrees};
 ghost use Rattle.body_rewrites.specs.Cutting.{IsConstant, IsStartAt, IsTreeTold, HasPart, AreCut};
@@ -11,9 +11,9 @@ ghost use Rattle.body_rewrites.specs.Cutting.{IsConstant, IsStartAt, IsTreeTold,
 use crate::parts::Parts;
 use crate::trees::{Tree, instr_at};
 use arrayvec::ArrayVec;
-use peephole_machine::IntegerType;
 use rewrite_rules::{Operator, Part};
 use wasm_code::{Imm, Instr, OperatorAndByteOffset};
+use wasm_execution::IntegerType;
 
 // The number of a constant of the type.
 pub(crate) fn number_of(instr: &Instr, t: IntegerType) -> Option<u64>

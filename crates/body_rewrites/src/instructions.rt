@@ -3,7 +3,7 @@ ghost use Rattle.std.specs.Prelude.{◌≡◌, ◌↔◌, ℕ, IsTrue, IfSome, I
 ghost use Rattle.wasm_code.specs.Instruction.{Instruction, fits_row};
 ghost use Rattle.wasm_code.specs.Table.{row_at};
 ghost use Rattle.wasm_code.specs.declared.immediate.Imm.TheVariants as imm;
-ghost use Rattle.peephole_machine.specs.declared.integer.IntegerType.{IntegerType as WholeType};
+ghost use Rattle.wasm_execution.specs.declared.integer.IntegerType.{IntegerType as WholeType};
 ghost use Rattle.rewrite_rules.specs.Instance.{constant_code};
 ghost use Rattle.body_rewrites.specs.Open.{HasInstruction};
 ghost use Rattle.body_rewrites.specs.Cutting.{IsConstant};
@@ -11,8 +11,8 @@ ghost use Rattle.body_rewrites.specs.Own.{HasConstant};
 ghost use Rattle.body_rewrites.specs.OwnSites.{HasBare, HasIndexed};
 
 use crate::trees::instr_at;
-use peephole_machine::IntegerType;
 use wasm_code::{Imm, Instr, OperatorAndByteOffset};
+use wasm_execution::IntegerType;
 
 // Whether it is the row's instruction, without an immediate.
 fn is_bare(instr: &Instr, row: u16) -> bool

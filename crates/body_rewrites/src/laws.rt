@@ -4,7 +4,7 @@ ghost use Rattle.std.specs.Prelude.{◌≡◌, ◌↔◌, ◌<◌, ◌^◌, ℕ,
 ghost use Rattle.rand_core.specs.Stream.{Stream};
 ghost use Rattle.wasm_code.specs.declared.operator.Operator.{Operator};
 ghost use Rattle.wasm_types.specs.declared.types.PrimitiveTypeInfo.{PrimitiveTypeInfo};
-ghost use Rattle.peephole_machine.specs.Values.{Context};
+ghost use Rattle.wasm_execution.specs.Values.{Context};
 ghost use Rattle.rewrite_rules.specs.declared.growth.Growth.{Growth as RowGrowth};
 ghost use Rattle.rewrite_rules.specs.declared.rule.Rule.{Rule};
 ghost use Rattle.rewrite_rules.specs.declared.table.Row.{Row};
@@ -29,12 +29,12 @@ ghost use Rattle.body_rewrites.specs.Matching.{MatchesAreTheCode, LeftsAreInstan
 
 use crate::own_laws::own_changes_may_stand;
 use body_splices::laws::{spliced_operators_are, splices_keep_operators};
-use peephole_programs::laws::{pieces_do_as_before, replaced_code_is_in_one_piece};
-use peephole_programs::validity::replaced_code_stays_valid;
 use rewrite_rules::laws::{
     besides_keep_code, holes_are_told, parts_are_the_code, rows_are_few, sides_are_parts,
     table_is_right,
 };
+use wasm_equivalence::laws::{pieces_do_as_before, replaced_code_is_in_one_piece};
+use wasm_equivalence::validity::replaced_code_stays_valid;
 use wrapped_code::laws::read_code_has_no_handlers;
 
 /// A tree's code needs nothing from before it, and leaves its value, as an operand in a hole does.

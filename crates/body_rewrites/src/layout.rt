@@ -11,9 +11,9 @@ use crate::asked::{Asked, Form, asked_as, widths_of};
 use crate::places::Line;
 use crate::root::Root;
 use crate::roots::root_of;
-use peephole_machine::IntegerType;
 use rewrite_rules::{TableRow, row_count};
 use std::alloc::{AllocError, Global};
+use wasm_execution::IntegerType;
 
 // The class behind the last one, of which there are 447.
 fn behind_class(last: usize) -> usize

@@ -5,7 +5,7 @@ ghost use Rattle.body_rewrites.specs.Listing.{LineGrows};
 ghost use Rattle.body_rewrites.specs.Places.{context_of, HasItsLists, IsLine};
 ghost use Rattle.body_splices.specs.OwnBytes.{without_offsets};
 ghost use Rattle.rewrite_rules.specs.Table.{parts_for};
-ghost use Rattle.body_rewrites.specs.Rewrites.{MakesNothing, growth_by};
+ghost use Rattle.body_rewrites.specs.Rewrites.{MakesNothing, growth_by_sizes};
 ghost use Rattle.body_rewrites.specs.Writing.{part_count, parts_count};
 ghost use Rattle.body_rewrites.specs.LineMaking.{LineMakesNothing, LineChangeGrows};
 
@@ -20,12 +20,12 @@ use crate::own::growing::own_growth;
 use crate::places::{Body, Line, Place, place_of};
 use crate::roots::fits;
 use crate::writing::operand_in;
-use peephole_machine::IntegerType;
 use rewrite_rules::laws::{
     holes_are_told, parts_are_the_code, sides_are_parts, table_is_right, types_are_told,
 };
 use rewrite_rules::{Part, Step};
 use wasm_code::OperatorAndByteOffset;
+use wasm_execution::IntegerType;
 
 // How many operators of the body stand from `start` to before `end`.
 fn count_in(operators: &[OperatorAndByteOffset], start: usize, end: usize) -> usize
@@ -49,7 +49,7 @@ fn part_count(operators: &[OperatorAndByteOffset], place: &Place, part: Part) ->
 
 // What becomes of a number of which so many are left.
 fn rest_growth(left: usize) -> Growth
-    ensures { result ≡ growth_by left 0 }
+    ensures { result ≡ growth_by_sizes left 0 }
 {
     if left == 0 {
         return Growth::Keeps;
@@ -65,7 +65,7 @@ fn side_growth(
     place: &Place,
     old: usize,
 ) -> Growth
-    ensures { result ≡ growth_by old
+    ensures { result ≡ growth_by_sizes old
         (parts_count operators.now place.now.operands (parts_for width side.now)) }
 {
     let mut left = old;

@@ -1,6 +1,6 @@
 //! What a line of the table makes of an operator.
 ghost use Rattle.std.specs.Prelude.{◌↔◌, ◌<◌, length, IfSome, IfNone, IsTrue};
-ghost use Rattle.body_rewrites.specs.Places.{context_of, HasItsLists, IsLine, IsPlaceOf};
+ghost use Rattle.body_rewrites.specs.Places.{context_of, HasItsLists, IsLine, IsFoundPlaceOf};
 ghost use Rattle.body_rewrites.specs.Rewrites.{Differ};
 ghost use Rattle.body_rewrites.specs.Writing.{by_line};
 ghost use Rattle.body_rewrites.specs.LineMaking.{IsLineCodeOf, LineMakesNothing};
@@ -14,7 +14,7 @@ use crate::writing::line_code;
 pub(crate) fn changes(body: &Body<'_>, line: &Line, end: usize, place: &Place) -> bool
     requires lists { HasItsLists body.now }
     requires line { IsLine line.now }
-    requires place { IsPlaceOf
+    requires place { IsFoundPlaceOf
         (context_of body.now) body.now.operators.now line.now end place.now }
     ensures { IsTrue result ↔ Differ body.now.operators.now place.now.start end
         ((by_line line.now place.now).pieces 0) }

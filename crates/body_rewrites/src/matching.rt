@@ -1,6 +1,6 @@
 //! What stands in the holes of a pattern that stands in a body, and the numbers of its constants.
 ghost use Rattle.std.specs.Prelude.{◌≡◌, ◌↔◌, ◌≤◌, ℕ, List, length, IsTrue, IfSome, IfNone};
-ghost use Rattle.peephole_machine.specs.Values.{Context};
+ghost use Rattle.wasm_execution.specs.Values.{Context};
 ghost use Rattle.rewrite_rules.specs.declared.pattern.Part.{Part};
 ghost use Rattle.body_rewrites.specs.Trees.{AreTrees};
 ghost use Rattle.wasm_code.specs.declared.operator.Operator.{Operator as BodyOperator};

@@ -32,9 +32,9 @@ pub(crate) mod with_nop;
 pub(crate) mod wrap;
 pub(crate) mod writing;
 
-use peephole_machine::IntegerType;
 use rewrite_rules::{Access, Wrap};
 use wasm_code::{Imm, ValType};
+use wasm_execution::IntegerType;
 use wasm_types::PrimitiveTypeInfo;
 
 /// What is made of code, whatever word is drawn.

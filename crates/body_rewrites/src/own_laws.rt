@@ -2,13 +2,13 @@
 
 ghost use Rattle.body_rewrites.specs.Own.{OwnChangesMayStand};
 
-use peephole_programs::laws::{pieces_do_as_before, replaced_code_is_in_one_piece};
-use peephole_programs::validity::replaced_code_stays_valid;
 use rewrite_rules::laws::{
     besides_keep_code, bounds_are_indices, dropped_code_pushes_nothing,
     dropped_constants_push_nothing, selects_are_conditionals, tests_are_conditions,
     wraps_are_right,
 };
+use wasm_equivalence::laws::{pieces_do_as_before, replaced_code_is_in_one_piece};
+use wasm_equivalence::validity::replaced_code_stays_valid;
 use wrapped_code::laws::{
     branches_may_nest, conditions_may_change, dead_code_may_change, indices_may_change,
     unwrapped_code_does_as_before, wrapped_code_does_as_before, wrapped_code_pushes,

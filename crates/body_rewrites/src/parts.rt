@@ -4,9 +4,9 @@ ghost use Rattle.rewrite_rules.specs.declared.pattern.Part.{Part};
 ghost use Rattle.rewrite_rules.specs.Table.{parts_for};
 ghost use Rattle.body_rewrites.specs.Matching.{is_hole, is_slot, is_slot_number};
 
-use peephole_machine::IntegerType;
 use rewrite_rules::{Number, Part, Side, Step};
 use std::marker::Model;
+use wasm_execution::IntegerType;
 
 /// The parts that a side of a line has for a width, the last one first.
 #[derive(Drop)]

@@ -1,22 +1,22 @@
 //! Where a line of the table applies in a body.
 ghost use Rattle.std.specs.Prelude.{◌≡◌, ◌≤◌, ℕ, List, length, IfSome, IfNone};
 ghost use Rattle.wasm_code.specs.declared.operator.Operator.{Operator as BodyOperator};
-ghost use Rattle.peephole_machine.specs.Values.{Context};
+ghost use Rattle.wasm_execution.specs.Values.{Context};
 ghost use Rattle.rewrite_rules.specs.declared.pattern.Part.{Part};
 ghost use Rattle.body_rewrites.specs.Trees.{AreTrees};
 ghost use Rattle.body_rewrites.specs.Cutting.{AreCut};
 ghost use Rattle.body_rewrites.specs.Matching.{begin_of};
-ghost use Rattle.body_rewrites.specs.Places.{context_of, HasItsLists, IsLine, IsPlaceOf, HasSomePlace, meant, operands_told, type_told, effects_told, AreKnown};
+ghost use Rattle.body_rewrites.specs.Places.{context_of, HasItsLists, IsLine, IsFoundPlaceOf, HasSomePlace, meant, hole_places_told, type_told, effects_told, AreKnown};
 
 use crate::blocks::Blocks;
 use crate::laws::lefts_are_instances;
 use crate::matching::{find, operand, operand_at};
 use crate::parts::Parts;
 use crate::trees::Tree;
-use peephole_machine::IntegerType;
 use rewrite_rules::laws::{holes_are_told, parts_are_the_code, sides_are_parts, table_is_right};
 use rewrite_rules::{Effects, Found, TableRow};
 use wasm_code::OperatorAndByteOffset;
+use wasm_execution::IntegerType;
 use wasm_types::{ModuleInfo, PrimitiveTypeInfo};
 
 /// A line of the table: a row, for one of its widths.
@@ -86,7 +86,7 @@ fn type_of(tree: Option<Tree>) -> Option<PrimitiveTypeInfo>
 // Which operators stand in each hole.
 fn operands_of(parts: &Parts<'_>, starts: &[usize], end: usize) -> [(usize, usize); 3]
     requires { length starts.now ≡ length parts.now }
-    ensures { result ≡ operands_told parts.now starts.now end }
+    ensures { result ≡ hole_places_told parts.now starts.now end }
 {
     [
         operand_at(parts, starts, end, 0),
@@ -99,7 +99,7 @@ fn operands_of(parts: &Parts<'_>, starts: &[usize], end: usize) -> [(usize, usiz
 fn known_of(trees: &[Option<Tree>], operands: [(usize, usize); 3]) -> Known
     ensures { (context : Context) (operators : List (BodyOperator × ℕ))
         (parts : List Part) (starts : List ℕ) (end : ℕ)
-        → operands ≡ operands_told parts starts end
+        → operands ≡ hole_places_told parts starts end
         → AreTrees context operators trees.now
         → AreCut context operators parts starts end
         → AreKnown context operators parts starts end result.types result.effects }
@@ -139,7 +139,7 @@ pub fn place_of(body: &Body<'_>, line: &Line, end: usize) -> Option<Place>
     requires line { IsLine line.now }
     requires inside { end ≤ length body.now.operators.now }
     ensures some { IfSome result (λ place.
-        IsPlaceOf (context_of body.now) body.now.operators.now line.now end place) }
+        IsFoundPlaceOf (context_of body.now) body.now.operators.now line.now end place) }
     ensures none { IfNone result
         (¬ (HasSomePlace (context_of body.now) body.now.operators.now (meant line.now) end)) }
 {

@@ -1,6 +1,6 @@
 //! A rewrite of a body.
 
-use peephole_machine::IntegerType;
+use wasm_execution::IntegerType;
 
 /// A rewrite of a body: of the operator with that index, by that row of the table, for that width.
 #[derive(Clone, Copy, Debug, PartialEq, Eq)]

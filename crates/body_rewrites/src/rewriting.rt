@@ -13,10 +13,10 @@ use crate::making::made;
 use crate::places::{Body, Line};
 use crate::rewrite::Rewrite;
 use body_splices::splice;
-use peephole_machine::IntegerType;
 use rewrite_rules::{TableRow, Widths, width_by};
 use std::alloc::{AllocError, Global};
 use wasm_code::{Function, SinkError};
+use wasm_execution::IntegerType;
 use wasm_types::PrimitiveTypeInfo;
 
 // Whether a row of these widths is asked for the width.

@@ -9,11 +9,11 @@ use crate::parts::count_of;
 use crate::places::Line;
 use crate::root::Root;
 use crate::trees::instr_at;
-use peephole_machine::{IntegerType, Operation};
 use rewrite_rules::{
     Access, AccessKind, AccessSide, Conversion, Operator, Own, Step, Widths, access_at,
 };
 use wasm_code::OperatorAndByteOffset;
+use wasm_execution::{IntegerType, Operation};
 
 // The class of the instructions of a row of the instruction table, of which there are 446: its number; and one more for what is none.
 fn class_of(row: u16) -> usize

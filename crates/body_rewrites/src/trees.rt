@@ -3,15 +3,15 @@
 ghost use Rattle.std.specs.Prelude.{◌≡◌, ◌<◌, ◌+◌, ◌-◌, ◌^◌, ℕ, List, [], ◌∷◌, ◌++◌, length, take, IfOk, IfSome, IfNone, OnOk};
 ghost use Rattle.wasm_code.specs.Instruction.{Instruction};
 ghost use Rattle.wasm_code.specs.declared.operator.Operator.{Operator};
-ghost use Rattle.peephole_machine.specs.Values.{Context, context_in};
-ghost use Rattle.peephole_machine.specs.Row.{instruction_types};
+ghost use Rattle.wasm_execution.specs.Values.{Context, context_in};
+ghost use Rattle.wasm_execution.specs.Row.{instruction_types};
 ghost use Rattle.body_rewrites.specs.Trees.{one_type, IsTreeAt, AreTrees};
-ghost use Rattle.body_rewrites.specs.Open.{start_of, behind_if, AreOpen, HasEffectsOf, HasInstruction, HasNoted, IsNext};
+ghost use Rattle.body_rewrites.specs.Open.{start_of, behind_if, AreOpen, HasEffectsOf, HasInstruction, HasNoted, IsNextTree};
 
-use peephole_machine::{asks_world, instruction_types, operand_count};
 use rewrite_rules::{traps, writes};
 use std::alloc::{AllocError, Global};
 use wasm_code::{Instr, Operator, OperatorAndByteOffset};
+use wasm_execution::{asks_world, instruction_types, operand_count};
 use wasm_types::{ModuleInfo, PrimitiveTypeInfo};
 
 /// An operator's tree: where it begins, the type of the value that it leaves, and whether its code may write, trap, or ask the
@@ -139,7 +139,7 @@ impl Open {
         at: usize,
     ) -> Option<(usize, Tree)>
         requires { length self.now.types.items ≡ length self.now.starts.items }
-        ensures { IsNext (context_in info.now locals.now) instr.now at self.now result }
+        ensures { IsNextTree (context_in info.now locals.now) instr.now at self.now result }
     {
         let count = operand_count(info, instr);
         if count > self.starts.len() {

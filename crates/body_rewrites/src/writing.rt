@@ -1,10 +1,10 @@
 //! The code that a line of the table writes.
 ghost use Rattle.std.specs.Prelude.{◌≡◌, [], ◌∷◌, drop, get_or};
-ghost use Rattle.peephole_machine.specs.declared.integer.IntegerType.TheVariants as IntegerType;
+ghost use Rattle.wasm_execution.specs.declared.integer.IntegerType.TheVariants as IntegerType;
 ghost use Rattle.rewrite_rules.specs.Instance.{constant_code, operator_code};
 ghost use Rattle.rewrite_rules.specs.Numbers.{constant_at, first_word};
 ghost use Rattle.rewrite_rules.specs.Parts.{draws};
-ghost use Rattle.rewrite_rules.specs.Table.{parts_for, IsInstruction};
+ghost use Rattle.rewrite_rules.specs.Table.{parts_for, PartIsInstruction};
 ghost use Rattle.rewrite_rules.specs.declared.pattern.Part.TheVariants.{Apply};
 ghost use Rattle.std.specs.List.{All};
 ghost use Rattle.body_rewrites.specs.Places.{IsLine};
@@ -15,10 +15,10 @@ use crate::changes::NewCode;
 use crate::places::{Line, Place};
 use arrayvec::ArrayVec;
 use body_splices::Piece;
-use peephole_machine::IntegerType;
 use rewrite_rules::laws::parts_are_instructions;
 use rewrite_rules::{Operator, Part, Side};
 use wasm_code::{Imm, Instr};
+use wasm_execution::IntegerType;
 
 // The constant with the number's low 32 bits.
 fn i32_constant(number: u64) -> Instr
@@ -53,7 +53,7 @@ pub(crate) fn constant_of(t: IntegerType, number: u64) -> Instr
 
 // The operator's instruction.
 fn operator_of(operator: Operator) -> Instr
-    requires { IsInstruction (Apply operator) }
+    requires { PartIsInstruction (Apply operator) }
     ensures { result ≡ operator_code operator }
 {
     match Instr::new(operator.row(), operator.immediate()) {
@@ -82,7 +82,7 @@ fn first_of(words: &[u64]) -> u64
 
 // The piece that a part of the right side is.
 fn piece_of(part: Part, place: &Place, words: &[u64]) -> Piece
-    requires { IsInstruction part }
+    requires { PartIsInstruction part }
     ensures { result ≡ piece_for place.now.operands (constant_at place.now.numbers) words.now part }
 {
     match part {
@@ -108,7 +108,7 @@ fn words_after(part: Part, words: &[u64]) -> &[u64]
 
 // The pieces of a side for the width.
 fn pieces_of(side: &Side, width: IntegerType, place: &Place, word: u64) -> ArrayVec<Piece, 7>
-    requires { All IsInstruction (parts_for width side.now) }
+    requires { All PartIsInstruction (parts_for width side.now) }
     ensures { result.items ≡ side_pieces place.now.operands
         (constant_at place.now.numbers) (word ∷ []) (parts_for width side.now) }
 {

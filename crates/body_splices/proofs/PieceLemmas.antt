@@ -15,7 +15,7 @@ use Rattle.wasm_code.specs.Immediate.{val_type_code}
 use Rattle.wasm_code.specs.declared.table.Opcode.TheVariants.{Byte, Fc, Fd}
 use Rattle.wasm_code.specs.declared.immediate.BlockType.TheVariants.{Empty, Value}
 use Rattle.wasm_code.specs.declared.operator.Operator.{Operator}
-use Rattle.body_splices.specs.Control.{control_operator, control_bytes, InRange}
+use Rattle.body_splices.specs.Control.{control_operator, control_bytes, LabelInRange}
 use Rattle.body_splices.specs.declared.control.Control.{Control}
 use Rattle.body_splices.specs.declared.control.Control.TheVariants as control
 use Rattle.wasm_code.specs.declared.operator.Operator.TheVariants as op
@@ -47,7 +47,7 @@ whole b back o opcode behind =
     record { value = Byte b; front = b ∷ []; back = back; parts = refl; first = first; second = behind }
 
 -- the bytes of a structural operator spell it
-control_spelled : LabelsSpell → (c : Control) → InRange c → Spells (control_bytes c) (control_operator c)
+control_spelled : LabelsSpell → (c : Control) → LabelInRange c → Spells (control_bytes c) (control_operator c)
 control_spelled spell (control.Block t) fits = whole 0x02 (val_type_code t ∷ []) (op.Block (Value t)) (refl, refl) (refl, refl)
 control_spelled spell (control.Loop t) fits = whole 0x03 (val_type_code t ∷ []) (op.Loop (Value t)) (refl, refl) (refl, refl)
 control_spelled spell (control.If t) fits = whole 0x04 (val_type_code t ∷ []) (op.If (Value t)) (refl, refl) (refl, refl)
@@ -59,7 +59,7 @@ control_spelled spell (control.BranchIf label) fits = whole 0x0d (shortest label
 control_spelled spell control.Unreachable fits = whole 0x00 [] op.Unreachable (refl, refl) (refl, refl)
 
 -- of an operator that is known, any spelling is one of these
-control_any : LabelsSpell → (c : Control) → InRange c → SpellsAny (control_bytes c) (control_operator c)
+control_any : LabelsSpell → (c : Control) → LabelInRange c → SpellsAny (control_bytes c) (control_operator c)
 control_any spell (control.Block t) fits = control_spelled spell (control.Block t) fits
 control_any spell (control.Loop t) fits = control_spelled spell (control.Loop t) fits
 control_any spell (control.If t) fits = control_spelled spell (control.If t) fits

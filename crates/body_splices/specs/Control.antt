@@ -33,7 +33,7 @@ control_bytes (control.BranchIf label) = 0x0d ∷ shortest label
 control_bytes control.Unreachable = 0x00 ∷ []
 
 -- its label, if it has one, is of its type
-abbrev pub InRange : Control → Type 0
-InRange (control.Branch label) = label < 2 ^ 8
-InRange (control.BranchIf label) = label < 2 ^ 8
-InRange _ = ⊤
+abbrev pub LabelInRange : Control → Type 0
+LabelInRange (control.Branch label) = label < 2 ^ 8
+LabelInRange (control.BranchIf label) = label < 2 ^ 8
+LabelInRange _ = ⊤

@@ -6,7 +6,7 @@ use Rattle.wasm_code.specs.Instruction.{IsInstruction}
 use Rattle.wasm_code.specs.declared.operator.Operator.{Operator}
 use Rattle.body_splices.specs.declared.piece.Piece.{Piece}
 use Rattle.body_splices.specs.declared.piece.Piece.TheVariants.{Kept, New, Structural}
-use Rattle.body_splices.specs.Control.{InRange}
+use Rattle.body_splices.specs.Control.{LabelInRange}
 use Rattle.body_splices.specs.Splice.{piece_bytes, pieces_bytes}
 
 -- where an operator starts in the input
@@ -17,7 +17,7 @@ offset_of operators at = slice_index (map (λ (o : Operator × ℕ). o.1) operat
 abbrev pub IsCoded : Piece → Type 0
 IsCoded (Kept start end) = ⊤
 IsCoded (New i) = IsInstruction i
-IsCoded (Structural c) = InRange c
+IsCoded (Structural c) = LabelInRange c
 
 -- The bytes of the piece are behind what there was.
 pub record PutsPiece (own : List (Operator × List ℕ)) (piece : Piece) (old new : List ℕ) : Type 0 where

@@ -2,7 +2,7 @@
 ghost use Rattle.std.specs.Prelude.{◌≡◌, ◌++◌, ◌∷◌, OnOk, OnErr};
 ghost use Rattle.wasm_code.specs.Code.{shortest};
 ghost use Rattle.wasm_code.specs.Immediate.{val_type_code};
-ghost use Rattle.body_splices.specs.Control.{control_bytes, InRange};
+ghost use Rattle.body_splices.specs.Control.{control_bytes, LabelInRange};
 
 use wasm_code::{Function, SinkError, ValType};
 
@@ -61,7 +61,7 @@ fn put_labelled(opcode: u8, label: u8, sink: &mut Function) -> Result<(), SinkEr
 pub(crate) fn put_control(control: Control, sink: &mut Function) -> Result<(), SinkError>
     ensures ok { OnOk result (sink.new ≡ sink.old ++ control_bytes control) }
     ensures err { OnErr result (sink.new ≡ sink.old) }
-    ensures in_range { InRange control }
+    ensures in_range { LabelInRange control }
 {
     match control {
         Control::Block(t) => sink.raw(&[0x02, type_byte(t)]),

@@ -1,4 +1,6 @@
 //! Bodies in which some operators are replaced by others.
+//!
+//! Tests: `tests`, in this crate.
 #![tactic(auto)]
 
 mod bytes;

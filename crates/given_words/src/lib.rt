@@ -1,4 +1,6 @@
 //! Words that a caller gives in place of a random generator's: owned, or lent.
+//!
+//! Tests: `reading_tests::base`.
 #![tactic(auto)]
 
 pub mod laws;

@@ -6,11 +6,11 @@ use Rattle.std.proofs.lemmas.Option.{slice_get-get_or}
 use Rattle.std.proofs.lemmas.Bool.{cases_eq, cases_lt}
 use Rattle.wasm_code.specs.Instruction.{Instruction}
 use Rattle.wasm_types.specs.Module.{Module}
-use Rattle.wasm_declarations.specs.declared.entries.Entry.{Entry}
+use Rattle.wasm_lists.specs.declared.entries.Entry.{Entry}
 use Rattle.wasm_module.specs.Inside.{IsInside}
 use Rattle.wasm_module.specs.Module.{Layout}
 use Rattle.module_rewrites.specs.Drawing.{WordNames}
-use Rattle.module_changes.specs.Chosen.{AreUnchanged, ChoosesNothing, IsUnchanged, NamesEntry, behind, before}
+use Rattle.module_changes.specs.Chosen.{AreUnchanged, ChoosesNothing, IsUnchanged, NamesChangedEntry, behind, before}
 use Rattle.module_changes.specs.Donor.{Donor, IsCopiedBy}
 use Rattle.module_changes.specs.Entry.{AllTried, AreTried, IsFirstWithin}
 use Rattle.module_changes.specs.Scope.{Choice, Scope}
@@ -46,11 +46,12 @@ module _ (donor : Donor) (scope : Scope) (bytes : List ℕ) (info : Module) (lay
   abbrev count : ℕ
   count = length layout.entries
 
-  named_behind : {Is : ℕ → Type 0} (w : IsFirstWithin choice bytes info layout (drop 1 words) from count Is) → NamesEntry choice bytes info layout words w.n
+  named_behind : {Is : ℕ → Type 0} (w : IsFirstWithin choice bytes info layout (drop 1 words) from count Is) →
+      NamesChangedEntry choice bytes info layout words w.n
   named_behind w = record { from = from; named = named; chosen = w.chosen; first = behind w.behind w.before w.unchanged }
 
   named_before : {Is : ℕ → Type 0} (w : IsFirstWithin choice bytes info layout (drop 1 words) 0 from Is) →
-      AreUnchanged choice bytes info layout (drop 1 words) from count → NamesEntry choice bytes info layout words w.n
+      AreUnchanged choice bytes info layout (drop 1 words) from count → NamesChangedEntry choice bytes info layout words w.n
   named_before w later = record {
     from = from;
     named = named;

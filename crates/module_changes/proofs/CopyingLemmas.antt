@@ -4,7 +4,7 @@ use Rattle.std.specs.Prelude.{get_or, slice_get, IsTrue}
 use Rattle.wasm_code.specs.Instruction.{Instruction}
 use Rattle.wasm_code.specs.declared.operator.Operator.{Operator}
 use Rattle.wasm_types.specs.declared.types.PrimitiveTypeInfo.{PrimitiveTypeInfo}
-use Rattle.peephole_machine.specs.Values.{context_in}
+use Rattle.wasm_execution.specs.Values.{context_in}
 use Rattle.body_changes.specs.Copied.{IsUnitNamed}
 use Rattle.body_changes.specs.Drawing.{AskTypesAlone}
 use Rattle.module_rewrites.specs.Function.{IsFunction}

@@ -1,5 +1,6 @@
 -- A code entry with a change.
-use Rattle.std.proofs.Common.{◌≡◌, ◌⊎◌, ℕ, zero, suc, ◌+◌, ◌-◌, ◌<◌, ◌≤◌, inl, inr, true, List, [], ◌∷◌, ◌++◌, length, map, take, drop, Some, None, refl, sym, ap, ◌∙◌}
+use Rattle.std.proofs.Common.{◌≡◌, ◌⊎◌, ℕ, zero, suc, ◌+◌, ◌-◌, ◌<◌, ◌≤◌, inl, inr, true, List, [], ◌∷◌, ◌++◌, length, map, take, drop}
+use Rattle.std.proofs.Common.{Some, None, refl, sym, ap, ◌∙◌}
 use Rattle.std.proofs.Common.{subst, arith}
 use Rattle.std.specs.Prelude.{◌≢◌, slice_get, slice_range, IsTrue}
 use Rattle.std.specs.List.{All}
@@ -14,23 +15,23 @@ use Rattle.wasm_code.specs.declared.operator.Operator.TheVariants.{Instr}
 use Rattle.wasm_types.specs.Module.{Module}
 use Rattle.wasm_types.specs.declared.types.PrimitiveTypeInfo.{PrimitiveTypeInfo}
 use Rattle.wasm_types.specs.declared.types.PrimitiveTypeInfo.TheVariants.{Empty}
-use Rattle.wasm_declarations.specs.declared.entries.Entry.{Entry}
+use Rattle.wasm_lists.specs.declared.entries.Entry.{Entry}
 use Rattle.wasm_module.specs.Limits.{IsTooLarge}
 use Rattle.wasm_module.specs.Module.{Layout, IsModule}
 use Rattle.wasm_module.specs.Reread.{IsReread}
 use Rattle.wasm_module.specs.Rewritten.{IsRewritten}
-use Rattle.peephole_machine.specs.Values.{Context, context_in}
-use Rattle.peephole_programs.specs.control.Standard.{asks_beyond}
+use Rattle.wasm_execution.specs.Values.{Context, context_in}
+use Rattle.wasm_equivalence.specs.control.Standard.{asks_beyond}
 use Rattle.body_splices.specs.Laws.{pieces_operators, SplicesKeepOperators}
 use Rattle.body_splices.specs.OwnBytes.{none_of, own_bytes, without_offsets, IsBodyIn}
-use Rattle.body_changes.specs.Chosen.{Chooses, ChangesNone}
+use Rattle.body_changes.specs.Chosen.{ChoosesChange, ChangesNone}
 use Rattle.body_changes.specs.Kinds.{Material}
 use Rattle.body_changes.specs.Replacing.{new_pieces, AppendsReplaced, AreTheseInstructions, HasInstruction}
 use Rattle.body_changes.specs.declared.change.Change.{Change}
 use Rattle.module_rewrites.specs.Function.{IsFunction}
 use Rattle.module_rewrites.specs.ReadAgain.{BodiesAreReadAgain}
 use Rattle.module_rewrites.specs.Structure.{asking_operators}
-use Rattle.module_changes.specs.Changed.{DoesNotFit, HasNoChange, IsTooLong, MakesChange, WritesBody, WritesCode}
+use Rattle.module_changes.specs.Changed.{ChangeDoesNotFit, HasNoChange, IsTooLong, MakesChange, WritesBody, WritesCode}
 use Rattle.module_changes.specs.Entry.{IsLarge}
 use Rattle.module_changes.specs.Scope.{material_of, Choice}
 use Rattle.module_changes.specs.declared.entry.MadeChange.{MadeChange}
@@ -50,7 +51,7 @@ behind_instruction (x ∷ y ∷ xs) (suc at) i e h = let l = behind_instruction 
 -- so behind the code that is changed
 pub behind_changed : (context : Context) (input : List ℕ) (operators : List (Operator × ℕ)) (material : Material) (changes : List Change) (words : List ℕ)
     (change : Change) (at start : ℕ) (code : List Instruction) → IsBodyIn input operators →
-    Chooses context operators material changes words change at start code → at + 1 < length operators
+    ChoosesChange context operators material changes words change at start code → at + 1 < length operators
 behind_changed context input operators material changes words change at start code body c =
     let unit = c.is.is in behind_instruction operators at unit.instruction unit.has body.spells.last
 
@@ -92,7 +93,8 @@ pub record OfModules : Type 0 where
       All (λ (t : PrimitiveTypeInfo). t ≢ Empty) more → IsReread bytes info layout n contents more new
   pub again : BodiesAreReadAgain
 
-module _ (choice : Choice) (bytes : List ℕ) (info : Module) (layout : Layout) (words : List ℕ) (n : ℕ) (made : MadeChange) (locals lent : List PrimitiveTypeInfo)
+module _ (choice : Choice) (bytes : List ℕ) (info : Module) (layout : Layout) (words : List ℕ) (n : ℕ) (made : MadeChange) (locals lent :
+    List PrimitiveTypeInfo)
     (expression : ℕ) (operators given : Operators) (entry : Entry) (old body front written : List ℕ)
     (f : IsFunction bytes info layout n locals expression operators) (lent_is : lent ≡ locals) (given_is : given ≡ operators) (empty : old ≡ [])
     (found : slice_get layout.entries n ≡ Some entry) (front_is : front ≡ slice_range bytes entry.contents expression) (written_is : written ≡ body)
@@ -144,7 +146,7 @@ module _ (choice : Choice) (bytes : List ℕ) (info : Module) (layout : Layout) 
             f.is.indices.globals (All-nil (λ (t : PrimitiveTypeInfo). t ≢ Empty)));
       }
 
-  pub does_not_fit : IsLarge bytes layout n (front ++ written) choice.scope.size → DoesNotFit choice bytes info layout words n
+  pub does_not_fit : IsLarge bytes layout n (front ++ written) choice.scope.size → ChangeDoesNotFit choice bytes info layout words n
   does_not_fit large = record { made = made; contents = front ++ written; writes = writes; large = go large }
     where
       go : IsLarge bytes layout n (front ++ written) choice.scope.size →

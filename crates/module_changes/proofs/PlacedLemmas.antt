@@ -6,17 +6,17 @@ use Rattle.wasm_code.specs.declared.operator.Operator.{Operator}
 use Rattle.wasm_types.specs.Module.{Module}
 use Rattle.wasm_types.specs.declared.types.PrimitiveTypeInfo.{PrimitiveTypeInfo}
 use Rattle.wasm_module.specs.Module.{Layout, IsModule}
-use Rattle.peephole_machine.specs.Values.{Context, context_in}
-use Rattle.body_changes.specs.Chosen.{Changes, ChangesNone, Chooses, IsFirstFrom, NoneWithin, behind, before}
+use Rattle.wasm_execution.specs.Values.{Context, context_in}
+use Rattle.body_changes.specs.Chosen.{Changes, ChangesNone, ChoosesChange, IsFirstFrom, NoneWithin, behind, before}
 use Rattle.body_changes.specs.Kinds.{IsChange, Material}
 use Rattle.body_changes.specs.declared.change.Change.{Change}
 use Rattle.module_rewrites.specs.Attempt.{RefusesIndex}
 use Rattle.module_rewrites.specs.Function.{IsFunction}
 use Rattle.module_rewrites.specs.declared.attempt.Reason.{Reason}
 use Rattle.module_rewrites.specs.declared.attempt.Reason.TheVariants as reasons
-use Rattle.module_changes.specs.Changed.{DoesNotFit, HasNoChange, MakesChange, WritesBody}
+use Rattle.module_changes.specs.Changed.{ChangeDoesNotFit, HasNoChange, MakesChange, WritesBody}
 use Rattle.module_changes.specs.Entry.{refusal_by}
-use Rattle.module_changes.specs.Placed.{choice_at, least, up_to, words_at, ChangesDown, ChangesLast, IsLargeAt, MakesAt, MakesNone, RefusesLast}
+use Rattle.module_changes.specs.Placed.{choice_at, least, up_to, words_at, ChangesDown, ChangesLast, IsLargeAt, ChangeMakesAt, MakesNone, RefusesLast}
 use Rattle.module_changes.specs.Valid.{StaysValidModule}
 use Rattle.module_changes.specs.declared.entry.MadeChange.{MadeChange}
 use Rattle.module_changes.specs.declared.placed.ChangeAt.{ChangeAt}
@@ -41,9 +41,9 @@ only_one x y zero e = let same : x ≡ y = cc in sym same
 only_one x y (suc n) e = absurd cc
 
 module _ (context : Context) (operators : Operators) (change : Change) (k : ℕ) (inside : k < length operators)
-    (makes : MakesAt context operators change k) where
+    (makes : ChangeMakesAt context operators change k) where
   chosen_is : (other : Change) (at start : ℕ) (code : List Instruction) →
-      Chooses context operators least (change ∷ []) (words_at k) other at start code → (other ≡ change) × (at ≡ k)
+      ChoosesChange context operators least (change ∷ []) (words_at k) other at start code → (other ≡ change) × (at ≡ k)
   chosen_is other at start code c =
       let same = only_one change other c.number c.is_change in (
         same,
@@ -63,7 +63,7 @@ module _ (info : Module) (lent locals : List PrimitiveTypeInfo) (given operators
   found = record { most = 1; copied = copied }
 
   pub made_so : (own change : Change) (at start : ℕ) (code : List Instruction) → own ≡ change →
-      IsChange (context_in info lent) given found [] own at start code → MakesAt (context_in info locals) operators change at
+      IsChange (context_in info lent) given found [] own at start code → ChangeMakesAt (context_in info locals) operators change at
   made_so own change at start code same h = (
     start,
     code,
@@ -74,10 +74,10 @@ module _ (info : Module) (lent locals : List PrimitiveTypeInfo) (given operators
   )
 
   pub none_so : (change : Change) (from to : ℕ) → NoneWithin (Changes (context_in info lent) given found [] change) from to →
-      NoneWithin (MakesAt (context_in info locals) operators change) from to
+      NoneWithin (ChangeMakesAt (context_in info locals) operators change) from to
   none_so change from to h =
-      subst (λ (ts : List PrimitiveTypeInfo). NoneWithin (MakesAt (context_in info ts) operators change) from to) lent_is
-      (subst (λ (os : Operators). NoneWithin (MakesAt (context_in info lent) os change) from to) given_is
+      subst (λ (ts : List PrimitiveTypeInfo). NoneWithin (ChangeMakesAt (context_in info ts) operators change) from to) lent_is
+      (subst (λ (os : Operators). NoneWithin (ChangeMakesAt (context_in info lent) os change) from to) given_is
       (subst (λ (c : List Instruction). NoneWithin (Changes (context_in info lent) given (record { most = 1; copied = c }) [] change) from to) copied_is h))
 
 -- ---- the function that was read
@@ -86,7 +86,7 @@ module _ (at : ChangeAt) (size : ℕ) (bytes : List ℕ) (info : Module) (layout
     (inside : n < length layout.entries) (function_is : layout.imported_functions + n ≡ at.function) (locals : List PrimitiveTypeInfo) (operators : Operators)
     (only : (l : List PrimitiveTypeInfo) (x : ℕ) (o : Operators) → IsFunction bytes info layout n l x o → (locals ≡ l) × (operators ≡ o)) where
   abbrev MakesHere : (k : ℕ) → Type 0
-  MakesHere k = MakesAt (context_in info locals) operators at.change k
+  MakesHere k = ChangeMakesAt (context_in info locals) operators at.change k
 
   -- none of the operators is changed
   pub none_here : NoneWithin MakesHere at.first (min at.end (length operators)) → MakesNone at bytes
@@ -100,19 +100,19 @@ module _ (at : ChangeAt) (size : ℕ) (bytes : List ℕ) (info : Module) (layout
     function_is = function_is;
     none = λ l x o f.
         let same = only l x o f in
-        subst (λ (ts : List PrimitiveTypeInfo). NoneWithin (MakesAt (context_in info ts) o at.change) at.first (min at.end (length o))) same.0
-        (subst (λ (os : Operators). NoneWithin (MakesAt (context_in info locals) os at.change) at.first (min at.end (length os))) same.1 none);
+        subst (λ (ts : List PrimitiveTypeInfo). NoneWithin (ChangeMakesAt (context_in info ts) o at.change) at.first (min at.end (length o))) same.0
+        (subst (λ (os : Operators). NoneWithin (ChangeMakesAt (context_in info locals) os at.change) at.first (min at.end (length os))) same.1 none);
   }
 
   module _ (k : ℕ) (low : at.first ≤ k) (high : k < min at.end (length operators)) (holds : MakesHere k) where
     -- the function that was read is the one that is changed
     holds_there : (l : List PrimitiveTypeInfo) (x : ℕ) (o : Operators) → IsFunction bytes info layout n l x o →
-        (k < length o) × MakesAt (context_in info l) o at.change k
+        (k < length o) × ChangeMakesAt (context_in info l) o at.change k
     holds_there l x o f =
         let same = only l x o f in (
           subst (λ (os : Operators). k < length os) same.1 (omega (arith, high)),
-          subst (λ (ts : List PrimitiveTypeInfo). MakesAt (context_in info ts) o at.change k) same.0
-              (subst (λ (os : Operators). MakesAt (context_in info locals) os at.change k) same.1 holds),
+          subst (λ (ts : List PrimitiveTypeInfo). ChangeMakesAt (context_in info ts) o at.change k) same.0
+              (subst (λ (os : Operators). ChangeMakesAt (context_in info locals) os at.change k) same.1 holds),
         )
 
     pub never_unchanged : (x : ℕ) → IsFunction bytes info layout n locals x operators → HasNoChange (choice_at at size) bytes info layout (words_at k) n → ⊥
@@ -127,13 +127,13 @@ module _ (at : ChangeAt) (size : ℕ) (bytes : List ℕ) (info : Module) (layout
 
     module _ (none : NoneWithin MakesHere (k + 1) (min at.end (length operators))) where
       none_there : (l : List PrimitiveTypeInfo) (x : ℕ) (o : Operators) → IsFunction bytes info layout n l x o →
-          NoneWithin (MakesAt (context_in info l) o at.change) (k + 1) (min at.end (length o))
+          NoneWithin (ChangeMakesAt (context_in info l) o at.change) (k + 1) (min at.end (length o))
       none_there l x o f =
           let same = only l x o f in
-          subst (λ (ts : List PrimitiveTypeInfo). NoneWithin (MakesAt (context_in info ts) o at.change) (k + 1) (min at.end (length o))) same.0
-          (subst (λ (os : Operators). NoneWithin (MakesAt (context_in info locals) os at.change) (k + 1) (min at.end (length os))) same.1 none)
+          subst (λ (ts : List PrimitiveTypeInfo). NoneWithin (ChangeMakesAt (context_in info ts) o at.change) (k + 1) (min at.end (length o))) same.0
+          (subst (λ (os : Operators). NoneWithin (ChangeMakesAt (context_in info locals) os at.change) (k + 1) (min at.end (length os))) same.1 none)
 
-      pub large_here : DoesNotFit (choice_at at size) bytes info layout (words_at k) n → IsLargeAt at size bytes
+      pub large_here : ChangeDoesNotFit (choice_at at size) bytes info layout (words_at k) n → IsLargeAt at size bytes
       large_here large = record {
         info = info;
         layout = layout;
@@ -162,7 +162,7 @@ module _ (at : ChangeAt) (size : ℕ) (bytes : List ℕ) (info : Module) (layout
         behind = omega (arith, low, e);
         before = omega (arith, high, e);
         makes = makes;
-        last = subst (λ (o : ℕ). NoneWithin (MakesAt (context_in info makes.writes.locals) makes.writes.operators at.change) (o + 1)
+        last = subst (λ (o : ℕ). NoneWithin (ChangeMakesAt (context_in info makes.writes.locals) makes.writes.operators at.change) (o + 1)
             (min at.end (length makes.writes.operators))) (sym e)
             (none_there makes.writes.locals makes.writes.expression makes.writes.operators makes.writes.function);
       }

@@ -6,13 +6,13 @@ use Rattle.wasm_code.specs.declared.operator.Operator.{Operator}
 use Rattle.wasm_types.specs.Module.{Module}
 use Rattle.wasm_types.specs.declared.types.PrimitiveTypeInfo.{PrimitiveTypeInfo}
 use Rattle.wasm_module.specs.Module.{Layout}
-use Rattle.peephole_machine.specs.Values.{Context, context_in}
+use Rattle.wasm_execution.specs.Values.{Context, context_in}
 use Rattle.body_changes.specs.Chosen.{Changes}
 use Rattle.body_changes.specs.declared.change.Change.{Change}
 use Rattle.body_rewrites.specs.Listing.{AreThose}
 use Rattle.body_rewrites.specs.ThoseLemmas.{those_with, those_without}
 use Rattle.module_rewrites.specs.Function.{IsFunction}
-use Rattle.module_changes.specs.Placed.{MakesAt}
+use Rattle.module_changes.specs.Placed.{ChangeMakesAt}
 use Rattle.module_changes.specs.Sites.{sites_at, sites_below, AddsSites, AreSites, AreSitesOf, IsSite}
 use Rattle.module_changes.specs.declared.sites.Site.{Site}
 
@@ -58,7 +58,7 @@ pub sites_so : (context : Context) (operators : List (Operator × ℕ)) (copied 
     AreThose (IsSite (Changes context operators (record { most = 1; copied = copied }) [])) (sites_below changes count) sites →
     AreSites context operators changes sites
 sites_so context operators copied changes count sites none all h =
-    subst (λ (k : ℕ). AreThose (IsSite (MakesAt context operators)) (sites_below changes k) sites) all
+    subst (λ (k : ℕ). AreThose (IsSite (ChangeMakesAt context operators)) (sites_below changes k) sites) all
     (subst (λ (c : List Instruction). AreThose (IsSite (Changes context operators (record { most = 1; copied = c }) [])) (sites_below changes count) sites)
     none h)
 

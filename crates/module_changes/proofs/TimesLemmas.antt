@@ -1,5 +1,6 @@
 -- Changes as a generator's words choose them, one after another.
-use Rattle.std.proofs.Common.{◌≡◌, ◌⊎◌, ◌↔◌, ◌≤◌, inl, inr, Bool, false, ℕ, suc, ◌+◌, ◌<◌, List, [], ◌∷◌, ◌++◌, length, Option, Some, None, Result, Ok, Err, true, refl, sym, ap, subst, ◌∙◌, arith, length-append}
+use Rattle.std.proofs.Common.{◌≡◌, ◌⊎◌, ◌↔◌, ◌≤◌, inl, inr, Bool, false, ℕ, suc, ◌+◌, ◌<◌, List, [], ◌∷◌, ◌++◌, length, Option, Some, None}
+use Rattle.std.proofs.Common.{Result, Ok, Err, true, refl, sym, ap, subst, ◌∙◌, arith, length-append}
 use Rattle.std.proofs.lemmas.Bool.{true≢false}
 use Rattle.std.specs.Prelude.{OnErr, OnOk, is_err}
 use Rattle.rand_core.specs.Stream.{Stream}
@@ -9,15 +10,15 @@ use Rattle.module_rewrites.specs.Attempt.{RefusesIndex}
 use Rattle.module_rewrites.specs.Mutated.{IsChosen}
 use Rattle.module_rewrites.specs.declared.attempt.Reason.{Reason}
 use Rattle.module_rewrites.specs.declared.attempt.Reason.TheVariants as reasons
-use Rattle.module_changes.specs.Chosen.{draws, AreInVain, ChoosesLarge, ChoosesNothing, ChoosesOne, IsInVain, SomeMayChange}
+use Rattle.module_changes.specs.Chosen.{most_drawn_times, AreInVain, ChoosesLarge, ChoosesNothing, ChoosesOne, ChangeIsInVain, SomeMayChange}
 use Rattle.module_changes.specs.Donor.{itself, Donor}
 use Rattle.module_changes.specs.Entry.{refusal_by, RefusesFrom}
 use Rattle.module_changes.specs.Scope.{words_count, Scope}
 use Rattle.module_changes.specs.Spliced.{donor_in, AreModules, IsSpliceRefusal}
 use Rattle.module_changes.specs.declared.splicing.SpliceRefusal.TheVariants.{Change}
-use Rattle.module_changes.specs.Times.{ChangesTimes, ChoosesEach, IsRefusal}
-use Rattle.module_changes.specs.Watched.{Seeing, Standing, SeesEach, SeesOne}
-use Rattle.module_changes.specs.Words.{after_words, words_of}
+use Rattle.module_changes.specs.Times.{ChangesTimes, ChoosesEachChange, IsRefusal}
+use Rattle.module_changes.specs.Watched.{SeeingChange, StandingOfChanges, SeesEachChange, SeesOneChange}
+use Rattle.module_changes.specs.Words.{after_words, next_words_of}
 use Rattle.module_changes.specs.declared.entry.MadeChange.{MadeChange}
 use Rattle.module_changes.specs.declared.refusal.Refusal.{Refusal}
 use Rattle.module_changes.specs.declared.refusal.Refusal.TheVariants.{Memory, NoChange, NoFunction, Read, TooLarge, UnknownImport}
@@ -36,8 +37,8 @@ module _ (donor : Donor) (scope : Scope) (bytes : List ℕ) (info : Module) (lay
       ((refusal ≡ NoChange) ⊎ (refusal ≡ TooLarge)) × AreInVain donor scope bytes info layout count (is_large refusal) s now
 
   module _ (count number : ℕ) (words : List ℕ) (refusal : Refusal) (now after : Stream) (before : VainSoFar count refusal now)
-      (many : number ≡ words_count scope) (words_are : words ≡ words_of now number) (after_is : after ≡ after_words now number) where
-    once_more : (large : Bool) → IsInVain donor scope bytes info layout words (is_large refusal) large →
+      (many : number ≡ words_count scope) (words_are : words ≡ next_words_of now number) (after_is : after ≡ after_words now number) where
+    once_more : (large : Bool) → ChangeIsInVain donor scope bytes info layout words (is_large refusal) large →
         AreInVain donor scope bytes info layout (count + 1) large s after
     once_more large vain =
         let next_is : suc count ≡ count + 1 = omega arith in
@@ -45,7 +46,7 @@ module _ (donor : Donor) (scope : Scope) (bytes : List ℕ) (info : Module) (lay
           now,
           is_large refusal,
           before.1,
-          subst (λ (ws : List ℕ). IsInVain donor scope bytes info layout ws (is_large refusal) large) (words_are ∙ ap (words_of now) many) vain,
+          subst (λ (ws : List ℕ). ChangeIsInVain donor scope bytes info layout ws (is_large refusal) large) (words_are ∙ ap (next_words_of now) many) vain,
           after_is ∙ ap (after_words now) many,
         )
 
@@ -57,7 +58,8 @@ module _ (donor : Donor) (scope : Scope) (bytes : List ℕ) (info : Module) (lay
     pub nothing_more : ChoosesNothing donor scope bytes info layout words → VainSoFar (count + 1) refusal after
     nothing_more nothing = (before.0, once_more (is_large refusal) (inr (nothing, refl)))
 
-  pub gives_up : (count : ℕ) (refusal : Refusal) (after : Stream) → SomeMayChange scope.function layout → count ≡ draws → VainSoFar count refusal after →
+  pub gives_up : (count : ℕ) (refusal : Refusal) (after : Stream) → SomeMayChange scope.function layout → count ≡ most_drawn_times →
+      VainSoFar count refusal after →
       RefusesFrom donor scope bytes info layout s refusal
   gives_up count refusal after there all (inl e, vain) =
       subst (RefusesFrom donor scope bytes info layout s) (sym e) (record {
@@ -114,7 +116,7 @@ splice_refuses scope bytes other s m Memory h = tt
 module _ (scope : Scope) (bytes : List ℕ) (s : Stream) where
   -- The bytes are the module with so many changes.
   pub record SoFar (number : ℕ) (made : List MadeChange) (new : List ℕ) (now : Stream) : Type 0 where
-    pub each : ChoosesEach scope bytes s made new now
+    pub each : ChoosesEachChange scope bytes s made new now
     pub number_is : length made ≡ number
 
   -- the first change
@@ -125,7 +127,8 @@ module _ (scope : Scope) (bytes : List ℕ) (s : Stream) where
 
 -- one change more
 each_more : (scope : Scope) (bytes : List ℕ) (s : Stream) (made : List MadeChange) (last : List ℕ) (now : Stream) (m : MadeChange) (new : List ℕ)
-    (after : Stream) → ChoosesEach scope bytes s made last now → ChoosesOne scope last now m new after → ChoosesEach scope bytes s (made ++ m ∷ []) new after
+    (after : Stream) → ChoosesEachChange scope bytes s made last now → ChoosesOne scope last now m new after →
+    ChoosesEachChange scope bytes s (made ++ m ∷ []) new after
 each_more scope bytes s [] last now m new after e chosen = (
   new,
   after,
@@ -170,21 +173,23 @@ module _ (scope : Scope) (bytes : List ℕ) (s : Stream) (number : ℕ) (made : 
 
 -- ---- what is seen
 
-sees_more : {W : Type 0} (saw : Seeing W) (scope : Scope) (from : Standing W) (made : List MadeChange) (last : Standing W) (m : MadeChange)
-    (to : Standing W) → SeesEach saw scope from made last → SeesOne saw scope last m to → SeesEach saw scope from (made ++ m ∷ []) to
-sees_more {W} saw scope from [] last m to e one = (to, subst (λ (s : Standing W). SeesOne saw scope s m to) e one, refl)
+sees_more : {W : Type 0} (saw : SeeingChange W) (scope : Scope) (from : StandingOfChanges W) (made : List MadeChange) (last :
+    StandingOfChanges W) (m : MadeChange)
+    (to : StandingOfChanges W) → SeesEachChange saw scope from made last → SeesOneChange saw scope last m to → SeesEachChange saw scope from (made ++ m ∷ []) to
+sees_more {W} saw scope from [] last m to e one = (to, subst (λ (s : StandingOfChanges W). SeesOneChange saw scope s m to) e one, refl)
 sees_more saw scope from (x ∷ made) last m to each one = (each.0, each.1, sees_more saw scope each.0 made last m to each.2 one)
 
 -- one change more is made, and seen
-pub sees_next : {W : Type 0} (saw : Seeing W) (scope : Scope) (from : Standing W) (old : List MadeChange) (last : List ℕ) (now : Stream) (between : W)
+pub sees_next : {W : Type 0} (saw : SeeingChange W) (scope : Scope) (from : StandingOfChanges W) (old : List MadeChange) (last : List ℕ) (now :
+    Stream) (between : W)
     (m : MadeChange) (made : List MadeChange) (new : List ℕ) (after : Stream) (watcher : W) →
-    SeesEach saw scope from old (record { bytes = last; stream = now; watcher = between }) → made ≡ old ++ m ∷ [] →
+    SeesEachChange saw scope from old (record { bytes = last; stream = now; watcher = between }) → made ≡ old ++ m ∷ [] →
     ChoosesOne scope last now m new after → saw between last new m watcher →
-    SeesEach saw scope from made (record { bytes = new; stream = after; watcher = watcher })
+    SeesEachChange saw scope from made (record { bytes = new; stream = after; watcher = watcher })
 sees_next {W} saw scope from old last now between m made new after watcher each e chosen seen =
-    let here : Standing W = record { bytes = last; stream = now; watcher = between } in
-    let to : Standing W = record { bytes = new; stream = after; watcher = watcher } in
-    subst (λ (ms : List MadeChange). SeesEach saw scope from ms to) (sym e)
+    let here : StandingOfChanges W = record { bytes = last; stream = now; watcher = between } in
+    let to : StandingOfChanges W = record { bytes = new; stream = after; watcher = watcher } in
+    subst (λ (ms : List MadeChange). SeesEachChange saw scope from ms to) (sym e)
     (sees_more saw scope from old here m to each (record { chosen = chosen; seen = seen }))
 
 -- ---- an answer with an error or with a value

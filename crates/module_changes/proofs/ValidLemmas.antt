@@ -8,14 +8,14 @@ use Rattle.wasm_code.specs.declared.operator.Operator.{Operator}
 use Rattle.wasm_types.specs.Module.{Module}
 use Rattle.wasm_types.specs.declared.types.PrimitiveTypeInfo.{PrimitiveTypeInfo}
 use Rattle.wasm_module.specs.Module.{Layout, IsModule}
-use Rattle.peephole_machine.specs.Values.{context_in}
-use Rattle.peephole_programs.specs.control.Function.{structural}
-use Rattle.peephole_programs.specs.control.Standard.{by_asked}
-use Rattle.peephole_programs.specs.control.Wider.{wider_module, wider}
-use Rattle.peephole_programs.specs.hosts.Embedder.{Functions, Beyonds, arity_at, IsValidFunction, AreValid, with_operators, with_function}
-use Rattle.peephole_programs.specs.modules.Program.{Body, context_for}
-use Rattle.peephole_programs.specs.validation.Sound.{IsValid, HasDeeds, HasTargets, ValidBodiesStayValid, TargetsStay, DeedsStay}
-use Rattle.peephole_programs.specs.validation.StaysValid.{StaysValid, MoreGlobalsCheckAlike}
+use Rattle.wasm_execution.specs.Values.{context_in}
+use Rattle.wasm_equivalence.specs.control.Function.{structural}
+use Rattle.wasm_equivalence.specs.control.Standard.{by_asked}
+use Rattle.wasm_equivalence.specs.control.Wider.{wider_module, wider}
+use Rattle.wasm_equivalence.specs.hosts.Embedder.{Functions, Beyonds, arity_at, IsValidFunction, AreValid, with_operators, with_function}
+use Rattle.wasm_equivalence.specs.modules.Program.{Body, function_context}
+use Rattle.wasm_equivalence.specs.validation.Sound.{IsValid, HasDeeds, HasTargets, ValidBodiesStayValid, TargetsStay, DeedsStay}
+use Rattle.wasm_equivalence.specs.validation.StaysValid.{StaysValid, MoreGlobalsCheckAlike}
 use Rattle.body_splices.specs.OwnBytes.{without_offsets}
 use Rattle.module_rewrites.specs.DoesAsBefore.{AreFunctions, IsBodyOf}
 use Rattle.module_rewrites.specs.StandAgain.{FunctionsStandAgain, StandAgain}
@@ -24,7 +24,7 @@ use Rattle.module_changes.specs.Changed.{MakesChange}
 use Rattle.module_changes.specs.Chosen.{ChoosesOne}
 use Rattle.module_changes.specs.Scope.{Choice, Scope}
 use Rattle.module_changes.specs.Spliced.{SplicesOne}
-use Rattle.module_changes.specs.Times.{ChoosesEach}
+use Rattle.module_changes.specs.Times.{ChoosesEachChange}
 use Rattle.module_changes.specs.Valid.{with_bytes, IsValidAfter, SameKind, StaysValidModule}
 use Rattle.module_changes.specs.declared.entry.MadeChange.{MadeChange}
 
@@ -45,7 +45,7 @@ pub record OfValidity : Type 0 where
 record Stays (m : Module) (input : List ℕ) (old new : Body) : Type 0 where
   pub params_are : old.params ≡ new.params
   pub locals_are : old.locals ≡ new.locals
-  pub stays : StaysValid (context_for m old) (wider input [] (context_for m old)) old.operators new.operators
+  pub stays : StaysValid (function_context m old) (wider input [] (function_context m old)) old.operators new.operators
 
 abbrev BothStay : Module → (input : List ℕ) → Option Body → Option Body → Type 0
 BothStay m input (Some old) (Some new) = Stays m input old new
@@ -61,7 +61,7 @@ same_kind m input None (Some new) s = s
 stays_itself : OfValidity → (m : Module) (input : List ℕ) (o : Option Body) → BothStay m input o o
 stays_itself law m input None = tt
 stays_itself law m input (Some b) =
-    record { params_are = refl; locals_are = refl; stays = law.more (context_for m b) input [] b.operators }
+    record { params_are = refl; locals_are = refl; stays = law.more (function_context m b) input [] b.operators }
 
 valid_after : OfValidity → (m : Module) (input : List ℕ) (old new : Functions) (beyonds : Beyonds) → ((f : ℕ) → BothStay m input (old f) (new f)) →
     AreValid m old beyonds → AreValid (wider_module input [] m) new beyonds
@@ -76,11 +76,12 @@ valid_after law m input old new beyonds same valid f c k = go (old f) refl (subs
         let locals : b.params ++ b.locals ≡ c.params ++ c.locals = ap₂ (λ (xs ys : List PrimitiveTypeInfo). xs ++ ys) d.params_are d.locals_are in
         record {
           params_are = sym d.params_are ∙ v.params_are;
-          valid = subst (λ (os : List Operator). IsValid (context_in (wider_module input [] m) (c.params ++ c.locals)) ends (by_asked os (beyonds f)) c.operators)
+          valid = subst (λ (os : List Operator). IsValid (context_in (wider_module input [] m) (c.params ++ c.locals)) ends (by_asked os (beyonds f))
+              c.operators)
               structure
               (subst (λ (ts : List PrimitiveTypeInfo).
               IsValid (context_in (wider_module input [] m) ts) ends (by_asked (structural b.operators) (beyonds f)) c.operators) locals
-              (law.bodies (context_for m b) input [] ends (by_asked (structural b.operators) (beyonds f)) b.operators c.operators v.valid d.stays));
+              (law.bodies (function_context m b) input [] ends (by_asked (structural b.operators) (beyonds f)) b.operators c.operators v.valid d.stays));
           targets = subst (λ (os : List Operator). HasTargets (wider_module input [] m) os (by_asked os (beyonds f))) structure
               (law.targets m input [] (structural b.operators) (by_asked (structural b.operators) (beyonds f)) v.targets);
           deeds = subst (λ (os : List Operator). HasDeeds (wider_module input [] m) ends os (by_asked os (beyonds f))) structure
@@ -224,7 +225,7 @@ stays_as_it_is bytes = record { functions = λ info layout old is mark are. go i
 -- ---- several times
 
 pub each_stays : OfValidity → (scope : Scope) (bytes new : List ℕ) (s after : Stream) (made : List MadeChange) →
-    ChoosesEach scope bytes s made new after → StaysValidModule bytes new
+    ChoosesEachChange scope bytes s made new after → StaysValidModule bytes new
 each_stays law scope bytes new s after [] h = subst (StaysValidModule bytes) (sym h.0) (stays_as_it_is bytes)
 each_stays law scope bytes new s after (m ∷ made) h =
     stays_follow bytes h.0 new (one_stays law scope bytes h.0 s h.1 m h.2) (each_stays law scope h.0 new h.1 after made h.3)

@@ -7,9 +7,9 @@ use Rattle.wasm_types.specs.declared.types.PrimitiveTypeInfo.{PrimitiveTypeInfo}
 use Rattle.wasm_module.specs.Limits.{IsTooLarge}
 use Rattle.wasm_module.specs.Module.{Layout}
 use Rattle.wasm_module.specs.Rewritten.{IsRewritten}
-use Rattle.peephole_machine.specs.Values.{Context, context_in}
+use Rattle.wasm_execution.specs.Values.{Context, context_in}
 use Rattle.body_splices.specs.OwnBytes.{without_offsets}
-use Rattle.body_changes.specs.Chosen.{Chooses, ChangesNone}
+use Rattle.body_changes.specs.Chosen.{ChoosesChange, ChangesNone}
 use Rattle.body_changes.specs.declared.change.Change.{Change}
 use Rattle.body_changes.specs.Replacing.{AppendsReplaced}
 use Rattle.module_rewrites.specs.Function.{IsFunction}
@@ -21,7 +21,7 @@ use Rattle.module_changes.specs.declared.entry.MadeChange.{MadeChange}
 pub record WritesCode (choice : Choice) (context : Context) (bytes : List ℕ) (operators : List (Operator × ℕ)) (words : List ℕ) (change : Change)
     (at start : ℕ) (old new : List ℕ) : Type 0 where
   pub code : List Instruction
-  pub chooses : Chooses context operators (material_of choice) choice.scope.changes words change at start code
+  pub chooses : ChoosesChange context operators (material_of choice) choice.scope.changes words change at start code
   pub replaced : AppendsReplaced context bytes operators start (at + 1) code old new
 
 -- By these words the n-th code entry contains its locals as they stood, and its body so.
@@ -60,7 +60,7 @@ pub record IsTooLong (choice : Choice) (bytes : List ℕ) (layout : Layout) (n :
   pub long : choice.scope.size < length new
 
 -- The change that they choose there makes a module of which 32 bits don't hold a size, or that has more bytes than it may.
-pub record DoesNotFit (choice : Choice) (bytes : List ℕ) (info : Module) (layout : Layout) (words : List ℕ) (n : ℕ) : Type 0 where
+pub record ChangeDoesNotFit (choice : Choice) (bytes : List ℕ) (info : Module) (layout : Layout) (words : List ℕ) (n : ℕ) : Type 0 where
   pub made : MadeChange
   pub contents : List ℕ
   pub writes : WritesBody choice bytes info layout words n made contents

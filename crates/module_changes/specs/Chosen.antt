@@ -6,10 +6,10 @@ use Rattle.wasm_types.specs.Module.{Module}
 use Rattle.wasm_module.specs.Module.{Layout, IsModule}
 use Rattle.module_rewrites.specs.Drawing.{WordNames}
 use Rattle.module_rewrites.specs.Mutated.{IsChosen}
-use Rattle.module_changes.specs.Changed.{DoesNotFit, HasNoChange, MakesChange}
+use Rattle.module_changes.specs.Changed.{ChangeDoesNotFit, HasNoChange, MakesChange}
 use Rattle.module_changes.specs.Donor.{itself, Donor, IsCopiedBy}
 use Rattle.module_changes.specs.Scope.{words_count, Choice, Scope}
-use Rattle.module_changes.specs.Words.{after_words, words_of}
+use Rattle.module_changes.specs.Words.{after_words, next_words_of}
 use Rattle.module_changes.specs.declared.entry.MadeChange.{MadeChange}
 
 -- By these words the function of the n-th code entry stays as it is: it may not be changed, or no change makes anything in it.
@@ -27,19 +27,20 @@ pub data IsFirstBut (None : (from to : ℕ) → Type 0) (count from n : ℕ) : T
 
 -- These words name the n-th code entry: the first one names an entry, and it is that, or else the first one behind it, and then from the first one on, whose
 -- function may be changed and in which the words behind it choose a change.
-pub record NamesEntry (choice : Choice) (bytes : List ℕ) (info : Module) (layout : Layout) (words : List ℕ) (n : ℕ) : Type 0 where
+pub record NamesChangedEntry (choice : Choice) (bytes : List ℕ) (info : Module) (layout : Layout) (words : List ℕ) (n : ℕ) : Type 0 where
   pub from : ℕ
   pub named : WordNames (get_or words 0 0) layout.entries from
   pub chosen : IsChosen choice.scope.function (layout.imported_functions + n)
   pub first : IsFirstBut (AreUnchanged choice bytes info layout (drop 1 words)) (length layout.entries) from n
 
 -- By these words the module becomes the new bytes: the change that they choose in the entry that they name is made.
-pub record ChoosesBy (donor : Donor) (scope : Scope) (bytes : List ℕ) (info : Module) (layout : Layout) (words : List ℕ) (made : MadeChange) (new : List ℕ) :
+pub record ChoosesChangeBy (donor : Donor) (scope : Scope) (bytes : List ℕ) (info : Module) (layout : Layout) (words : List ℕ) (made :
+    MadeChange) (new : List ℕ) :
     Type 0 where
   pub copied : List Instruction
   pub is_copied : IsCopiedBy donor scope.changes words copied
   pub n : ℕ
-  pub entry : NamesEntry (record { scope = scope; copied = copied }) bytes info layout words n
+  pub entry : NamesChangedEntry (record { scope = scope; copied = copied }) bytes info layout words n
   pub makes : MakesChange (record { scope = scope; copied = copied }) bytes info layout (drop 1 words) n made new
 
 -- The change that they choose there doesn't fit.
@@ -47,8 +48,8 @@ pub record ChoosesLarge (donor : Donor) (scope : Scope) (bytes : List ℕ) (info
   pub copied : List Instruction
   pub is_copied : IsCopiedBy donor scope.changes words copied
   pub n : ℕ
-  pub entry : NamesEntry (record { scope = scope; copied = copied }) bytes info layout words n
-  pub large : DoesNotFit (record { scope = scope; copied = copied }) bytes info layout (drop 1 words) n
+  pub entry : NamesChangedEntry (record { scope = scope; copied = copied }) bytes info layout words n
+  pub large : ChangeDoesNotFit (record { scope = scope; copied = copied }) bytes info layout (drop 1 words) n
 
 -- They choose no change of any function that may be changed.
 pub record ChoosesNothing (donor : Donor) (scope : Scope) (bytes : List ℕ) (info : Module) (layout : Layout) (words : List ℕ) : Type 0 where
@@ -59,8 +60,8 @@ pub record ChoosesNothing (donor : Donor) (scope : Scope) (bytes : List ℕ) (in
 -- ---- drawn words
 
 -- They choose nothing that can be made: what doesn't fit, and then `large` is true, or nothing at all, and then it is what it was.
-abbrev pub IsInVain : Donor → Scope → (bytes : List ℕ) → Module → Layout → (words : List ℕ) → (earlier large : Bool) → Type 0
-IsInVain donor scope bytes info layout words earlier large =
+abbrev pub ChangeIsInVain : Donor → Scope → (bytes : List ℕ) → Module → Layout → (words : List ℕ) → (earlier large : Bool) → Type 0
+ChangeIsInVain donor scope bytes info layout words earlier large =
     (ChoosesLarge donor scope bytes info layout words × (large ≡ true)) ⊎ (ChoosesNothing donor scope bytes info layout words × (large ≡ earlier))
 
 -- So many times, one behind another, the next words do. `large` is true where any of them choose what doesn't fit.
@@ -68,21 +69,21 @@ abbrev pub AreInVain : Donor → Scope → (bytes : List ℕ) → Module → Lay
 AreInVain donor scope bytes info layout zero large s after = (after ≡ s) × (large ≡ false)
 AreInVain donor scope bytes info layout (suc count) large s after =
     (before : Stream) × (earlier : Bool) × AreInVain donor scope bytes info layout count earlier s before
-    × IsInVain donor scope bytes info layout (words_of before (words_count scope)) earlier large × (after ≡ after_words before (words_count scope))
+    × ChangeIsInVain donor scope bytes info layout (next_words_of before (words_count scope)) earlier large × (after ≡ after_words before (words_count scope))
 
 -- how often words are drawn where what they choose can't be made
-abbrev pub draws : ℕ
-draws = 16
+abbrev pub most_drawn_times : ℕ
+most_drawn_times = 16
 
 -- The words behind those that choose nothing that can be made make this of the module, behind fewer than so many such attempts.
 pub record ChoosesLater (donor : Donor) (scope : Scope) (bytes : List ℕ) (info : Module) (layout : Layout) (s : Stream) (made : MadeChange) (new : List ℕ)
     (after : Stream) : Type 0 where
   pub count : ℕ
-  pub few : count < draws
+  pub few : count < most_drawn_times
   pub before : Stream
   pub large : Bool
   pub vain : AreInVain donor scope bytes info layout count large s before
-  pub chooses : ChoosesBy donor scope bytes info layout (words_of before (words_count scope)) made new
+  pub chooses : ChoosesChangeBy donor scope bytes info layout (next_words_of before (words_count scope)) made new
   pub after_is : after ≡ after_words before (words_count scope)
 
 -- a function may be changed, where one is named: indices are known, and the module has one of its own with that
@@ -91,10 +92,10 @@ SomeMayChange only layout =
     (only ≡ None) ⊎ ((layout.unknown.imports ≡ None) × (n : ℕ) × (n < length layout.entries) × IsChosen only (layout.imported_functions + n))
 
 -- So many times words choose nothing that can be made, and that isn't for want of a function.
-pub record GivesUpOn (donor : Donor) (scope : Scope) (bytes : List ℕ) (info : Module) (layout : Layout) (large : Bool) (s : Stream) : Type 0 where
+pub record ChangeGivesUpOn (donor : Donor) (scope : Scope) (bytes : List ℕ) (info : Module) (layout : Layout) (large : Bool) (s : Stream) : Type 0 where
   pub there : SomeMayChange scope.function layout
   pub after : Stream
-  pub vain : AreInVain donor scope bytes info layout draws large s after
+  pub vain : AreInVain donor scope bytes info layout most_drawn_times large s after
 
 -- ---- of a module
 
@@ -107,9 +108,9 @@ pub record ChoosesOne (scope : Scope) (bytes : List ℕ) (s : Stream) (made : Ma
   pub chooses : ChoosesLater (itself bytes info layout) scope bytes info layout s made new after
 
 -- They make nothing of it, so many times; and `large` is true where any choose what doesn't fit.
-pub record GivesUp (scope : Scope) (bytes : List ℕ) (large : Bool) (s : Stream) : Type 0 where
+pub record ChangeGivesUp (scope : Scope) (bytes : List ℕ) (large : Bool) (s : Stream) : Type 0 where
   pub info : Module
   pub layout : Layout
   pub is : IsModule bytes info layout
   pub exact : info.exact ≡ false
-  pub gives_up : GivesUpOn (itself bytes info layout) scope bytes info layout large s
+  pub gives_up : ChangeGivesUpOn (itself bytes info layout) scope bytes info layout large s

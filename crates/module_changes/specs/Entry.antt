@@ -7,10 +7,10 @@ use Rattle.wasm_module.specs.Module.{Layout, IsModule}
 use Rattle.wasm_module.specs.Rewritten.{IsRewritten}
 use Rattle.module_rewrites.specs.Attempt.{RefusesIndex}
 use Rattle.module_rewrites.specs.Mutated.{IsChosen}
-use Rattle.module_changes.specs.Changed.{DoesNotFit, HasNoChange, MakesChange}
+use Rattle.module_changes.specs.Changed.{ChangeDoesNotFit, HasNoChange, MakesChange}
 use Rattle.module_rewrites.specs.declared.attempt.Reason.{Reason}
 use Rattle.module_rewrites.specs.declared.attempt.Reason.TheVariants as reasons
-use Rattle.module_changes.specs.Chosen.{AreUnchanged, ChoosesBy, ChoosesLarge, ChoosesNothing, GivesUpOn}
+use Rattle.module_changes.specs.Chosen.{AreUnchanged, ChoosesChangeBy, ChoosesLarge, ChoosesNothing, ChangeGivesUpOn}
 use Rattle.module_changes.specs.Donor.{Donor}
 use Rattle.module_changes.specs.Scope.{Choice, Scope}
 use Rattle.module_changes.specs.declared.copying.Source.{Source}
@@ -42,7 +42,7 @@ IsLarge bytes layout n contents most =
 abbrev pub IsTried : Choice → (bytes : List ℕ) → Module → Layout → (words : List ℕ) → (n : ℕ) → Attempt → Type 0
 IsTried choice bytes info layout words n (Made made new) = MakesChange choice bytes info layout words n made new.items
 IsTried choice bytes info layout words n Unchanged = HasNoChange choice bytes info layout words n
-IsTried choice bytes info layout words n TooLarge = DoesNotFit choice bytes info layout words n
+IsTried choice bytes info layout words n TooLarge = ChangeDoesNotFit choice bytes info layout words n
 
 -- ---- several entries
 
@@ -61,11 +61,11 @@ AreTried choice bytes info layout words from to (Made made new) =
     IsFirstWithin choice bytes info layout words from to (λ n. MakesChange choice bytes info layout words n made new.items)
 AreTried choice bytes info layout words from to Unchanged = AreUnchanged choice bytes info layout words from to
 AreTried choice bytes info layout words from to TooLarge =
-    IsFirstWithin choice bytes info layout words from to (DoesNotFit choice bytes info layout words)
+    IsFirstWithin choice bytes info layout words from to (ChangeDoesNotFit choice bytes info layout words)
 
 -- what those at all entries did, by words of which the first one names an entry
 abbrev pub AllTried : Donor → Scope → (bytes : List ℕ) → Module → Layout → (words : List ℕ) → Attempt → Type 0
-AllTried donor scope bytes info layout words (Made made new) = ChoosesBy donor scope bytes info layout words made new.items
+AllTried donor scope bytes info layout words (Made made new) = ChoosesChangeBy donor scope bytes info layout words made new.items
 AllTried donor scope bytes info layout words Unchanged = ChoosesNothing donor scope bytes info layout words
 AllTried donor scope bytes info layout words TooLarge = ChoosesLarge donor scope bytes info layout words
 
@@ -75,8 +75,8 @@ AllTried donor scope bytes info layout words TooLarge = ChoosesLarge donor scope
 abbrev pub RefusesFrom : Donor → Scope → (bytes : List ℕ) → Module → Layout → Stream → Refusal → Type 0
 RefusesFrom donor scope bytes info layout s (refusals.NoFunction function) = RefusesIndex layout scope.function (reasons.NoFunction function)
 RefusesFrom donor scope bytes info layout s (refusals.UnknownImport e) = RefusesIndex layout scope.function (reasons.UnknownImport e)
-RefusesFrom donor scope bytes info layout s refusals.NoChange = GivesUpOn donor scope bytes info layout false s
-RefusesFrom donor scope bytes info layout s refusals.TooLarge = GivesUpOn donor scope bytes info layout true s
+RefusesFrom donor scope bytes info layout s refusals.NoChange = ChangeGivesUpOn donor scope bytes info layout false s
+RefusesFrom donor scope bytes info layout s refusals.TooLarge = ChangeGivesUpOn donor scope bytes info layout true s
 RefusesFrom donor scope bytes info layout s refusals.Memory = ⊤
 RefusesFrom donor scope bytes info layout s (refusals.Read e) = ⊥
 

@@ -5,7 +5,7 @@ use Rattle.wasm_types.specs.Module.{Module}
 use Rattle.wasm_types.specs.declared.types.PrimitiveTypeInfo.{PrimitiveTypeInfo}
 use Rattle.wasm_module.specs.Fault.{IsModuleFault}
 use Rattle.wasm_module.specs.Module.{Layout, IsModule}
-use Rattle.peephole_machine.specs.Values.{Context, context_in}
+use Rattle.wasm_execution.specs.Values.{Context, context_in}
 use Rattle.body_changes.specs.Chosen.{Changes, NoneWithin}
 use Rattle.body_changes.specs.Kinds.{Material}
 use Rattle.body_changes.specs.declared.change.Change.{Change}
@@ -13,7 +13,7 @@ use Rattle.module_rewrites.specs.Attempt.{RefusesIndexOf}
 use Rattle.module_rewrites.specs.Function.{IsFunction}
 use Rattle.module_rewrites.specs.declared.attempt.Reason.TheVariants as reasons
 use Rattle.module_rewrites.specs.declared.function.FunctionBody.{FunctionBody}
-use Rattle.module_changes.specs.Changed.{DoesNotFit, MakesChange}
+use Rattle.module_changes.specs.Changed.{ChangeDoesNotFit, MakesChange}
 use Rattle.module_changes.specs.Scope.{Choice}
 use Rattle.module_changes.specs.declared.entry.MadeChange.{MadeChange}
 use Rattle.module_changes.specs.declared.entry.Reading.{Reading}
@@ -28,8 +28,8 @@ abbrev pub least : Material
 least = record { most = 1; copied = [] }
 
 -- The change makes something of the operator, by no words: of a value that is drawn one instruction.
-abbrev pub MakesAt : Context → List (Operator × ℕ) → Change → (at : ℕ) → Type 0
-MakesAt context operators change at = Changes context operators least [] change at
+abbrev pub ChangeMakesAt : Context → List (Operator × ℕ) → Change → (at : ℕ) → Type 0
+ChangeMakesAt context operators change at = Changes context operators least [] change at
 
 -- this change alone, in this function alone
 abbrev pub choice_at : ChangeAt → (size : ℕ) → Choice
@@ -51,7 +51,7 @@ pub record ChangesLast (at : ChangeAt) (size : ℕ) (bytes : List ℕ) (made : M
   pub behind : at.first ≤ made.operator
   pub before : made.operator < at.end
   pub makes : MakesChange (choice_at at size) bytes info layout (words_at made.operator) n made new
-  pub last : NoneWithin (MakesAt (context_in info makes.writes.locals) makes.writes.operators at.change) (made.operator + 1)
+  pub last : NoneWithin (ChangeMakesAt (context_in info makes.writes.locals) makes.writes.operators at.change) (made.operator + 1)
       (min at.end (length makes.writes.operators))
 
 -- It makes nothing of any of them, or the function can't be read.
@@ -65,7 +65,7 @@ pub record MakesNone (at : ChangeAt) (bytes : List ℕ) : Type 0 where
   pub function_is : layout.imported_functions + n ≡ at.function
   pub none : (locals : List PrimitiveTypeInfo) (expression : ℕ) (operators : List (Operator × ℕ)) →
       IsFunction bytes info layout n locals expression operators →
-      NoneWithin (MakesAt (context_in info locals) operators at.change) at.first (min at.end (length operators))
+      NoneWithin (ChangeMakesAt (context_in info locals) operators at.change) at.first (min at.end (length operators))
 
 -- What it makes of the last one of which it makes anything doesn't fit.
 pub record IsLargeAt (at : ChangeAt) (size : ℕ) (bytes : List ℕ) : Type 0 where
@@ -78,9 +78,9 @@ pub record IsLargeAt (at : ChangeAt) (size : ℕ) (bytes : List ℕ) : Type 0 wh
   pub operator : ℕ
   pub behind : at.first ≤ operator
   pub before : operator < at.end
-  pub large : DoesNotFit (choice_at at size) bytes info layout (words_at operator) n
+  pub large : ChangeDoesNotFit (choice_at at size) bytes info layout (words_at operator) n
   pub operator_is : large.made.operator ≡ operator
-  pub last : NoneWithin (MakesAt (context_in info large.writes.locals) large.writes.operators at.change) (operator + 1)
+  pub last : NoneWithin (ChangeMakesAt (context_in info large.writes.locals) large.writes.operators at.change) (operator + 1)
       (min at.end (length large.writes.operators))
 
 -- why none of them is changed
@@ -124,4 +124,4 @@ pub record RefusesAt (at : ChangeAt) (size : ℕ) (bytes : List ℕ) (refusal : 
 
 -- the change makes something of the operator of the function that was read
 abbrev pub MakesIn : Reading → FunctionBody → Change → (at : ℕ) → Type 0
-MakesIn reading function change at = MakesAt (context_in reading.info.now function.locals.items) function.operators.items change at
+MakesIn reading function change at = ChangeMakesAt (context_in reading.info.now function.locals.items) function.operators.items change at

@@ -4,12 +4,12 @@ use Rattle.wasm_code.specs.declared.operator.Operator.{Operator}
 use Rattle.wasm_types.specs.Module.{Module}
 use Rattle.wasm_types.specs.declared.types.PrimitiveTypeInfo.{PrimitiveTypeInfo}
 use Rattle.wasm_module.specs.Module.{Layout}
-use Rattle.peephole_machine.specs.Values.{Context, context_in}
+use Rattle.wasm_execution.specs.Values.{Context, context_in}
 use Rattle.body_changes.specs.declared.change.Change.{Change}
 use Rattle.body_rewrites.specs.Listing.{AreThose}
 use Rattle.module_rewrites.specs.Attempt.{CanRead}
 use Rattle.module_rewrites.specs.Function.{IsFunction}
-use Rattle.module_changes.specs.Placed.{MakesAt}
+use Rattle.module_changes.specs.Placed.{ChangeMakesAt}
 use Rattle.module_changes.specs.declared.entry.MadeChange.{MadeChange}
 use Rattle.module_changes.specs.declared.sites.Site.{Site}
 
@@ -28,7 +28,7 @@ IsSite Makes site = Makes site.change site.operator
 
 -- The list has each operator with each of the changes that makes anything of it, by no words, and no other, in the order of the operators and of the changes.
 abbrev pub AreSites : Context → List (Operator × ℕ) → List Change → List Site → Type 0
-AreSites context operators changes list = AreThose (IsSite (MakesAt context operators)) (sites_below changes (length operators)) list
+AreSites context operators changes list = AreThose (IsSite (ChangeMakesAt context operators)) (sites_below changes (length operators)) list
 
 -- It has those of the function of the n-th code entry; none where that can't be read.
 pub record AreSitesOf (changes : List Change) (bytes : List ℕ) (info : Module) (layout : Layout) (n : ℕ) (list : List Site) : Type 0 where
@@ -37,8 +37,8 @@ pub record AreSitesOf (changes : List Change) (bytes : List ℕ) (info : Module)
   pub none : ¬ (CanRead bytes info layout n) → list ≡ []
 
 -- that of a change that was made
-abbrev pub site_of : MadeChange → Site
-site_of made = record { operator = made.operator; change = made.change }
+abbrev pub site_of_change : MadeChange → Site
+site_of_change made = record { operator = made.operator; change = made.change }
 
 -- ---- for private functions
 

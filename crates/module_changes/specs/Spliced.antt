@@ -6,7 +6,7 @@ use Rattle.wasm_module.specs.Fault.{IsModuleFault}
 use Rattle.wasm_module.specs.Module.{Layout, IsModule}
 use Rattle.module_rewrites.specs.Attempt.{RefusesIndexOf}
 use Rattle.module_rewrites.specs.declared.attempt.Reason.TheVariants as reasons
-use Rattle.module_changes.specs.Chosen.{ChoosesLater, GivesUpOn}
+use Rattle.module_changes.specs.Chosen.{ChoosesLater, ChangeGivesUpOn}
 use Rattle.module_changes.specs.Donor.{Donor}
 use Rattle.module_changes.specs.Scope.{Scope}
 use Rattle.module_changes.specs.declared.entry.MadeChange.{MadeChange}
@@ -39,7 +39,7 @@ pub record SplicesOne (scope : Scope) (bytes other : List ℕ) (s : Stream) (mad
 -- They make nothing, so many times; `large` is true where any choose what doesn't fit.
 pub record SplicesNone (scope : Scope) (bytes other : List ℕ) (large : Bool) (s : Stream) : Type 0 where
   pub are : AreModules bytes other
-  pub gives_up : GivesUpOn (donor_in are) scope bytes are.info are.layout large s
+  pub gives_up : ChangeGivesUpOn (donor_in are) scope bytes are.info are.layout large s
 
 -- why nothing of the module is changed
 abbrev pub IsSpliceRefusal : Scope → (bytes other : List ℕ) → Stream → SpliceRefusal → Type 0

@@ -2,9 +2,9 @@
 use Rattle.std.specs.Prelude.{◌≡◌, ⊤, false, ℕ, List, [], Option, Some, None}
 use Rattle.wasm_types.specs.Module.{Module}
 use Rattle.wasm_module.specs.Module.{Layout, IsModule}
-use Rattle.peephole_programs.specs.control.Wider.{wider_module}
-use Rattle.peephole_programs.specs.hosts.Embedder.{Functions, Beyonds, AreValid}
-use Rattle.peephole_programs.specs.modules.Program.{Body}
+use Rattle.wasm_equivalence.specs.control.Wider.{wider_module}
+use Rattle.wasm_equivalence.specs.hosts.Embedder.{Functions, Beyonds, AreValid}
+use Rattle.wasm_equivalence.specs.modules.Program.{Body}
 use Rattle.module_rewrites.specs.DoesAsBefore.{AreFunctions}
 use Rattle.module_rewrites.specs.Function.{KnowsIndices}
 use Rattle.module_rewrites.specs.Structure.{AreLabelled}

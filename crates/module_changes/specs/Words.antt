@@ -4,9 +4,9 @@ use Rattle.rand_core.specs.Stream.{Stream, next_u64}
 use Rattle.body_rewrites.specs.Choice.{after_word}
 
 -- its next words, so many
-abbrev pub words_of : Stream → (count : ℕ) → List ℕ
-words_of s zero = []
-words_of s (suc n) = (next_u64 s).0 ∷ words_of (after_word s) n
+abbrev pub next_words_of : Stream → (count : ℕ) → List ℕ
+next_words_of s zero = []
+next_words_of s (suc n) = (next_u64 s).0 ∷ next_words_of (after_word s) n
 
 -- what it gives behind them
 abbrev pub after_words : Stream → (count : ℕ) → Stream

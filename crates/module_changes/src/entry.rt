@@ -2,7 +2,7 @@
 ghost use Rattle.std.specs.Prelude.{◌≡◌, ◌<◌, ◌≤◌, ◌+◌, ◌++◌, ℕ, List, [], Some, IfErr, IfNone, IfOk, IfSome, length, slice_get, slice_range};
 ghost use Rattle.wasm_code.specs.declared.operator.Operator.{Operator};
 ghost use Rattle.wasm_types.specs.declared.types.PrimitiveTypeInfo.{PrimitiveTypeInfo};
-ghost use Rattle.body_changes.specs.Replacing.{context_of};
+ghost use Rattle.body_changes.specs.Replacing.{source_context};
 ghost use Rattle.body_splices.specs.OwnBytes.{IsBodyIn};
 ghost use Rattle.body_changes.specs.Chosen.{ChangesNone};
 ghost use Rattle.wasm_module.specs.Rewritten.{IsRewritten};
@@ -44,11 +44,11 @@ pub struct MadeChange {
 
 impl MadeChange {
     ghost use Rattle.std.specs.Prelude.{◌≡◌};
-    ghost use Rattle.module_changes.specs.Sites.{site_of};
+    ghost use Rattle.module_changes.specs.Sites.{site_of_change};
 
     /// The operator and the change.
     pub fn site(&self) -> Site
-        ensures { result ≡ site_of self.now }
+        ensures { result ≡ site_of_change self.now }
     {
         Site {
             operator: self.operator,
@@ -129,10 +129,10 @@ fn change_body(
     requires body { IsBodyIn source.now.input.now source.now.operators.now }
     requires some { 0 < trial.now.scope.now.most }
     ensures made { IfOk result (λ o. IfSome o (λ c. WritesCode (choice_of trial.now)
-        (context_of source.now) source.now.input.now source.now.operators.now
+        (source_context source.now) source.now.input.now source.now.operators.now
         trial.now.words.now c.change c.at c.start sink.old sink.new)) }
     ensures none { IfOk result (λ o. IfNone o (ChangesNone
-        (context_of source.now) source.now.operators.now
+        (source_context source.now) source.now.operators.now
         (material_of (choice_of trial.now)) trial.now.scope.now.changes trial.now.words.now)) }
     ensures memory { IfErr result (λ e. e ≡ Memory) }
 {

@@ -5,13 +5,13 @@ ghost use Rattle.module_changes.specs.Chosen.{ChoosesOne};
 ghost use Rattle.module_changes.specs.Placed.{ChangesDown};
 ghost use Rattle.module_changes.specs.Scope.{Scope};
 ghost use Rattle.module_changes.specs.Spliced.{SplicesOne};
-ghost use Rattle.module_changes.specs.Times.{ChoosesEach};
+ghost use Rattle.module_changes.specs.Times.{ChoosesEachChange};
 ghost use Rattle.module_changes.specs.Valid.{StaysValidModule};
 ghost use Rattle.module_changes.specs.declared.entry.MadeChange.{MadeChange};
 ghost use Rattle.module_changes.specs.declared.placed.ChangeAt.{ChangeAt};
 
 use module_rewrites::laws::functions_stand_again;
-use peephole_programs::validity::{valid_bodies_stay_valid, validity_goes_by_types};
+use wasm_equivalence::validity::{valid_bodies_stay_valid, validity_goes_by_types};
 use wasm_module::laws::one_reading;
 
 /// A changed module (`one`), one changed several times (`each`), with code of another module (`spliced`) or at operators that are named
@@ -21,7 +21,7 @@ pub fn changed_modules_stay_valid()
     ensures one { (scope : Scope) (bytes new : List ℕ) (s after : Stream) (made : MadeChange)
         → ChoosesOne scope bytes s made new after → StaysValidModule bytes new }
     ensures each { (scope : Scope) (bytes new : List ℕ) (s after : Stream)
-        (made : List MadeChange) → ChoosesEach scope bytes s made new after
+        (made : List MadeChange) → ChoosesEachChange scope bytes s made new after
         → StaysValidModule bytes new }
     ensures spliced { (scope : Scope) (bytes other new : List ℕ) (s after : Stream)
         (made : MadeChange) → SplicesOne scope bytes other s made new after

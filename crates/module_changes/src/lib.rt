@@ -1,5 +1,7 @@
 //! Modules changed: a module in, and out comes one in which an operator of one of its functions, and what stands right before it, is
 //! changed in its place, so that it stays valid and computes something else.
+//!
+//! Tests: `tests`, in this crate; whole modules in `tests/changes.sh`.
 #![tactic(auto)]
 
 mod attempt;

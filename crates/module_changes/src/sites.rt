@@ -1,7 +1,7 @@
 //! The operators of a function of which changes make anything.
 ghost use Rattle.std.specs.Prelude.{◌<◌, [], length, IfOk};
-ghost use Rattle.body_changes.specs.Body.{operators_in, ChangesIn, IsBody};
-ghost use Rattle.body_changes.specs.Replacing.{context_of};
+ghost use Rattle.body_changes.specs.Body.{body_operators_in, ChangesIn, IsBody};
+ghost use Rattle.body_changes.specs.Replacing.{source_context};
 ghost use Rattle.wasm_module.specs.Module.{IsModule};
 ghost use Rattle.module_changes.specs.Sites.{AddsSites, AreSites, AreSitesOf};
 
@@ -28,7 +28,7 @@ fn add_sites(
     sites: &mut Vec<Site>,
 ) -> Result<(), AllocError>
     requires body { IsBody body.now }
-    requires inside { operator < length (operators_in body.now) }
+    requires inside { operator < length (body_operators_in body.now) }
     ensures added { IfOk result (λ _. AddsSites (ChangesIn body.now []) changes.now operator
         sites.old.items sites.new.items) }
 {
@@ -50,7 +50,7 @@ fn function_sites(
     source: &Source<'_>,
     changes: &[Change],
 ) -> Result<Vec<Site>, AllocError>
-    ensures { IfOk result (λ sites. AreSites (context_of source.now) source.now.operators.now
+    ensures { IfOk result (λ sites. AreSites (source_context source.now) source.now.operators.now
         changes.now sites.items) }
 {
     let units = units_of(alloc, source.locals, source.info, source.operators)?;

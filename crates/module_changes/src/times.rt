@@ -1,8 +1,8 @@
 //! A module changed several times, one change after another.
 ghost use Rattle.std.specs.Prelude.{◌≡◌, ◌<◌, ◌≤◌, ◌++◌, ◌∷◌, [], Some, IfErr, IfOk, OnErr, OnOk, length};
-ghost use Rattle.module_changes.specs.Times.{ChangesTimes, ChoosesEach, IsRefusal};
+ghost use Rattle.module_changes.specs.Times.{ChangesTimes, ChoosesEachChange, IsRefusal};
 ghost use Rattle.module_changes.specs.Valid.{StaysValidModule};
-ghost use Rattle.module_changes.specs.Watched.{SeesAll};
+ghost use Rattle.module_changes.specs.Watched.{SeesAllChanges};
 
 use crate::attempt::{Step, change_once};
 use crate::entry::MadeChange;
@@ -95,11 +95,11 @@ pub fn change_module<R: Rng, W: Watch>(
     // It is valid where the old one was.
     ensures valid { IfOk result (λ m. StaysValidModule bytes.now m.bytes.items) }
     // Where as many are made, the generator is left behind their words.
-    ensures goes_on { IfOk result (λ m. length m.made.items ≡ count → ChoosesEach scope.now
+    ensures goes_on { IfOk result (λ m. length m.made.items ≡ count → ChoosesEachChange scope.now
         bytes.now (R.stream generator.old) m.made.items m.bytes.items (R.stream generator.new)) }
     ensures fails { IfErr result (IsRefusal scope.now bytes.now (R.stream generator.old)) }
     // Each change that is made is seen, once and in order, between the bytes before it and those with it.
-    ensures seen { IfOk result (λ m. SeesAll W.saw scope.now bytes.now (R.stream generator.old)
+    ensures seen { IfOk result (λ m. SeesAllChanges W.saw scope.now bytes.now (R.stream generator.old)
         m.made.items m.bytes.items watch.old watch.new) }
     // Nothing is seen where none is made.
     ensures unseen { OnErr result (watch.new ≡ watch.old) }

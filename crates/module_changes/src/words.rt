@@ -2,7 +2,7 @@
 ghost use Rattle.std.specs.Prelude.{◌≡◌, IfOk};
 ghost use Rattle.rand_core.specs.Stream.{next_u64};
 ghost use Rattle.body_rewrites.specs.Choice.{after_word};
-ghost use Rattle.module_changes.specs.Words.{after_words, words_of};
+ghost use Rattle.module_changes.specs.Words.{after_words, next_words_of};
 
 use rand_core::Rng;
 use std::alloc::{AllocError, Global};
@@ -21,7 +21,7 @@ pub(crate) fn draw_words<R: Rng>(
     generator: &mut R,
     count: usize,
 ) -> Result<Vec<u64>, AllocError>
-    ensures words { IfOk result (λ words. words.items ≡ words_of (R.stream generator.old) count) }
+    ensures words { IfOk result (λ words. words.items ≡ next_words_of (R.stream generator.old) count) }
     ensures after { IfOk result (λ words.
         R.stream generator.new ≡ after_words (R.stream generator.old) count) }
 {

@@ -5,7 +5,7 @@ use Rattle.std.proofs.lemmas.Bool.{cases_Bool, both_ways, cases_eq, cases_lt}
 use Rattle.std.proofs.lemmas.Option.{slice_get_cases}
 use Rattle.wasm_code.specs.declared.operator.Operator.{Operator}
 use Rattle.module_commands.specs.Blocks.{HasNoDelimiter, IsBlock, TellsBlock, delimits, is_delimiter_of}
-use Rattle.module_commands.specs.Lines.{block_line}
+use Rattle.module_commands.specs.Lines.{block_line_in_form}
 use Rattle.module_commands.specs.declared.form.Form.{Form}
 
 abbrev Operators : Type 0
@@ -100,9 +100,9 @@ same_start operators a b end h k = elim (cases_lt b a) [
 
 -- the line of a block
 pub tells_block : (form : Form) (function : ℕ) (operators : Operators) (n start : ℕ) (text : List ℕ) → IsBlock operators start (n + 1) →
-    text ≡ block_line form (record { function = function; start = start; end = n + 1 }) → TellsBlock form function operators n text
+    text ≡ block_line_in_form form (record { function = function; start = start; end = n + 1 }) → TellsBlock form function operators n text
 tells_block form function operators n start text block is = record {
-  block = λ other h. subst (λ (s : ℕ). text ≡ block_line form (record { function = function; start = s; end = n + 1 }))
+  block = λ other h. subst (λ (s : ℕ). text ≡ block_line_in_form form (record { function = function; start = s; end = n + 1 }))
       (same_start operators start other (n + 1) block h) is;
   none = λ never. absurd (never start block);
 }

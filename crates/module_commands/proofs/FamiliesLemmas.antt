@@ -8,7 +8,7 @@ use Rattle.wasm_code.specs.declared.table.Opcode.TheVariants.{Byte, Fc, Fd}
 use Rattle.wasm_code.specs.declared.table.Row.{Row}
 use Rattle.wasm_code.specs.Instruction.{Instruction, IsInstruction, fits_row}
 use Rattle.wasm_code.specs.Table.{table, row_at, opcode_in}
-use Rattle.peephole_machine.specs.Row.{byte_of}
+use Rattle.wasm_execution.specs.Row.{byte_of}
 use Rattle.module_commands.specs.Families.{byte_family, has_place, instruction_family, opcode_family, row_family}
 use Rattle.module_commands.specs.declared.families.Family.{Family}
 use Rattle.module_commands.specs.declared.families.Family.TheVariants.{Integers, Floats, Vectors, Accesses}

@@ -1,5 +1,6 @@
 -- What is told of functions that can be read, and of those that can't; why no list is written.
-use Rattle.std.proofs.Common.{◌≡◌, ℕ, suc, ◌+◌, ◌<◌, List, [], ◌∷◌, ◌++◌, length, take, get_or, Option, Some, None, inr, refl, sym, ap, ◌∙◌, subst, append_assoc, append-nil, arith}
+use Rattle.std.proofs.Common.{◌≡◌, ℕ, suc, ◌+◌, ◌<◌, List, [], ◌∷◌, ◌++◌, length, take, get_or, Option, Some, None, inr, refl, sym, ap, ◌∙◌}
+use Rattle.std.proofs.Common.{subst, append_assoc, append-nil, arith}
 use Rattle.std.specs.Prelude.{◌^◌}
 use Rattle.std.proofs.lemmas.List.{take_more}
 use Rattle.std.specs.Io.KnownBytes.{Appends}
@@ -13,7 +14,7 @@ use Rattle.module_changes.specs.Times.{IsRefusal}
 use Rattle.module_changes.specs.declared.placed.ChangeAt.{ChangeAt}
 use Rattle.module_changes.specs.declared.refusal.Refusal.{Refusal}
 use Rattle.module_changes.specs.declared.refusal.Refusal.TheVariants as refusals
-use Rattle.module_rewrites.specs.Attempt.{IsKnownFault, RefusesIndex}
+use Rattle.module_rewrites.specs.Attempt.{IsKnownFunctionFault, RefusesIndex}
 use Rattle.module_rewrites.specs.Function.{IsFunction}
 use Rattle.module_rewrites.specs.declared.attempt.Reason.{Reason}
 use Rattle.module_rewrites.specs.declared.attempt.Reason.TheVariants.{NoRule, NoOwnFunction, Unreadable, NoFunction, UnknownImport, Refused}
@@ -23,7 +24,8 @@ use Rattle.module_commands.specs.Blocks.{TellsBlock, TellsBlocks, TellsFault}
 use Rattle.module_rewrites.specs.Seeded.{seeded}
 use Rattle.module_commands.specs.Changing.{failure_by}
 use Rattle.module_commands.specs.Scope.{change_scope_of}
-use Rattle.module_commands.specs.Failures.{FailsAtTask, FailsToChange, FailsToDo, FailsToInform, FailsToList, FailsToRead, FailsToReport, IsNoOther, IsReasonToListNone, IsWhyUnchanged}
+use Rattle.module_commands.specs.Failures.{FailsAtTask, FailsToChange, FailsToDo, FailsToInform, FailsToList, FailsToRead, FailsToReport}
+use Rattle.module_commands.specs.Failures.{IsNoOther, IsReasonToListNone, IsWhyUnchanged}
 use Rattle.module_commands.specs.Lines.{rewrite_line}
 use Rattle.module_commands.specs.Lists.{InTurn}
 use Rattle.module_commands.specs.Reports.{TellsIfUnread, TellsUnreadable, made_lines}
@@ -59,7 +61,7 @@ tells_read form bytes info layout n locals expression operators given index text
 
 -- of one that can't be
 pub tells_unread : (form : Form) (bytes : List ℕ) (info : Module) (layout : Layout) (n : ℕ) (error : FunctionError) (text : List ℕ) →
-    ((l : Types) (x : ℕ) (o : Operators) → IsFunction bytes info layout n l x o → ⊥) → IsKnownFault bytes info layout n error →
+    ((l : Types) (x : ℕ) (o : Operators) → IsFunction bytes info layout n l x o → ⊥) → IsKnownFunctionFault bytes info layout n error →
     TellsFault form layout n error text → TellsBlocks form bytes info layout n text
 tells_unread form bytes info layout n error text never fault tells = record {
   read = λ l x o k _. absurd (never l x o k);

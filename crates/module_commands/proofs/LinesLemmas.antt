@@ -4,7 +4,8 @@ use Rattle.std.proofs.lemmas.List.{take_more}
 use Rattle.std.specs.Io.KnownBytes.{Appends}
 use Rattle.module_commands.proofs.TurnLemmas.{appends_more}
 
-module _ {X : Type 0} (line : X → List ℕ) (lines : List X → List ℕ) (none : lines [] ≡ []) (some : (x : X) (xs : List X) → lines (x ∷ xs) ≡ line x ++ lines xs) where
+module _ {X : Type 0} (line : X → List ℕ) (lines : List X → List ℕ) (none : lines [] ≡ []) (some : (x : X) (xs : List X) →
+    lines (x ∷ xs) ≡ line x ++ lines xs) where
   line_more : (xs : List X) (x : X) → lines (xs ++ x ∷ []) ≡ lines xs ++ line x
   line_more [] x = some x [] ∙ (ap (λ (l : List ℕ). line x ++ l) none ∙ (append-nil (line x) ∙ sym (ap (λ (l : List ℕ). l ++ line x) none)))
   line_more (y ∷ ys) x =

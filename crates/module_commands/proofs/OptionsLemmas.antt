@@ -1,5 +1,6 @@
 -- What the getters of clap's matches read.
-use Rattle.std.proofs.Common.{◌≡◌, ◌≢◌, ◌⊎◌, ◌<◌, ℕ, Bool, true, false, List, [], ◌∷◌, ◌++◌, ◌+◌, map, take, length, get_or, Option, Some, None, Result, Ok, Err, refl, sym, ap, ap₂, ◌∙◌, subst, inl, inr}
+use Rattle.std.proofs.Common.{◌≡◌, ◌≢◌, ◌⊎◌, ◌<◌, ℕ, Bool, true, false, List, [], ◌∷◌, ◌++◌, ◌+◌, map, take, length, get_or, Option, Some}
+use Rattle.std.proofs.Common.{None, Result, Ok, Err, refl, sym, ap, ap₂, ◌∙◌, subst, inl, inr}
 use Rattle.std.specs.Prelude.{◌^◌, ◌↔◌, IfSome, IsTrue, codes, option_and_then, option_map, slice_get, unwrap_or}
 use Rattle.std.specs.Borrow.{Bor}
 use Rattle.std.specs.Option.{option_map_or}
@@ -29,7 +30,9 @@ use Rattle.rewrite_rules.specs.declared.rule.Rule.{Rule}
 use Rattle.body_rewrites.specs.Listing.{AreThose}
 use Rattle.body_rewrites.specs.ThoseLemmas.{those_with, those_without}
 use Rattle.module_commands.specs.Arguments.{command_line}
-use Rattle.module_commands.specs.Options.{spelled, AreMisused, AreNamed, AreOptions, AreRefused, AreRules, IsNumberOf, IsWanted, NamesNone, SayOptions, WritesSeed, first_of, is_named, kind_for, names_or_none, IsDoseOf, IsPercentageOf, WritesDose, WritesPercentage}
+use Rattle.module_commands.specs.Options.{spelled, AreMisused, AreNamedRules, AreOptions, AreRefused, AreWantedRules, IsNumberOf, IsWanted}
+use Rattle.module_commands.specs.Options.{NamesNone, SayOptions, WritesSeed, first_of, is_named, kind_for, names_or_none, TextSaysDose}
+use Rattle.module_commands.specs.Options.{IsPercentageOf, WritesDose, WritesPercentage}
 use Rattle.module_commands.specs.Options.WritesDose.{as_number, as_percentage, as_each}
 use Rattle.module_commands.specs.Options.WritesSeed.{in_hexadecimal}
 use Rattle.module_commands.specs.Options.AreRefused.{by_matches, by_memory, by_words}
@@ -154,8 +157,8 @@ names_given found option given get o is =
     sym (raw_values-rows found option) ∙ (sym get ∙ ap (option_map (λ (s : Bor (List (Bor Text))). texts s.now)) is)
 
 -- those of the rules that are wanted
-pub rules_wanted : (named others : Option (List Text)) (given lent wanted : List Rule) (names : List Text) → AreNamed named given → lent ≡ given →
-    names ≡ names_or_none others → AreThose (IsWanted names) lent wanted → AreRules named others wanted
+pub rules_wanted : (named others : Option (List Text)) (given lent wanted : List Rule) (names : List Text) → AreNamedRules named given → lent ≡ given →
+    names ≡ names_or_none others → AreThose (IsWanted names) lent wanted → AreWantedRules named others wanted
 rules_wanted named others given lent wanted names are lent_is names_are is = record {
   given = given;
   are_named = are;
@@ -204,7 +207,7 @@ writes_none text e other fails is dose (as_each same w) =
     absurd (true≢false wrong)
 
 pub dose_otherwise : (text : Text) (e : Text) (found : Option Dose) → bytes_eq text (codes "each") ≡ false →
-    ParsesUnsigned {E = Text} 64 10 text (Err e) → IsPercentageOf text found → IsDoseOf text found
+    ParsesUnsigned {E = Text} 64 10 text (Err e) → IsPercentageOf text found → TextSaysDose text found
 dose_otherwise text e (Some dose) other fails is = as_percentage is
 dose_otherwise text e None other fails is = writes_none text e other fails is
 

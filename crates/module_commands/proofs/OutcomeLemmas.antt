@@ -16,7 +16,7 @@ use Rattle.module_rewrites.specs.declared.times.MadeRewrite.{MadeRewrite}
 use Rattle.module_commands.specs.Failures.{IsReasonFor, leaves_by}
 use Rattle.module_commands.specs.Scope.{scope_of}
 use Rattle.module_commands.specs.Shown.{IsShown}
-use Rattle.module_commands.specs.Writes.{IsOutcome, IsWrittenAs, stopped_by}
+use Rattle.module_commands.specs.Writes.{IsCommandOutcome, IsWrittenAs, stopped_by}
 use Rattle.module_commands.specs.declared.options.Options.{Options}
 
 -- of a module that was rewritten
@@ -25,10 +25,11 @@ pub rewritten_outcome : (options : Options) (scope : Scope) (count : ℕ) (bytes
     Mutates scope count bytes made module_bytes stopped →
     ChoosesTimes scope bytes (seeded options.seed) made module_bytes stopped → DoesAsBefore scope.exact bytes module_bytes → given ≡ made → told ≡ stopped →
     IsWrittenAs options.strip_debug module_bytes written →
-    ((exact : Bool) (start : List ℕ) → DoesAsBefore exact start module_bytes → DoesAsBefore exact start written) → IsOutcome options count bytes given told written
+    ((exact : Bool) (start : List ℕ) → DoesAsBefore exact start module_bytes → DoesAsBefore exact start written) →
+    IsCommandOutcome options count bytes given told written
 rewritten_outcome options scope count bytes module_bytes written made given stopped told is counted mutates chosen does made_is stopped_is as_written after =
-    subst (λ (s : Option MutationError). IsOutcome options count bytes given s written) (sym stopped_is)
-    (subst (λ (ms : List MadeRewrite). IsOutcome options count bytes ms stopped written) (sym made_is) (record {
+    subst (λ (s : Option MutationError). IsCommandOutcome options count bytes given s written) (sym stopped_is)
+    (subst (λ (ms : List MadeRewrite). IsCommandOutcome options count bytes ms stopped written) (sym made_is) (record {
       count_is = subst (λ (s : Scope). IsDoseOf options.dose s.function bytes count) is counted;
       module_bytes = module_bytes;
       is_made = inl (record {
@@ -45,10 +46,11 @@ pub left_outcome : (options : Options) (count : ℕ) (bytes module_bytes written
     (IsForSize reason → GivesUp (scope_of options) bytes (seeded options.seed)) → leaves_by options bytes reason ≡ true → module_bytes ≡ bytes →
     made ≡ [] → stopped ≡ stopped_by reason → given ≡ made → told ≡ stopped → IsWrittenAs options.strip_debug module_bytes written →
     ((exact : Bool) (start : List ℕ) → DoesAsBefore exact start module_bytes → DoesAsBefore exact start written) →
-    ((exact : Bool) → DoesAsBefore exact bytes module_bytes) → IsOutcome options count bytes given told written
-left_outcome options count bytes module_bytes written reason made given stopped told counted is gives_up left same none stopped_for made_is stopped_is as_written after does =
-    subst (λ (s : Option MutationError). IsOutcome options count bytes given s written) (sym stopped_is)
-    (subst (λ (ms : List MadeRewrite). IsOutcome options count bytes ms stopped written) (sym made_is) (record {
+    ((exact : Bool) → DoesAsBefore exact bytes module_bytes) → IsCommandOutcome options count bytes given told written
+left_outcome options count bytes module_bytes written reason made given stopped told counted is gives_up left same none stopped_for made_is stopped_is
+    as_written after does =
+    subst (λ (s : Option MutationError). IsCommandOutcome options count bytes given s written) (sym stopped_is)
+    (subst (λ (ms : List MadeRewrite). IsCommandOutcome options count bytes ms stopped written) (sym made_is) (record {
       count_is = counted;
       module_bytes = module_bytes;
       is_made =

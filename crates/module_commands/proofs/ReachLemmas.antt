@@ -1,5 +1,6 @@
 -- What is counted, one operator and one function more each time.
-use Rattle.std.proofs.Common.{◌≡◌, inl, inr, ℕ, suc, ◌+◌, ◌-◌, ◌^◌, ◌<◌, ◌≤◌, min, not, ◌&&◌, ◌||◌, Bool, true, false, List, [], ◌∷◌, ◌++◌, length, get_or, Option, Some, None, refl, sym, ap, ap₂, ◌∙◌, subst, arith}
+use Rattle.std.proofs.Common.{◌≡◌, inl, inr, ℕ, suc, ◌+◌, ◌-◌, ◌^◌, ◌<◌, ◌≤◌, min, not, ◌&&◌, ◌||◌, Bool, true, false, List, [], ◌∷◌, ◌++◌}
+use Rattle.std.proofs.Common.{length, get_or, Option, Some, None, refl, sym, ap, ap₂, ◌∙◌, subst, arith}
 use Rattle.std.specs.Prelude.{◌↔◌, IsTrue, IfSome, IfNone, is_some, slice_get}
 use Rattle.std.proofs.lemmas.Bool.{false≢true, not-true, not_from_false, cases_eq, cases_lt, and_parts, and_from, or_cases, or_left, or_right}
 use Rattle.std.proofs.lemmas.List.{length_push}
@@ -8,14 +9,16 @@ use Rattle.wasm_code.specs.declared.operator.Operator.{Operator}
 use Rattle.wasm_types.specs.Module.{Module}
 use Rattle.wasm_types.specs.declared.types.PrimitiveTypeInfo.{PrimitiveTypeInfo}
 use Rattle.wasm_module.specs.Module.{Layout}
-use Rattle.peephole_machine.specs.Values.{Context, context_in}
+use Rattle.wasm_execution.specs.Values.{Context, context_in}
 use Rattle.body_rewrites.specs.Listing.{AreThose}
-use Rattle.body_rewrites.specs.Reached.{AreReached, IsMarked, IsReached}
+use Rattle.body_rewrites.specs.Reached.{AreReached, OperatorIsMarked, IsReached}
 use Rattle.body_rewrites.specs.ThoseLemmas.{those_with, those_without, those_as}
 use Rattle.module_rewrites.specs.Function.{IsFunction}
 use Rattle.module_rewrites.specs.Scope.{Scope, wanted_of}
-use Rattle.module_commands.specs.Blocks.{HasNoDelimiter, IsBlock, IsBlockIn, delimits, is_delimiter_of}
-use Rattle.module_commands.specs.Reach.{AreCounted, AreCountedAt, AreOfBody, AreOfEntries, AreOfEntry, Counts, CountsFamily, CountsFamilyAt, EndsBlock, EndsReached, HoldsReached, IsOfFamily, IsOneIf, Told, no_part, nothing, number_of, numbers_below, part_in_64_bits, part_of, part_sum, reach_in_64_bits, sum_of}
+use Rattle.module_commands.specs.Blocks.{HasNoDelimiter, IsBlock, IsBlockRangeIn, delimits, is_delimiter_of}
+use Rattle.module_commands.specs.Reach.{AreCounted, AreCountedAt, AreOfBody, AreOfEntries, AreOfEntry, Counts, CountsFamily, CountsFamilyAt}
+use Rattle.module_commands.specs.Reach.{EndsBlock, EndsReached, HoldsReached, IsOfFamily, IsOneIf, ToldReach, no_part, nothing, number_of}
+use Rattle.module_commands.specs.Reach.{numbers_below, part_in_64_bits, part_of, part_sum, reach_in_64_bits, sum_of}
 use Rattle.module_commands.specs.declared.families.Family.{Family}
 use Rattle.module_commands.specs.declared.families.Family.TheVariants.{Integers, Floats, Vectors, Accesses}
 use Rattle.module_commands.specs.declared.reach.Part.{Part}
@@ -90,7 +93,7 @@ both_sums r s =
     same_reach _ _ _ _ _ _ _ _ _ _ _ _ (both_parts r.operators s.operators) (both_parts r.blocks s.blocks) (both_parts r.integers s.integers)
     (both_parts r.floats s.floats) (both_parts r.vectors s.vectors) (both_parts r.accesses s.accesses)
 
-pub told_nothing : (Are : Reach → Type 0) (reach : Reach) → Are nothing → reach ≡ nothing → Told Are reach
+pub told_nothing : (Are : Reach → Type 0) (reach : Reach) → Are nothing → reach ≡ nothing → ToldReach Are reach
 told_nothing Are reach are is = record { exact = nothing; are = are; as_told = is }
 
 -- ---- the instructions of a family
@@ -157,8 +160,8 @@ counted_next Reached operators n before own h k =
       accesses = family_next Reached operators Accesses n _ _ h.accesses k.accesses;
     }
 
-pub told_next : (Reached : ℕ → Type 0) (operators : Operators) (n : ℕ) (before own new : Reach) → Told (AreCounted Reached operators n) before →
-    AreCountedAt Reached operators n own → new ≡ reach_in_64_bits (sum_of before own) → Told (AreCounted Reached operators (n + 1)) new
+pub told_next : (Reached : ℕ → Type 0) (operators : Operators) (n : ℕ) (before own new : Reach) → ToldReach (AreCounted Reached operators n) before →
+    AreCountedAt Reached operators n own → new ≡ reach_in_64_bits (sum_of before own) → ToldReach (AreCounted Reached operators (n + 1)) new
 told_next Reached operators n before own new h k is = record {
   exact = sum_of h.exact own;
   are = counted_next Reached operators n h.exact own h.are k;
@@ -190,7 +193,7 @@ counted_at Reached operators at marked ends held p q i f v a is_marked is_end is
       | inl before ↦
           let some = h.1 in
           let last = block.range.inside in
-          let longer : IsBlockIn operators h.0 (at + 1) = record { some = some; inside = last; none = h.2 } in
+          let longer : IsBlockRangeIn operators h.0 (at + 1) = record { some = some; inside = last; none = h.2 } in
           let same = (block.longest h.0 (at + 1) (omega (arith, before)) (omega arith) longer).0 in
           absurd (omega (arith, before, same))
       | inr behind ↦
@@ -269,7 +272,7 @@ holds_next Reached operators at stopped marked held inside stopped_is is_marked 
 
 -- ---- marks
 
-pub marked_if : (marks : List Bool) (at : ℕ) (d marked : Bool) → at < length marks → marked ≡ get_or marks at d → IsTrue marked ↔ IsMarked marks at
+pub marked_if : (marks : List Bool) (at : ℕ) (d marked : Bool) → at < length marks → marked ≡ get_or marks at d → IsTrue marked ↔ OperatorIsMarked marks at
 marked_if marks at d marked inside is =
     let there = slice_get-get_or marks at d inside in (
       λ t. there ∙ ap (λ b. Some b) (sym is ∙ t),
@@ -295,8 +298,9 @@ counted_as P Q operators end reach same h = record {
 }
 
 -- a mark tells whether the operator is reached; behind the last one there is neither a mark nor an operator
-marked_as : (context : Context) (scope : Scope) (operators : Operators) (marks : List Bool) → AreReached context operators scope.rules (wanted_of scope) marks → (at : ℕ) →
-    IsMarked marks at ↔ IsReached context operators scope.rules (wanted_of scope) at
+marked_as : (context : Context) (scope : Scope) (operators : Operators) (marks : List Bool) →
+    AreReached context operators scope.rules (wanted_of scope) marks → (at : ℕ) →
+    OperatorIsMarked marks at ↔ IsReached context operators scope.rules (wanted_of scope) at
 marked_as context scope operators marks h at = elim (cases_lt at (length operators)) [
   | inl less ↦ h.each at less
   | inr past ↦
@@ -309,11 +313,12 @@ marked_as context scope operators marks h at = elim (cases_lt at (length operato
 ]
 
 pub told_body : (context : Context) (scope : Scope) (operators : Operators) (marks : List Bool) (reach : Reach) →
-    AreReached context operators scope.rules (wanted_of scope) marks → Told (AreCounted (IsMarked marks) operators (length operators)) reach →
-    Told (AreOfBody context scope operators) reach
+    AreReached context operators scope.rules (wanted_of scope) marks → ToldReach (AreCounted (OperatorIsMarked marks) operators (length operators)) reach →
+    ToldReach (AreOfBody context scope operators) reach
 told_body context scope operators marks reach h t = record {
   exact = t.exact;
-  are = counted_as (IsMarked marks) (IsReached context operators scope.rules (wanted_of scope)) operators (length operators) t.exact (marked_as context scope operators marks h)
+  are = counted_as (OperatorIsMarked marks) (IsReached context operators scope.rules (wanted_of scope)) operators (length operators) t.exact
+      (marked_as context scope operators marks h)
       t.are;
   as_told = t.as_told;
 }
@@ -328,7 +333,7 @@ module _ (scope : Scope) (bytes : List ℕ) (info : Module) (layout : Layout) (n
   pub told_read : (locals lent : Types) (expression : ℕ) (operators given : Operators) (reach : Reach) → lent ≡ locals → given ≡ operators →
       IsFunction bytes info layout n locals expression operators →
       ((l : Types) (x : ℕ) (o : Operators) → IsFunction bytes info layout n l x o → (locals ≡ l) × (operators ≡ o)) →
-      Told (AreOfBody (context_in info lent) scope given) reach → Told (AreOfEntry scope bytes info layout n) reach
+      ToldReach (AreOfBody (context_in info lent) scope given) reach → ToldReach (AreOfEntry scope bytes info layout n) reach
   told_read locals lent expression operators given reach lent_is given_is f only t = record {
     exact = t.exact;
     are = record {
@@ -343,7 +348,7 @@ module _ (scope : Scope) (bytes : List ℕ) (info : Module) (layout : Layout) (n
 
   -- of one that can't be
   pub told_unread : (reach : Reach) → ((l : Types) (x : ℕ) (o : Operators) → IsFunction bytes info layout n l x o → ⊥) → reach ≡ nothing →
-      Told (AreOfEntry scope bytes info layout n) reach
+      ToldReach (AreOfEntry scope bytes info layout n) reach
   told_unread reach never is = record {
     exact = nothing;
     are = record { read = λ l x o f. absurd (never l x o f); unread = λ _. refl };
@@ -351,8 +356,8 @@ module _ (scope : Scope) (bytes : List ℕ) (info : Module) (layout : Layout) (n
   }
 
   -- one more
-  pub told_more : (before own new : Reach) → Told (AreOfEntries scope bytes info layout n) before → Told (AreOfEntry scope bytes info layout n) own →
-      new ≡ reach_in_64_bits (sum_of before own) → Told (AreOfEntries scope bytes info layout (n + 1)) new
+  pub told_more : (before own new : Reach) → ToldReach (AreOfEntries scope bytes info layout n) before → ToldReach (AreOfEntry scope bytes info layout n) own →
+      new ≡ reach_in_64_bits (sum_of before own) → ToldReach (AreOfEntries scope bytes info layout (n + 1)) new
   told_more before own new h k is =
       let next : suc n ≡ n + 1 = omega arith in
       record {

@@ -6,10 +6,10 @@ use Rattle.wasm_types.specs.Module.{Module}
 use Rattle.wasm_types.specs.declared.types.PrimitiveTypeInfo.{PrimitiveTypeInfo}
 use Rattle.wasm_sections.specs.declared.fault.ModuleError.{ModuleError}
 use Rattle.wasm_module.specs.Module.{Layout}
-use Rattle.module_rewrites.specs.Attempt.{CanRead, IsKnownFault}
+use Rattle.module_rewrites.specs.Attempt.{CanRead, IsKnownFunctionFault}
 use Rattle.module_rewrites.specs.Function.{IsFunction}
 use Rattle.module_rewrites.specs.declared.function.FunctionError.{FunctionError}
-use Rattle.module_commands.specs.Lines.{block_line, entry_line, function_line}
+use Rattle.module_commands.specs.Lines.{block_line_in_form, entry_line, function_line}
 use Rattle.module_commands.specs.Lists.{InTurn, WritesOfFunctions}
 use Rattle.module_commands.specs.declared.form.Form.{Form}
 
@@ -31,20 +31,20 @@ HasNoDelimiter operators start end = (k : ℕ) (o : Operator × ℕ) → start �
 -- ---- the blocks of a function
 
 -- A range of a body's operators, one at least, none of which is a delimiter; the one at `end` is no longer of it.
-pub record IsBlockIn (operators : List (Operator × ℕ)) (start end : ℕ) : Type 0 where
+pub record IsBlockRangeIn (operators : List (Operator × ℕ)) (start end : ℕ) : Type 0 where
   pub some : start < end
   pub inside : end ≤ length operators
   pub none : HasNoDelimiter operators start end
 
 -- A block: the longest such range.
 pub record IsBlock (operators : List (Operator × ℕ)) (start end : ℕ) : Type 0 where
-  pub range : IsBlockIn operators start end
-  pub longest : (from to : ℕ) → from ≤ start → end ≤ to → IsBlockIn operators from to → (from ≡ start) × (to ≡ end)
+  pub range : IsBlockRangeIn operators start end
+  pub longest : (from to : ℕ) → from ≤ start → end ≤ to → IsBlockRangeIn operators from to → (from ≡ start) × (to ≡ end)
 
 -- The text is the line of the block whose last operator is the n-th of the function with the index; none where no block ends there.
 pub record TellsBlock (form : Form) (function : ℕ) (operators : List (Operator × ℕ)) (n : ℕ) (text : List ℕ) : Type 0 where
   pub block : (start : ℕ) → IsBlock operators start (n + 1) →
-      text ≡ block_line form (record { function = function; start = start; end = n + 1 })
+      text ≡ block_line_in_form form (record { function = function; start = start; end = n + 1 })
   pub none : ((start : ℕ) → ¬ (IsBlock operators start (n + 1))) → text ≡ []
 
 -- ---- a function that can't be read
@@ -60,7 +60,7 @@ pub record TellsFault (form : Form) (layout : Layout) (n : ℕ) (error : Functio
 
 -- the same of its first fault, which is never that memory was wanting
 abbrev pub TellsUnread : Form → (bytes : List ℕ) → Module → Layout → (n : ℕ) → (text : List ℕ) → Type 0
-TellsUnread form bytes info layout n text = (error : FunctionError) × IsKnownFault bytes info layout n error × TellsFault form layout n error text
+TellsUnread form bytes info layout n text = (error : FunctionError) × IsKnownFunctionFault bytes info layout n error × TellsFault form layout n error text
 
 -- ---- the blocks of a module
 

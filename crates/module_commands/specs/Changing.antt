@@ -3,7 +3,7 @@ use Rattle.std.specs.Prelude.{◌≡◌, ℕ, List, [], ◌∷◌, ◌++◌, len
 use Rattle.std.specs.Io.KnownBytes.{Appends}
 use Rattle.wasm_sections.specs.Fault.{fault_name}
 use Rattle.module_changes.specs.Placed.{ChangesAt}
-use Rattle.module_changes.specs.Sites.{site_of}
+use Rattle.module_changes.specs.Sites.{site_of_change}
 use Rattle.module_changes.specs.Times.{ChangesTimes}
 use Rattle.module_changes.specs.Valid.{StaysValidModule}
 use Rattle.module_changes.specs.declared.entry.MadeChange.{MadeChange}
@@ -13,9 +13,9 @@ use Rattle.module_changes.specs.declared.refusal.Refusal.TheVariants.{Memory, No
 use Rattle.module_rewrites.specs.DoesAsBefore.{DoesAsBefore}
 use Rattle.module_rewrites.specs.Dose.{IsDoseOf}
 use Rattle.module_rewrites.specs.Seeded.{seeded}
-use Rattle.module_showing.specs.Changed.{change_line as first_line}
+use Rattle.module_showing.specs.Changed.{shown_change_line as first_line}
 use Rattle.module_commands.specs.Ending.{is_memory_fault}
-use Rattle.module_commands.specs.Form.{form_of}
+use Rattle.module_commands.specs.Form.{output_form_of}
 use Rattle.module_commands.specs.Lines.{sizes_line, stopped_part}
 use Rattle.module_commands.specs.Reports.{ReportsModule}
 use Rattle.module_commands.specs.Scope.{change_scope_of}
@@ -67,7 +67,7 @@ pub record WritesChanged (options : Options) (bytes : List ℕ) (ending : Ending
 
 -- the function, the operator with which the code ended that was replaced, and the change, in the form that was asked for
 abbrev pub change_line : Form → MadeChange → List ℕ
-change_line form made = site_line form made.function (site_of made)
+change_line form made = site_line form made.function (site_of_change made)
 
 -- a line for each change, in the order in which they were made
 abbrev pub change_lines : Form → List MadeChange → List ℕ
@@ -121,7 +121,7 @@ pub record TellsChanged (options : Options) (bytes : List ℕ) (ending : Ending)
   pub shown : List ℕ
   pub shown_are : AreShown (are_shown options) writes.made shown
   pub changes : Appends between notes_new
-      (shown ++ report_asked options.stats (form_of options) bytes writes.made writes.stopped writes.written_bytes)
+      (shown ++ report_asked options.stats (output_form_of options) bytes writes.made writes.stopped writes.written_bytes)
 
 -- ---- for private functions
 

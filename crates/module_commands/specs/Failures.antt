@@ -168,7 +168,8 @@ WritesModule Rewrite = Unit {0}
 WritesModule Change = Unit {0}
 WritesModule task = ⊥
 
--- A run fails: as the input isn't read, since it is a component or a text, as what runs it is to be exact and threads share a memory of it, or as its task fails;
+-- A run fails: as the input isn't read, since it is a component or a text, as what runs it is to be exact and threads share a memory of it,
+-- or as its task fails;
 -- for a reason of the module only where it is neither.
 abbrev pub FailsToDo : Task → Options → (bytes : List ℕ) → Failure → Type 0
 FailsToDo task options bytes Input = Unit {0}

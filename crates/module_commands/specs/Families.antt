@@ -1,4 +1,5 @@
--- The families of instructions by which the reach of rules is told (opcodes: WebAssembly Core Specification 3.0, Binary Format, Instructions; the families: this
+-- The families of instructions by which the reach of rules is told (opcodes: WebAssembly Core Specification 3.0, Binary Format,
+-- Instructions; the families: this
 -- project).
 use Rattle.std.specs.Prelude.{ℕ, ◌==◌, ◌&&◌, ◌||◌, not, nat_lt, if◌then◌else◌, Bool, true, false, Option, Some, None, is_some}
 use Rattle.wasm_code.specs.declared.immediate.Imm.{Imm}
@@ -9,7 +10,7 @@ use Rattle.wasm_code.specs.declared.table.Opcode.{Opcode}
 use Rattle.wasm_code.specs.declared.table.Opcode.TheVariants.{Byte, Fc, Fd}
 use Rattle.wasm_code.specs.Instruction.{Instruction}
 use Rattle.wasm_code.specs.Table.{row_at, opcode_in}
-use Rattle.peephole_machine.specs.IntegerRow.{bare_operator}
+use Rattle.wasm_execution.specs.IntegerRow.{bare_operator}
 use Rattle.module_commands.specs.declared.families.Family.{Family}
 use Rattle.module_commands.specs.declared.families.Family.TheVariants.{Integers, Floats, Vectors, Accesses}
 

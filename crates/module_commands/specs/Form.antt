@@ -5,5 +5,5 @@ use Rattle.module_commands.specs.declared.form.Form.TheVariants.{Text, Json}
 use Rattle.module_commands.specs.declared.options.Options.{Options}
 
 -- as JSON where that is asked for, else as text
-abbrev pub form_of : Options → Form
-form_of options = if options.json then Json else Text
+abbrev pub output_form_of : Options → Form
+output_form_of options = if options.json then Json else Text

@@ -5,7 +5,7 @@ use Rattle.serde_json.specs.Written.{compact_text}
 use Rattle.wasm_code.specs.Fault.{kind_name}
 use Rattle.wasm_sections.specs.Fault.{fault_name}
 use Rattle.body_rewrites.specs.declared.rewrite.Rewrite.{Rewrite}
-use Rattle.module_rewrites.specs.OperatorCode.{code_text, family_name, family_of}
+use Rattle.module_rewrites.specs.OperatorCode.{code_text, family_name, unreadable_code_family}
 use Rattle.module_rewrites.specs.declared.function.FunctionError.{FunctionError}
 use Rattle.module_rewrites.specs.declared.function.FunctionError.TheVariants.{Unknown, UnknownType, Locals, Body}
 use Rattle.module_rewrites.specs.declared.operator_code.OperatorCode.{OperatorCode}
@@ -90,21 +90,21 @@ fault_operator (Locals e) = None
 fault_operator (Body e) = e.operator
 
 -- the text behind a word for the number; of an operator also its code and its family
-abbrev pub words_of : (word : List ℕ) (index : ℕ) (name : List ℕ) (offset : ℕ) → Option OperatorCode → List ℕ
-words_of word index name offset None =
+abbrev pub operator_words_of : (word : List ℕ) (index : ℕ) (name : List ℕ) (offset : ℕ) → Option OperatorCode → List ℕ
+operator_words_of word index name offset None =
     word ++ (left_aligned 6 index ++ (codes " " ++ (name ++ (codes " at " ++ (decimal offset ++ codes "\n")))))
-words_of word index name offset (Some code) =
+operator_words_of word index name offset (Some code) =
     word ++ (left_aligned 6 index ++ (codes " " ++ (name ++ (codes " at " ++ (decimal offset ++ (codes ": operator " ++ (code_text code
-    ++ (codes " (" ++ (family_name (family_of code) ++ codes ")\n")))))))))
+    ++ (codes " (" ++ (family_name (unreadable_code_family code) ++ codes ")\n")))))))))
 
 -- so of the error
 abbrev pub fault_words : (word : List ℕ) (index start : ℕ) → FunctionError → List ℕ
-fault_words word index start e = words_of word index (fault_text e) (fault_offset start e) (fault_operator e)
+fault_words word index start e = operator_words_of word index (fault_text e) (fault_offset start e) (fault_operator e)
 
 -- members, before them that of an operator's family, where there is one
 abbrev pub with_family : Option OperatorCode → Members → Members
 with_family None rest = rest
-with_family (Some code) rest = with_text (codes "family") (family_name (family_of code)) rest
+with_family (Some code) rest = with_text (codes "family") (family_name (unreadable_code_family code)) rest
 
 -- the member of the operator's code, where there is one
 abbrev pub operator_member : Option OperatorCode → Members
@@ -146,14 +146,14 @@ block_object function start end =
     object (with_number (codes "end") end (with_number (codes "function") function (with_number (codes "start") start no_members)))
 
 -- one block, in the form that was asked for
-abbrev pub block_line : Form → BlockLine → List ℕ
-block_line Text l = block_text l.function l.start l.end
-block_line Json l = json_line (block_object l.function l.start l.end)
+abbrev pub block_line_in_form : Form → BlockLine → List ℕ
+block_line_in_form Text l = block_text l.function l.start l.end
+block_line_in_form Json l = json_line (block_object l.function l.start l.end)
 
 -- where there is a block, its line
 abbrev pub block_lines : Form → Option BlockLine → List ℕ
 block_lines form None = []
-block_lines form (Some l) = block_line form l
+block_lines form (Some l) = block_line_in_form form l
 
 -- ---- what is counted
 

@@ -1,5 +1,7 @@
 -- The options that the matches of a command line are (this project).
-use Rattle.std.specs.Prelude.{◌≡◌, ◌≢◌, ◌⊎◌, ◌∷◌, ◌+◌, ◌<◌, min, ◌^◌, ◌&&◌, ◌||◌, ℕ, Bool, true, false, List, [], ◌++◌, map, slice_get, codes, Option, Some, None, is_some, option_and_then, option_map, string_bytes, unwrap_or, not, IfSome, if◌then◌else◌}
+use Rattle.std.specs.Prelude.{◌≡◌, ◌≢◌, ◌⊎◌, ◌∷◌, ◌+◌, ◌<◌, min, ◌^◌, ◌&&◌, ◌||◌, ℕ, Bool, true, false, List, [], ◌++◌, map, slice_get}
+use Rattle.std.specs.Prelude.{codes, Option, Some, None, is_some, option_and_then, option_map, string_bytes, unwrap_or, not, IfSome}
+use Rattle.std.specs.Prelude.{if◌then◌else◌}
 use Rattle.std.specs.List.{list_any}
 use Rattle.std.specs.Option.{option_map_or}
 use Rattle.std.specs.Str.{bytes_eq}
@@ -23,7 +25,8 @@ use Rattle.module_rewrites.specs.declared.dose.Dose.TheVariants.{Times, Percent}
 use Rattle.module_commands.specs.Front.{begins_with}
 use Rattle.module_commands.specs.declared.options.Flags.{Flags}
 use Rattle.module_commands.specs.declared.options.Misuse.{Misuse}
-use Rattle.module_commands.specs.declared.options.Misuse.TheVariants.{Conflict, Ignored, NothingToTell, Plus, NoSeed, NoCount, NoForm, UnknownRule, UnknownChange, Unplaced, Memory}
+use Rattle.module_commands.specs.declared.options.Misuse.TheVariants.{Conflict, Ignored, NothingToTell, Plus, NoSeed, NoCount, NoForm}
+use Rattle.module_commands.specs.declared.options.Misuse.TheVariants.{UnknownRule, UnknownChange, Unplaced, Memory}
 use Rattle.module_commands.specs.declared.options.Options.{Options}
 use Rattle.module_commands.specs.declared.options.Task.{Task}
 use Rattle.module_commands.specs.declared.options.Task.TheVariants.{Rewrite, Change as Changed, List as Lists, Sites, Blocks, Rules, Changes}
@@ -178,9 +181,9 @@ abbrev pub file_of : Option Text → Option Text
 file_of text = option_and_then (λ name. if bytes_eq name (codes "-") then None else Some name) text
 
 -- all rules where no name is given, else those that are named, one for each name
-abbrev pub AreNamed : Option (List Text) → List Rule → Type 0
-AreNamed None rules = AreAllRules rules
-AreNamed (Some names) rules = map rule_name rules ≡ names
+abbrev pub AreNamedRules : Option (List Text) → List Rule → Type 0
+AreNamedRules None rules = AreAllRules rules
+AreNamedRules (Some names) rules = map rule_name rules ≡ names
 
 -- one of the names is the rule's
 abbrev pub is_named : (names : List Text) → Rule → Bool
@@ -195,9 +198,9 @@ abbrev pub names_or_none : Option (List Text) → List Text
 names_or_none names = unwrap_or names []
 
 -- Those of the named rules, or of all, that are wanted, in their order.
-pub record AreRules (named others : Option (List Text)) (rules : List Rule) : Type 0 where
+pub record AreWantedRules (named others : Option (List Text)) (rules : List Rule) : Type 0 where
   pub given : List Rule
-  pub are_named : AreNamed named given
+  pub are_named : AreNamedRules named given
   pub are : AreThose (IsWanted (names_or_none others)) given rules
 
 -- The name stands for these changes: for one that has it, or `any` for all.
@@ -245,9 +248,9 @@ IsPercentageOf text (Some dose) = WritesPercentage text dose
 IsPercentageOf text None = (dose : Dose) → ¬ (WritesPercentage text dose)
 
 -- what it says, if it says anything
-abbrev pub IsDoseOf : Text → Option Dose → Type 0
-IsDoseOf text (Some dose) = WritesDose text dose
-IsDoseOf text None = (dose : Dose) → ¬ (WritesDose text dose)
+abbrev pub TextSaysDose : Text → Option Dose → Type 0
+TextSaysDose text (Some dose) = WritesDose text dose
+TextSaysDose text None = (dose : Dose) → ¬ (WritesDose text dose)
 
 -- how many rewrites are made
 abbrev pub IsDose : (shrink : Bool) → Option Text → Dose → Type 0
@@ -256,7 +259,7 @@ IsDose shrink (Some text) dose = WritesDose text dose
 
 -- the text doesn't say so, or it says that none are
 abbrev pub IsNoDose : Text → Type 0
-IsNoDose text = (found : Option Dose) × IsDoseOf text found × IfSome found (λ dose. ¬ (IsOneOrMore dose))
+IsNoDose text = (found : Option Dose) × TextSaysDose text found × IfSome found (λ dose. ¬ (IsOneOrMore dose))
 
 -- the change of the function's operators from the first one that is given up to the other one, where there is one change and a function
 abbrev pub placed : List Change → (function from to : Option ℕ) → Option ChangeAt
@@ -265,7 +268,7 @@ placed (change ∷ []) (Some function) from to =
 placed changes function from to = None
 
 -- the operators that are changed, where any are named
-pub record IsPlace (rows : List Row) (changes : List Change) (function : Option ℕ) (place : Option ChangeAt) : Type 0 where
+pub record IsChangePlace (rows : List Row) (changes : List Change) (function : Option ℕ) (place : Option ChangeAt) : Type 0 where
   pub from : Option ℕ
   pub from_is : IsNumberOf (one_of (codes "from") rows) from
   pub to : Option ℕ
@@ -296,9 +299,9 @@ pub record AreOptions (rows : List Row) (options : Options) : Type 0 where
   pub seed : IsSeed (first_of (codes "seed") rows) options.seed
   pub dose : IsDose (is_set (codes "shrink") rows) (first_of (codes "count") rows) options.dose
   pub function : IsNumberOf (one_of (codes "function") rows) options.function
-  pub rules : AreRules (all_of (codes "rule") rows) (all_of (codes "not-rule") rows) options.rules.items
+  pub rules : AreWantedRules (all_of (codes "rule") rows) (all_of (codes "not-rule") rows) options.rules.items
   pub changes : AreChanges (first_of (codes "change") rows) options.changes.items
-  pub place : IsPlace rows options.changes.items options.function options.place
+  pub place : IsChangePlace rows options.changes.items options.function options.place
   pub max_size : IsNumberOr 18446744073709551615 (one_of (codes "max-size") rows) options.max_size
   pub shrink : options.shrink ≡ is_set (codes "shrink") rows
   pub exact : options.exact ≡ is_set (codes "exact") rows

@@ -1,10 +1,11 @@
 -- How much of a module rules reach (this project).
-use Rattle.std.specs.Prelude.{◌≡◌, ◌⊎◌, ◌&&◌, ℕ, zero, suc, ◌+◌, ◌-◌, ◌^◌, ◌<◌, ◌≤◌, min, Bool, true, false, List, [], ◌∷◌, ◌++◌, length, Option, Some, None, slice_get}
+use Rattle.std.specs.Prelude.{◌≡◌, ◌⊎◌, ◌&&◌, ℕ, zero, suc, ◌+◌, ◌-◌, ◌^◌, ◌<◌, ◌≤◌, min, Bool, true, false, List, [], ◌∷◌, ◌++◌, length}
+use Rattle.std.specs.Prelude.{Option, Some, None, slice_get}
 use Rattle.wasm_code.specs.declared.operator.Operator.{Operator}
 use Rattle.wasm_types.specs.Module.{Module}
 use Rattle.wasm_types.specs.declared.types.PrimitiveTypeInfo.{PrimitiveTypeInfo}
 use Rattle.wasm_module.specs.Module.{Layout}
-use Rattle.peephole_machine.specs.Values.{Context, context_in}
+use Rattle.wasm_execution.specs.Values.{Context, context_in}
 use Rattle.body_rewrites.specs.Listing.{AreThose}
 use Rattle.body_rewrites.specs.Reached.{IsReached}
 use Rattle.module_rewrites.specs.Attempt.{CanRead}
@@ -135,14 +136,14 @@ reach_in_64_bits r = record {
 }
 
 -- Numbers of which that is so, told as numbers of 64 bits.
-pub record Told (Are : Reach → Type 0) (reach : Reach) : Type 0 where
+pub record ToldReach (Are : Reach → Type 0) (reach : Reach) : Type 0 where
   pub exact : Reach
   pub are : Are exact
   pub as_told : reach ≡ reach_in_64_bits exact
 
 -- The numbers of all functions of the module that can be read.
 abbrev pub IsReach : Scope → (bytes : List ℕ) → Module → Layout → Reach → Type 0
-IsReach scope bytes info layout reach = Told (AreOfEntries scope bytes info layout (length layout.entries)) reach
+IsReach scope bytes info layout reach = ToldReach (AreOfEntries scope bytes info layout (length layout.entries)) reach
 
 -- ---- operator by operator, for private functions
 

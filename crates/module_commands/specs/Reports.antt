@@ -8,7 +8,7 @@ use Rattle.module_rewrites.specs.Scope.{Scope, IsMarked}
 use Rattle.module_rewrites.specs.declared.mutation.MutationError.{MutationError}
 use Rattle.module_rewrites.specs.declared.times.MadeRewrite.{MadeRewrite}
 use Rattle.module_commands.specs.Blocks.{TellsUnread}
-use Rattle.module_commands.specs.Form.{form_of}
+use Rattle.module_commands.specs.Form.{output_form_of}
 use Rattle.module_commands.specs.Lines.{functions_line, reach_lines, rewrite_line, sizes_line, stopped_name, stopped_part}
 use Rattle.module_commands.specs.Reach.{IsReach}
 use Rattle.module_commands.specs.Scope.{scope_of}
@@ -52,9 +52,9 @@ pub record ReportsModule (options : Options) (bytes : List ℕ) (old new : Optio
   pub is : IsModule bytes info layout
   pub marked : IsMarked (scope_of options) info
   pub between : Option (List ℕ)
-  pub functions : ReportsFunctions (form_of options) bytes info layout old between
+  pub functions : ReportsFunctions (output_form_of options) bytes info layout old between
   pub text : List ℕ
-  pub tells : TellsReach options.reach (form_of options) (scope_of options) bytes info layout text
+  pub tells : TellsReach options.reach (output_form_of options) (scope_of options) bytes info layout text
   pub reaches : Appends between new text
 
 -- ---- rewrites
@@ -83,4 +83,4 @@ pub record ReportsMutated (options : Options) (bytes : List ℕ) (ending : Endin
   pub shown : List ℕ
   pub is_shown : IsShown options.show writes.made shown
   pub rewrites : Appends between notes_new
-      (shown ++ rewrites_report (form_of options) writes.count bytes writes.made writes.stopped writes.written_bytes)
+      (shown ++ rewrites_report (output_form_of options) writes.count bytes writes.made writes.stopped writes.written_bytes)

@@ -5,7 +5,14 @@ use Rattle.module_commands.specs.declared.options.Options.{Options}
 
 -- by their rules, in their function alone where one is named, the most bytes that a new module may have, and whether it is made smaller
 abbrev pub scope_of : Options → Scope
-scope_of options = record { rules = options.rules.items; function = options.function; most = options.max_size; shrinking = options.shrink; exact = options.exact }
+scope_of options = record {
+  rules = options.rules.items;
+  function = options.function;
+  most = options.max_size;
+  shrinking = options.shrink;
+  exact =
+      options.exact;
+}
 
 -- by their changes, in their function alone where one is named, of eight drawn instructions at most, and the most bytes that a new module may have
 abbrev pub change_scope_of : Options → ChangeScope

@@ -40,11 +40,11 @@ site_lines form function (s ∷ ss) = site_line form function s ++ site_lines fo
 
 -- The text has a line for each operator and each of the changes that makes anything of it, of the function of the n-th code entry, and no other; none where
 -- that can't be read. (An index has 64 bits.)
-pub record ListsSites (form : Form) (changes : List Change) (bytes : List ℕ) (info : Module) (layout : Layout) (n : ℕ) (text : List ℕ) : Type 0 where
+pub record ListsSitesInText (form : Form) (changes : List Change) (bytes : List ℕ) (info : Module) (layout : Layout) (n : ℕ) (text : List ℕ) : Type 0 where
   pub list : List Site
   pub are : AreSitesOf changes bytes info layout n list
   pub lines : layout.imported_functions + n < 2 ^ 64 → text ≡ site_lines form (layout.imported_functions + n) list
 
 -- A device has grown by the lines of the functions that are looked at.
 abbrev pub WritesSites : Form → List Change → (only : Option ℕ) → (bytes : List ℕ) → (old new : Option (List ℕ)) → Type 0
-WritesSites form changes only bytes old new = WritesOfFunctions (ListsSites form changes bytes) only bytes old new
+WritesSites form changes only bytes old new = WritesOfFunctions (ListsSitesInText form changes bytes) only bytes old new

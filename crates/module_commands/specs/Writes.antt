@@ -27,7 +27,7 @@ IsWrittenAs false module_bytes written = written ≡ module_bytes
 IsWrittenAs true module_bytes written = (sections : List Section) × SpellsModule module_bytes sections × IsWithoutDebug module_bytes sections written
 
 -- The new bytes are the module with one rewrite or more made, at most `count`, as the seed of the options chooses them.
-pub record IsRewrittenBy (options : Options) (count : ℕ) (bytes : List ℕ) (made : List MadeRewrite) (stopped : Option MutationError) (new : List ℕ) :
+pub record IsRewrittenByOptions (options : Options) (count : ℕ) (bytes : List ℕ) (made : List MadeRewrite) (stopped : Option MutationError) (new : List ℕ) :
     Type 0 where
   pub mutates : Mutates (scope_of options) count bytes made new stopped
   pub chosen : ChoosesTimes (scope_of options) bytes (seeded options.seed) made new stopped
@@ -50,11 +50,11 @@ pub record IsLeft (options : Options) (bytes : List ℕ) (made : List MadeRewrit
 
 -- Bytes are written of the module rewritten, at most as often as the options say, which is `count`, or as it is; they are valid where it was, and do what it
 -- did.
-pub record IsOutcome (options : Options) (count : ℕ) (bytes : List ℕ) (made : List MadeRewrite) (stopped : Option MutationError) (written : List ℕ) :
+pub record IsCommandOutcome (options : Options) (count : ℕ) (bytes : List ℕ) (made : List MadeRewrite) (stopped : Option MutationError) (written : List ℕ) :
     Type 0 where
   pub count_is : IsDoseOf options.dose options.function bytes count
   pub module_bytes : List ℕ
-  pub is_made : IsRewrittenBy options count bytes made stopped module_bytes ⊎ IsLeft options bytes made stopped module_bytes
+  pub is_made : IsRewrittenByOptions options count bytes made stopped module_bytes ⊎ IsLeft options bytes made stopped module_bytes
   pub is_written : IsWrittenAs options.strip_debug module_bytes written
   pub does : DoesAsBefore options.exact bytes written
 
@@ -64,6 +64,6 @@ pub record WritesMutated (options : Options) (bytes : List ℕ) (ending : Ending
   pub stopped : Option MutationError
   pub written_bytes : List ℕ
   pub count : ℕ
-  pub outcome : IsOutcome options count bytes made stopped written_bytes
+  pub outcome : IsCommandOutcome options count bytes made stopped written_bytes
   pub written : Appends old new written_bytes
   pub ending_is : ending ≡ ending_of stopped

@@ -4,8 +4,8 @@ ghost use Rattle.std.specs.Io.KnownBytes.{Appends};
 ghost use Rattle.serde_json.specs.View.{view};
 ghost use Rattle.module_commands.specs.Blocks.{HasNoDelimiter, IsBlock, delimits, TellsBlock, TellsBlocks, WritesBlocks};
 ghost use Rattle.module_commands.specs.Failures.{FailsToList, FailsToReport};
-ghost use Rattle.module_commands.specs.Form.{form_of};
-ghost use Rattle.module_commands.specs.Lines.{block_line, block_lines, block_object, block_text};
+ghost use Rattle.module_commands.specs.Form.{output_form_of};
+ghost use Rattle.module_commands.specs.Lines.{block_line_in_form, block_lines, block_object, block_text};
 ghost use Rattle.module_commands.specs.Lists.{InTurn};
 ghost use Rattle.module_commands.specs.declared.form.Form.{Form};
 ghost use Rattle.wasm_module.specs.Module.{IsModule};
@@ -58,7 +58,7 @@ fn write_line<W: Write>(
     line: BlockLine,
 ) -> Result<(), Failure>
     ensures line { OnOk result (Appends (W.contents output.old) (W.contents output.new)
-        (block_line form line)) }
+        (block_line_in_form form line)) }
     ensures fails { IfErr result FailsToReport }
 {
     match form {
@@ -221,7 +221,7 @@ pub fn list_blocks<W: Write>(
     options: &Options,
     output: &mut W,
 ) -> Result<(), Failure>
-    ensures lines { OnOk result (WritesBlocks (form_of options.now) options.now.function
+    ensures lines { OnOk result (WritesBlocks (output_form_of options.now) options.now.function
         bytes.now (W.contents output.old) (W.contents output.new)) }
     ensures fails { IfErr result (FailsToList options.now.function bytes.now) }
 {

@@ -4,7 +4,7 @@ ghost use Rattle.std.specs.Io.KnownBytes.{Appends};
 ghost use Rattle.module_rewrites.specs.DoesAsBefore.{DoesAsBefore};
 ghost use Rattle.module_commands.specs.Changing.{are_shown, AreShown, IsChangedAs, TellsChanged, TellsModule, WritesChanged, change_ending, failure_by, report_asked};
 ghost use Rattle.module_commands.specs.Failures.{FailsToChange, FailsToInform};
-ghost use Rattle.module_commands.specs.Form.{form_of};
+ghost use Rattle.module_commands.specs.Form.{output_form_of};
 ghost use Rattle.module_commands.specs.Writes.{IsWrittenAs};
 ghost use Rattle.module_commands.specs.declared.failure.Failure.TheVariants.{Memory, Output};
 
@@ -232,7 +232,7 @@ fn told_of(
     new: &ChangeOutcome,
 ) -> Result<Vec<u8>, Failure>
     ensures told { IfOk result (λ told. told.items ≡ new.now.shown.items ++ report_asked
-        options.now.stats (form_of options.now) bytes.now new.now.module.made.items
+        options.now.stats (output_form_of options.now) bytes.now new.now.module.made.items
         new.now.module.stopped new.now.module.bytes.items) }
     ensures memory { IfErr result (λ e. e ≡ Memory) }
 {

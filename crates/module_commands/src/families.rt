@@ -1,10 +1,10 @@
 //! The families of instructions by which the reach of rules is told.
 ghost use Rattle.std.specs.Prelude.{◌≡◌, ◌↔◌, Some, IsTrue, is_some};
-ghost use Rattle.peephole_machine.specs.IntegerRow.{bare_operator};
+ghost use Rattle.wasm_execution.specs.IntegerRow.{bare_operator};
 ghost use Rattle.module_commands.specs.Families.{byte_family, family_of, has_place, instruction_family, is_float_byte, is_integer_byte, is_within, row_family};
 
-use peephole_machine::{Operation, opcode_byte};
 use wasm_code::{Imm, Instr, Operator};
+use wasm_execution::{Operation, opcode_byte};
 
 /// A family of instructions.
 #[derive(Clone, Copy, Debug, PartialEq, Eq)]

@@ -4,7 +4,7 @@ ghost use Rattle.std.specs.Io.KnownBytes.{Appends};
 ghost use Rattle.serde_json.specs.View.{view};
 ghost use Rattle.module_commands.specs.Blocks.{TellsFault};
 ghost use Rattle.module_commands.specs.Failures.{FailsToReport};
-ghost use Rattle.module_commands.specs.Lines.{entry_line, entry_object, fault_offset, fault_operator, fault_text, fault_words, function_line, function_object, words_of};
+ghost use Rattle.module_commands.specs.Lines.{entry_line, entry_object, fault_offset, fault_operator, fault_text, fault_words, function_line, function_object, operator_words_of};
 
 use crate::failure::Failure;
 use crate::form::Form;
@@ -74,7 +74,7 @@ fn write_fault_words<W: Write>(
     told: NamedFault,
 ) -> Result<(), Failure>
     ensures line { OnOk result (Appends (W.contents output.old) (W.contents output.new)
-        (words_of word.now number told.name.now told.offset None)) }
+        (operator_words_of word.now number told.name.now told.offset None)) }
     ensures fails { IfErr result FailsToReport }
 {
     let (name, offset) = (told.name, told.offset);
@@ -91,7 +91,7 @@ fn write_operator_words<W: Write>(
     code: OperatorCode,
 ) -> Result<(), Failure>
     ensures line { OnOk result (Appends (W.contents output.old) (W.contents output.new)
-        (words_of word.now number told.name.now told.offset (Some code))) }
+        (operator_words_of word.now number told.name.now told.offset (Some code))) }
     ensures fails { IfErr result FailsToReport }
 {
     let (name, offset) = (told.name, told.offset);

@@ -1,4 +1,6 @@
 //! The program for modules but for its process: its options, and what a run reads, writes and answers, over any reader and writer.
+//!
+//! Tests: the tests in `teddertempo`, by whole command lines.
 #![tactic(auto)]
 
 mod arguments;

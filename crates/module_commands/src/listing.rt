@@ -3,11 +3,11 @@ ghost use Rattle.std.specs.Prelude.{◌≡◌, ◌<◌, ℕ, List, length, IfOk,
 ghost use Rattle.std.specs.Io.KnownBytes.{Appends};
 ghost use Rattle.serde_json.specs.View.{view};
 ghost use Rattle.module_commands.specs.Failures.{FailsToList, FailsToReport};
-ghost use Rattle.module_commands.specs.Form.{form_of};
+ghost use Rattle.module_commands.specs.Form.{output_form_of};
 ghost use Rattle.module_commands.specs.Lines.{rewrite_line, rewrite_lines, rewrite_object, rewrite_text};
 ghost use Rattle.module_commands.specs.Lists.{AreTheRewrites, ListsFunction, WritesList};
 ghost use Rattle.module_commands.specs.Scope.{scope_of};
-ghost use Rattle.peephole_machine.specs.Values.{context_in};
+ghost use Rattle.wasm_execution.specs.Values.{context_in};
 ghost use Rattle.module_rewrites.specs.Scope.{IsMarked};
 ghost use Rattle.wasm_module.specs.Module.{IsModule};
 
@@ -139,7 +139,7 @@ fn list_function<W: Write>(
     requires marked { IsMarked (scope_of options.now) wasm.now.info }
     ensures lines { OnOk result ((text : List ℕ)
         × Appends (W.contents output.old) (W.contents output.new) text
-        × ListsFunction (form_of options.now) (scope_of options.now) bytes.now wasm.now.info
+        × ListsFunction (output_form_of options.now) (scope_of options.now) bytes.now wasm.now.info
         wasm.now.layout n text) }
     ensures fails { IfErr result FailsToReport }
 {
@@ -169,7 +169,7 @@ pub fn list_rewrites<W: Write>(
     options: &Options,
     output: &mut W,
 ) -> Result<(), Failure>
-    ensures lines { OnOk result (WritesList (form_of options.now) (scope_of options.now) bytes.now
+    ensures lines { OnOk result (WritesList (output_form_of options.now) (scope_of options.now) bytes.now
         (W.contents output.old) (W.contents output.new)) }
     ensures fails { IfErr result (FailsToList options.now.function bytes.now) }
 {

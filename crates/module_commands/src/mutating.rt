@@ -8,7 +8,7 @@ ghost use Rattle.module_rewrites.specs.Seeded.{seeded};
 ghost use Rattle.module_commands.specs.Failures.{FailsToMake, leaves};
 ghost use Rattle.module_commands.specs.Scope.{scope_of};
 ghost use Rattle.module_commands.specs.Shown.{IsShown};
-ghost use Rattle.module_commands.specs.Writes.{IsOutcome, IsWrittenAs, stopped_by};
+ghost use Rattle.module_commands.specs.Writes.{IsCommandOutcome, IsWrittenAs, stopped_by};
 ghost use Rattle.module_commands.specs.declared.failure.Failure.TheVariants.{Memory};
 
 use crate::failure::Failure;
@@ -132,7 +132,7 @@ fn left(
     requires reason { IsReason (scope_of options.now) bytes.now reason }
     requires for_size { IsForSize reason
         → GivesUp (scope_of options.now) bytes.now (seeded options.now.seed) }
-    ensures outcome { IfOk result (λ o. IsOutcome options.now o.count bytes.now
+    ensures outcome { IfOk result (λ o. IsCommandOutcome options.now o.count bytes.now
         o.module.made.items o.module.stopped o.module.bytes.items) }
     ensures shown { IfOk result (λ o.
         IsShown options.now.show o.module.made.items o.shown.items) }
@@ -164,7 +164,7 @@ pub fn rewritten<P: Watch + Drop>(
     options: &Options,
     watch: P,
 ) -> Result<Outcome, Failure>
-    ensures outcome { IfOk result (λ o. IsOutcome options.now o.count bytes.now
+    ensures outcome { IfOk result (λ o. IsCommandOutcome options.now o.count bytes.now
         o.module.made.items o.module.stopped o.module.bytes.items) }
     ensures shown { IfOk result (λ o.
         IsShown options.now.show o.module.made.items o.shown.items) }

@@ -88,7 +88,7 @@ pub struct Options {
 
 impl Options {
     ghost use Rattle.std.specs.Prelude.{◌≡◌};
-    ghost use Rattle.module_commands.specs.Form.{form_of};
+    ghost use Rattle.module_commands.specs.Form.{output_form_of};
     ghost use Rattle.module_commands.specs.Scope.{change_scope_of, scope_of};
 
     /// What of a module may be rewritten.
@@ -118,7 +118,7 @@ impl Options {
 
     /// The form of what is listed and reported.
     pub fn form(&self) -> Form
-        ensures { result ≡ form_of self.now }
+        ensures { result ≡ output_form_of self.now }
     {
         if self.json { Form::Json } else { Form::Text }
     }

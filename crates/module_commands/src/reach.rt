@@ -1,9 +1,9 @@
 //! How much of a module rules reach.
 ghost use Rattle.std.specs.Prelude.{◌≡◌, ◌↔◌, ◌+◌, ◌<◌, length, IfOk, IfErr, IsTrue};
 ghost use Rattle.wasm_types.specs.declared.types.PrimitiveTypeInfo.{PrimitiveTypeInfo};
-ghost use Rattle.peephole_machine.specs.Values.{context_in};
-ghost use Rattle.body_rewrites.specs.Reached.{IsMarked};
-ghost use Rattle.module_commands.specs.Reach.{AreCounted, AreCountedAt, AreOfBody, AreOfEntry, CountsFamilyAt, EndsBlock, HoldsReached, IsOfFamily, IsReach, Told};
+ghost use Rattle.wasm_execution.specs.Values.{context_in};
+ghost use Rattle.body_rewrites.specs.Reached.{OperatorIsMarked};
+ghost use Rattle.module_commands.specs.Reach.{AreCounted, AreCountedAt, AreOfBody, AreOfEntry, CountsFamilyAt, EndsBlock, HoldsReached, IsOfFamily, IsReach, ToldReach};
 ghost use Rattle.module_commands.specs.Reach.{no_part, nothing, number_of, part_in_64_bits, part_of, part_sum, reach_in_64_bits, sum_of};
 ghost use Rattle.module_commands.specs.declared.failure.Failure.TheVariants.{Memory};
 ghost use Rattle.wasm_module.specs.Module.{IsModule};
@@ -132,7 +132,7 @@ fn ends_block(operators: &[OperatorAndByteOffset], at: usize) -> bool
 // Whether the operator there is marked.
 fn is_marked(marks: &[bool], at: usize) -> bool
     requires { at < length marks.now }
-    ensures { IsTrue result ↔ IsMarked marks.now at }
+    ensures { IsTrue result ↔ OperatorIsMarked marks.now at }
 {
     marks[at]
 }
@@ -142,8 +142,8 @@ fn is_marked(marks: &[bool], at: usize) -> bool
 fn holds_marked(operators: &[OperatorAndByteOffset], marks: &[bool], at: usize, held: bool) -> bool
     requires inside { at < length operators.now }
     requires count { length marks.now ≡ length operators.now }
-    requires held { IsTrue held ↔ HoldsReached (IsMarked marks.now) operators.now at }
-    ensures { IsTrue result ↔ HoldsReached (IsMarked marks.now) operators.now (at + 1) }
+    requires held { IsTrue held ↔ HoldsReached (OperatorIsMarked marks.now) operators.now at }
+    ensures { IsTrue result ↔ HoldsReached (OperatorIsMarked marks.now) operators.now (at + 1) }
 {
     let stopped = delimits(operators, at);
     let marked = is_marked(marks, at);
@@ -154,7 +154,7 @@ fn holds_marked(operators: &[OperatorAndByteOffset], marks: &[bool], at: usize, 
 fn family_at(operators: &[OperatorAndByteOffset], marks: &[bool], at: usize, family: Family) -> Part
     requires inside { at < length operators.now }
     requires count { length marks.now ≡ length operators.now }
-    ensures { CountsFamilyAt (IsMarked marks.now) operators.now at family result }
+    ensures { CountsFamilyAt (OperatorIsMarked marks.now) operators.now at family result }
 {
     let there = is_of_family(operators, at, family);
     let marked = is_marked(marks, at);
@@ -165,8 +165,8 @@ fn family_at(operators: &[OperatorAndByteOffset], marks: &[bool], at: usize, fam
 fn reach_at(operators: &[OperatorAndByteOffset], marks: &[bool], at: usize, held: bool) -> Reach
     requires inside { at < length operators.now }
     requires count { length marks.now ≡ length operators.now }
-    requires held { IsTrue held ↔ HoldsReached (IsMarked marks.now) operators.now (at + 1) }
-    ensures { AreCountedAt (IsMarked marks.now) operators.now at result }
+    requires held { IsTrue held ↔ HoldsReached (OperatorIsMarked marks.now) operators.now (at + 1) }
+    ensures { AreCountedAt (OperatorIsMarked marks.now) operators.now at result }
 {
     let marked = is_marked(marks, at);
     let ends = ends_block(operators, at);
@@ -183,7 +183,7 @@ fn reach_at(operators: &[OperatorAndByteOffset], marks: &[bool], at: usize, held
 // What the operators count of which some are marked.
 fn reach_of_marked(operators: &[OperatorAndByteOffset], marks: &[bool]) -> Reach
     requires { length marks.now ≡ length operators.now }
-    ensures { Told (AreCounted (IsMarked marks.now) operators.now (length operators.now)) result }
+    ensures { ToldReach (AreCounted (OperatorIsMarked marks.now) operators.now (length operators.now)) result }
 {
     let mut reach = nothing();
     let mut held = false;
@@ -202,7 +202,7 @@ fn reach_of_body(
     scope: &Scope<'_>,
     operators: &[OperatorAndByteOffset],
 ) -> Result<Reach, Failure>
-    ensures reach { IfOk result (Told (AreOfBody (context_in info.now locals.now)
+    ensures reach { IfOk result (ToldReach (AreOfBody (context_in info.now locals.now)
         scope.now operators.now)) }
     ensures fails { IfErr result (λ e. e ≡ Memory) }
 {
@@ -230,7 +230,7 @@ fn reach_of_function(
 ) -> Result<Reach, Failure>
     requires module { IsModule bytes.now info.now layout.now }
     requires inside { n < length layout.now.entries }
-    ensures reach { IfOk result (Told
+    ensures reach { IfOk result (ToldReach
         (AreOfEntry scope.now bytes.now info.now layout.now n)) }
     ensures fails { IfErr result (λ e. e ≡ Memory) }
 {

@@ -2,7 +2,7 @@
 ghost use Rattle.std.specs.Prelude.{◌≡◌, ℕ, List, OnOk, IfErr};
 ghost use Rattle.std.specs.Io.KnownBytes.{Appends};
 ghost use Rattle.module_commands.specs.Failures.{FailsToInform, FailsToReport};
-ghost use Rattle.module_commands.specs.Form.{form_of};
+ghost use Rattle.module_commands.specs.Form.{output_form_of};
 ghost use Rattle.module_commands.specs.Reports.{ReportsModule, TellsReach};
 ghost use Rattle.module_commands.specs.Scope.{scope_of};
 ghost use Rattle.wasm_module.specs.Module.{IsModule};
@@ -27,7 +27,7 @@ fn report_reach_asked<E: Write>(
     requires { IsModule bytes.now wasm.now.info wasm.now.layout }
     ensures reports { OnOk result ((text : List ℕ)
         × Appends (E.contents notes.old) (E.contents notes.new) text
-        × TellsReach options.now.reach (form_of options.now) (scope_of options.now) bytes.now
+        × TellsReach options.now.reach (output_form_of options.now) (scope_of options.now) bytes.now
         wasm.now.info wasm.now.layout text) }
     ensures fails { IfErr result FailsToReport }
 {

@@ -6,7 +6,7 @@ ghost use Rattle.module_commands.specs.Changes.{WritesChanges};
 ghost use Rattle.module_commands.specs.Changing.{TellsChanged, WritesChanged};
 ghost use Rattle.module_commands.specs.Failures.{FailsToDo, FailsToReport, FailsToRewrite, FailsToTakeModule, IsNoOther, IsOfInput, SharesMemory, TakesModule, WritesModule};
 ghost use Rattle.module_commands.specs.declared.failure.Failure.TheVariants.{Output};
-ghost use Rattle.module_commands.specs.Form.{form_of};
+ghost use Rattle.module_commands.specs.Form.{output_form_of};
 ghost use Rattle.module_commands.specs.Lists.{WritesList};
 ghost use Rattle.module_commands.specs.Reports.{ReportsMutated};
 ghost use Rattle.module_commands.specs.Rules.{WritesRules};
@@ -167,23 +167,23 @@ pub fn run<R: Read, W: Write, E: Write, P: Watch + Drop>(
         (W.contents output.old) (W.contents output.new))) }
     // A list has a line for each rewrite that there is in the functions that are looked at, and no other.
     ensures listed { options.now.task ≡ Task.List → OnOk result
-        (IfSome (R.remaining input.old.device) (λ bytes. WritesList (form_of options.now)
+        (IfSome (R.remaining input.old.device) (λ bytes. WritesList (output_form_of options.now)
         (scope_of options.now) bytes (W.contents output.old) (W.contents output.new))) }
     // So has one of sites, for each operator and each of the changes that makes anything of it.
     ensures sites { options.now.task ≡ Task.Sites → OnOk result
-        (IfSome (R.remaining input.old.device) (λ bytes. WritesSites (form_of options.now)
+        (IfSome (R.remaining input.old.device) (λ bytes. WritesSites (output_form_of options.now)
         options.now.changes.items options.now.function bytes (W.contents output.old)
         (W.contents output.new))) }
     // The blocks have a line each, of the functions that are looked at.
     ensures blocks { options.now.task ≡ Task.Blocks → OnOk result
-        (IfSome (R.remaining input.old.device) (λ bytes. WritesBlocks (form_of options.now)
+        (IfSome (R.remaining input.old.device) (λ bytes. WritesBlocks (output_form_of options.now)
         options.now.function bytes (W.contents output.old) (W.contents output.new))) }
     // The rules are all of them, each with its lines, in the form that is asked for.
     ensures rules { (form : RulesForm) → options.now.task ≡ Task.Rules form
         → OnOk result (WritesRules form (W.contents output.old) (W.contents output.new)) }
     // The changes have a line each.
     ensures changes { options.now.task ≡ Task.Changes → OnOk result
-        (WritesChanges (form_of options.now) (W.contents output.old) (W.contents output.new)) }
+        (WritesChanges (output_form_of options.now) (W.contents output.old) (W.contents output.new)) }
     // No input is read for these two.
     ensures unread { ¬ (TakesModule options.now.task) → input.new ≡ input.old }
     // A list, the blocks, the rules, and the changes, are whole.

@@ -3,8 +3,8 @@ ghost use Rattle.std.specs.Prelude.{◌≡◌, ◌<◌, ℕ, List, length, IfOk,
 ghost use Rattle.std.specs.Io.KnownBytes.{Appends};
 ghost use Rattle.serde_json.specs.View.{view};
 ghost use Rattle.module_commands.specs.Failures.{FailsToList, FailsToReport};
-ghost use Rattle.module_commands.specs.Form.{form_of};
-ghost use Rattle.module_commands.specs.Sites.{ListsSites, WritesSites, site_line, site_lines, site_object, site_text};
+ghost use Rattle.module_commands.specs.Form.{output_form_of};
+ghost use Rattle.module_commands.specs.Sites.{ListsSitesInText, WritesSites, site_line, site_lines, site_object, site_text};
 ghost use Rattle.wasm_module.specs.Module.{IsModule};
 
 use crate::failure::Failure;
@@ -95,7 +95,7 @@ fn list_function<W: Write>(
     requires inside { n < length wasm.now.layout.entries }
     ensures lines { OnOk result ((text : List ℕ)
         × Appends (W.contents output.old) (W.contents output.new) text
-        × ListsSites (form_of options.now) options.now.changes.items bytes.now wasm.now.info
+        × ListsSitesInText (output_form_of options.now) options.now.changes.items bytes.now wasm.now.info
         wasm.now.layout n text) }
     ensures fails { IfErr result FailsToReport }
 {
@@ -115,7 +115,7 @@ pub fn list_sites<W: Write>(
     options: &Options,
     output: &mut W,
 ) -> Result<(), Failure>
-    ensures lines { OnOk result (WritesSites (form_of options.now) options.now.changes.items
+    ensures lines { OnOk result (WritesSites (output_form_of options.now) options.now.changes.items
         options.now.function bytes.now (W.contents output.old) (W.contents output.new)) }
     ensures fails { IfErr result (FailsToList options.now.function bytes.now) }
 {

@@ -319,7 +319,7 @@ fn named_rules(alloc: Global, names: &[&str]) -> Result<Vec<Rule>, Misuse>
 
 // The rules that are named, or all where none is.
 fn rules_of(alloc: Global, matches: &ArgMatches<'_>) -> Result<Vec<Rule>, Misuse>
-    ensures rules { IfOk result (λ rules. options.AreNamed
+    ensures rules { IfOk result (λ rules. options.AreNamedRules
         (all_of (codes "rule") (rows_of (found_of matches.now))) rules.items) }
     ensures unknown { IfErr result (options.AreMisused (rows_of (found_of matches.now))) }
 {
@@ -369,7 +369,7 @@ fn wanted_of(alloc: Global, rules: &[Rule], others: &[&str]) -> Result<Vec<Rule>
 
 // The rules that the options name, or all, without those that they exclude.
 fn wanted_rules(alloc: Global, matches: &ArgMatches<'_>) -> Result<Vec<Rule>, Misuse>
-    ensures rules { IfOk result (λ rules. options.AreRules
+    ensures rules { IfOk result (λ rules. options.AreWantedRules
         (all_of (codes "rule") (rows_of (found_of matches.now)))
         (all_of (codes "not-rule") (rows_of (found_of matches.now))) rules.items) }
     ensures unknown { IfErr result (options.AreMisused (rows_of (found_of matches.now))) }
@@ -438,7 +438,7 @@ fn place_of(
         (options.first_of (codes "change") (rows_of (found_of matches.now))) changes.now }
     requires function { options.IsNumberOf
         (one_of (codes "function") (rows_of (found_of matches.now))) function }
-    ensures place { IfOk result (options.IsPlace (rows_of (found_of matches.now)) changes.now
+    ensures place { IfOk result (options.IsChangePlace (rows_of (found_of matches.now)) changes.now
         function) }
     ensures misuse { IfErr result (options.AreMisused (rows_of (found_of matches.now))) }
 {
@@ -479,7 +479,7 @@ fn percentage_from(text: &str) -> Option<Dose>
 
 // The dose that a text writes.
 fn dose_from(text: &str) -> Option<Dose>
-    ensures { options.IsDoseOf text.now result }
+    ensures { options.TextSaysDose text.now result }
 {
     if text == "each" {
         return Some(Dose::Percent(100));

@@ -7,22 +7,25 @@ use Rattle.std.proofs.lemmas.Option.{same_Some}
 use Rattle.wasm_code.specs.declared.operator.Operator.{Operator}
 use Rattle.wasm_types.specs.Module.{Module}
 use Rattle.wasm_types.specs.declared.types.PrimitiveTypeInfo.{PrimitiveTypeInfo}
-use Rattle.wasm_declarations.specs.declared.entries.Entry.{Entry}
+use Rattle.wasm_lists.specs.declared.entries.Entry.{Entry}
 use Rattle.wasm_sections.specs.Section.{SpellsModule}
 use Rattle.wasm_sections.specs.declared.section.Section.{Section}
 use Rattle.wasm_module.specs.Instance.{Making, IsMadeOf, with_more_globals}
 use Rattle.wasm_module.specs.Module.{Layout, IsModule}
 use Rattle.wasm_module.specs.Reread.{HasContents}
 use Rattle.wasm_module.specs.Rewritten.{global_code, globals_code, IsRewritten}
-use Rattle.peephole_machine.specs.Values.{context_in, IsSound}
-use Rattle.peephole_programs.specs.hosts.Embedder.{Embedder, IsSoundEmbedder, Functions, Beyonds, running, AreValid, with_operators, with_function, DoesAs, BothDo, DoAsFunctions}
-use Rattle.peephole_programs.specs.hosts.EmbedderLaws.{EmbeddersAreSound, HarnessesDoMore, PiecesDo, OneFunctionRewritten, FunctionsDoThemselves, ValidModulesStayValid, ValidModulesDoMore, ValidSessionsDoMore, ValidHarnessesDoMore, ValidModulesAreSound}
-use Rattle.peephole_programs.specs.control.Function.{structural}
-use Rattle.peephole_programs.specs.modules.Running.{DoesMore, world_of, RewritesFollowOneAnother, SessionsDoMore}
-use Rattle.peephole_programs.specs.modules.Program.{Body}
-use Rattle.peephole_programs.specs.validation.Sound.{IsValid}
-use Rattle.peephole_programs.specs.control.Standard.{by_asked}
-use Rattle.peephole_programs.specs.control.Wider.{wider_module}
+use Rattle.wasm_execution.specs.Values.{context_in, IsSound}
+use Rattle.wasm_equivalence.specs.hosts.Embedder.{Embedder, IsSoundEmbedder, Functions, Beyonds, running, AreValid, with_operators}
+use Rattle.wasm_equivalence.specs.hosts.Embedder.{with_function, DoesAs, BothDo, DoAsFunctions}
+use Rattle.wasm_equivalence.specs.hosts.EmbedderLaws.{EmbeddersAreSound, HarnessesDoMore, PiecesDo, OneFunctionRewritten}
+use Rattle.wasm_equivalence.specs.hosts.EmbedderLaws.{FunctionsDoThemselves, ValidModulesStayValid, ValidModulesDoMore, ValidSessionsDoMore}
+use Rattle.wasm_equivalence.specs.hosts.EmbedderLaws.{ValidHarnessesDoMore, ValidModulesAreSound}
+use Rattle.wasm_equivalence.specs.control.Function.{structural}
+use Rattle.wasm_equivalence.specs.modules.Running.{DoesMore, world_of, RewritesFollowOneAnother, SessionsDoMore}
+use Rattle.wasm_equivalence.specs.modules.Program.{Body}
+use Rattle.wasm_equivalence.specs.validation.Sound.{IsValid}
+use Rattle.wasm_equivalence.specs.control.Standard.{by_asked}
+use Rattle.wasm_equivalence.specs.control.Wider.{wider_module}
 use Rattle.body_rewrites.specs.Doing.{DoesAsBody}
 use Rattle.body_rewrites.specs.declared.rewrite.Rewrite.{Rewrite}
 use Rattle.body_splices.specs.OwnBytes.{without_offsets}

@@ -5,7 +5,7 @@ use Rattle.std.specs.List.{All}
 use Rattle.std.proofs.lemmas.Option.{slice_get-get_or}
 use Rattle.rand_core.specs.Stream.{Stream}
 use Rattle.wasm_types.specs.Module.{Module}
-use Rattle.wasm_declarations.specs.declared.entries.Entry.{Entry}
+use Rattle.wasm_lists.specs.declared.entries.Entry.{Entry}
 use Rattle.wasm_module.specs.Inside.{IsInside}
 use Rattle.wasm_module.specs.Module.{Layout}
 use Rattle.body_rewrites.specs.Choice.{after_word}

@@ -1,5 +1,6 @@
 -- Words that name a code entry.
-use Rattle.std.proofs.Common.{◌≡◌, inl, inr, Bool, true, false, ℕ, zero, suc, ◌+◌, ◌-◌, ◌*◌, ◌%◌, ◌^◌, ◌<◌, ◌≤◌, List, [], ◌∷◌, length, take, drop, Some, ap, subst, sym, ◌∙◌, arith}
+use Rattle.std.proofs.Common.{◌≡◌, inl, inr, Bool, true, false, ℕ, zero, suc, ◌+◌, ◌-◌, ◌*◌, ◌%◌, ◌^◌, ◌<◌, ◌≤◌, List, [], ◌∷◌, length}
+use Rattle.std.proofs.Common.{take, drop, Some, ap, subst, sym, ◌∙◌, arith}
 use Rattle.std.specs.Prelude.{IsTrue, if◌then◌else◌, slice_get, slice_range}
 use Rattle.std.specs.List.{sum_by}
 use Rattle.std.proofs.lemmas.Bool.{cases_eq, cases_lt}
@@ -13,9 +14,9 @@ use Rattle.wasm_code.specs.Operator.{is_known, Spells, SpellsBy}
 use Rattle.wasm_code.specs.declared.operator.Operator.{Operator}
 use Rattle.wasm_types.specs.Module.{Module}
 use Rattle.wasm_types.specs.declared.types.PrimitiveTypeInfo.{PrimitiveTypeInfo}
-use Rattle.wasm_declarations.specs.declared.entries.Entry.{Entry}
+use Rattle.wasm_lists.specs.declared.entries.Entry.{Entry}
 use Rattle.wasm_module.specs.Module.{Layout}
-use Rattle.peephole_machine.specs.Values.{Context, context_in}
+use Rattle.wasm_execution.specs.Values.{Context, context_in}
 use Rattle.rewrite_rules.specs.declared.rule.Rule.{Rule}
 use Rattle.body_rewrites.specs.Choice.{Chooses, after_word, growths}
 use Rattle.body_rewrites.specs.HasWords.{HasWords}
@@ -154,7 +155,8 @@ named_one entries n m byte a b = elim (cases_lt n m) [
 ]
 
 pub draws_one : OneReading → ((context : Context) (s : Stream) (rules : List Rule) (wanted : List Growth) (operators : List (Operator × ℕ))
-    (r q : Rewrite) → Chooses context s rules wanted operators r → Chooses context s rules wanted operators q → r ≡ q) → (scope : Scope) (bytes : List ℕ) (info : Module)
+    (r q : Rewrite) → Chooses context s rules wanted operators r → Chooses context s rules wanted operators q → r ≡ q) →
+    (scope : Scope) (bytes : List ℕ) (info : Module)
     (layout : Layout) (s : Stream) (n m : ℕ) (r q : Rewrite) → 0 < sum_by contents_length layout.entries → sum_by contents_length layout.entries < 2 ^ 64 →
     DrawsRewrite scope bytes info layout s n r → DrawsRewrite scope bytes info layout s m q → (n ≡ m) × (r ≡ q)
 draws_one one law scope bytes info layout s n m r q some few a b =

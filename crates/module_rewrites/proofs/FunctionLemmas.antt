@@ -6,8 +6,8 @@ use Rattle.wasm_code.specs.Body.{SpellsCode}
 use Rattle.wasm_code.specs.declared.operator.Operator.{Operator}
 use Rattle.wasm_types.specs.Module.{Module}
 use Rattle.wasm_types.specs.declared.types.PrimitiveTypeInfo.{PrimitiveTypeInfo}
-use Rattle.wasm_declarations.specs.declared.entries.Entry.{Entry}
-use Rattle.wasm_declarations.specs.Locals.{SpellsLocals}
+use Rattle.wasm_lists.specs.declared.entries.Entry.{Entry}
+use Rattle.wasm_lists.specs.Locals.{SpellsLocals}
 use Rattle.wasm_module.specs.Module.{Layout}
 use Rattle.module_rewrites.specs.Function.{IsFunction, parameters_of}
 

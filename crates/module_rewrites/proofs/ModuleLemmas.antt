@@ -5,7 +5,8 @@ use Rattle.std.proofs.lemmas.Bool.{cases_eq, cases_lt}
 use Rattle.wasm_types.specs.Module.{Module}
 use Rattle.wasm_module.specs.Module.{Layout, IsModule}
 use Rattle.body_rewrites.specs.declared.rewrite.Rewrite.{Rewrite}
-use Rattle.module_rewrites.specs.Mutated.{CannotMutate, HasNoMutation, IsChosen, IsInVain, IsMutated, IsOfSize, IsRefusedForSize, MutatesOne, RefusesChosenEntry, RefusesEntry, RefusesMutation, last_of}
+use Rattle.module_rewrites.specs.Mutated.{CannotMutate, HasNoMutation, IsChosen, IsInVain, IsMutated, IsOfSize, IsRefusedForSize}
+use Rattle.module_rewrites.specs.Mutated.{MutatesOne, RefusesChosenEntry, RefusesEntry, RefusesMutation, last_refusal_of}
 use Rattle.module_rewrites.specs.Scope.{Scope, IsMarked}
 use Rattle.module_rewrites.specs.Size.{IsSmallEnough}
 use Rattle.module_rewrites.specs.declared.mutation.MutationError.{MutationError}
@@ -52,14 +53,14 @@ RefusesWithin scope bytes info layout from to e = (n : ℕ) × (from ≤ n) × (
 -- ---- several attempts in vain
 
 module _ {A : Type 0} where
-  pub vain_of_last : (before after : Result (Option A) MutationError) → IsInVain before → IsInVain after → IsInVain (last_of before after)
+  pub vain_of_last : (before after : Result (Option A) MutationError) → IsInVain before → IsInVain after → IsInVain (last_refusal_of before after)
   vain_of_last before (Ok None) b a = b
   vain_of_last before (Ok (Some x)) b a = absurd a
   vain_of_last before (Err e) b a = a
 
   -- there is no rewrite where both attempts found none
   pub none_of_last : (before after : Result (Option A) MutationError) (P Q : Type 0) → IfOk before (λ o. IfNone o P) → IfOk after (λ o. IfNone o Q) →
-      IfOk (last_of before after) (λ o. IfNone o (P × Q))
+      IfOk (last_refusal_of before after) (λ o. IfNone o (P × Q))
   none_of_last (Ok None) (Ok None) P Q p q = (p, q)
   none_of_last (Ok (Some x)) (Ok None) P Q p q = tt
   none_of_last (Err e) (Ok None) P Q p q = tt
@@ -68,7 +69,7 @@ module _ {A : Type 0} where
 
   -- one of them is refused
   pub refused_of_last : (before after : Result (Option A) MutationError) (P Q T : MutationError → Type 0) → ((e : MutationError) → P e → T e) →
-      ((e : MutationError) → Q e → T e) → IfErr before P → IfErr after Q → IfErr (last_of before after) T
+      ((e : MutationError) → Q e → T e) → IfErr before P → IfErr after Q → IfErr (last_refusal_of before after) T
   refused_of_last (Ok x) (Ok None) P Q T f g p q = tt
   refused_of_last (Err e) (Ok None) P Q T f g p q = f e p
   refused_of_last before (Ok (Some x)) P Q T f g p q = tt

@@ -1,5 +1,6 @@
 -- One code entry of a module rewritten.
-use Rattle.std.proofs.Common.{◌≡◌, ◌⊎◌, ℕ, ◌-◌, ◌≤◌, true, inl, inr, List, [], ◌∷◌, ◌++◌, length, drop, map, Option, Some, None, Result, Ok, Err, sym, ap, subst, ◌∙◌, arith, refl}
+use Rattle.std.proofs.Common.{◌≡◌, ◌⊎◌, ℕ, ◌-◌, ◌≤◌, true, inl, inr, List, [], ◌∷◌, ◌++◌, length, drop, map, Option, Some, None, Result, Ok}
+use Rattle.std.proofs.Common.{Err, sym, ap, subst, ◌∙◌, arith, refl}
 use Rattle.std.specs.Prelude.{◌≢◌, IfOk, IfErr, IfNone, IfSome, slice_get, slice_range}
 use Rattle.std.specs.List.{All, Contains}
 use Rattle.std.proofs.lemmas.Bool.{true≢false}
@@ -16,7 +17,7 @@ use Rattle.wasm_types.specs.Module.{Module, merged}
 use Rattle.wasm_types.specs.declared.types.PrimitiveTypeInfo.{PrimitiveTypeInfo}
 use Rattle.wasm_types.specs.declared.types.PrimitiveTypeInfo.TheVariants as primitive
 use Rattle.wasm_types.specs.declared.types.PrimitiveTypeInfo.TheVariants.{Empty}
-use Rattle.wasm_declarations.specs.declared.entries.Entry.{Entry}
+use Rattle.wasm_lists.specs.declared.entries.Entry.{Entry}
 use Rattle.wasm_module.specs.Module.{Layout, IsModule}
 use Rattle.wasm_module.specs.Reread.{IsReread}
 use Rattle.wasm_module.specs.Inside.{IsInside}
@@ -24,7 +25,7 @@ use Rattle.wasm_module.specs.Limits.{IsTooLarge}
 use Rattle.wasm_module.specs.Rewritten.{IsRewritten}
 use Rattle.wasm_module.specs.declared.refusal.WriteError.{WriteError}
 use Rattle.wasm_module.specs.declared.refusal.WriteError.TheVariants.{TooLarge, EmptyType, Memory}
-use Rattle.peephole_machine.specs.Values.{Context, context_in}
+use Rattle.wasm_execution.specs.Values.{Context, context_in}
 use Rattle.rewrite_rules.specs.declared.rule.Rule.{Rule}
 use Rattle.rewrite_rules.specs.declared.table.Own.{Own}
 use Rattle.rewrite_rules.specs.declared.table.Own.TheVariants as own
@@ -198,7 +199,8 @@ row_asks context operators line at change (widths.Only t) h = inl (ap (λ (c : C
 row_asks context operators line at change widths.Any h = inl (ap (λ (c : Change). c.asks) h.change_is)
 row_asks context operators line at change (widths.Operands a b c) h = inl (ap (λ (k : Change). k.asks) h.change_is)
 
-asks_for_numbers : {context : Context} {s : Stream} {rules : List Rule} {wanted : List Growth} {input : List ℕ} {operators : Operators} {r : Rewrite} {old new : List ℕ}
+asks_for_numbers : {context : Context} {s : Stream} {rules : List Rule} {wanted : List Growth} {input : List ℕ} {operators : Operators} {r :
+    Rewrite} {old new : List ℕ}
     {asks : Types} {after : Stream} → AppendsByWords context s rules wanted input operators r old new asks after → AsksForNumbers asks
 asks_for_numbers {context = context} {operators = operators} {r = r} w =
     let m = w.appends.made in
@@ -235,7 +237,8 @@ plain_types ts (inr (t, h, e)) =
 module _ (scope : Scope) (bytes : List ℕ) (info : Module) (layout : Layout) (n : ℕ) (locals : Types) (expression : ℕ) (operators : Operators)
     (entry : Entry) (rewrite : Rewrite) (old body : List ℕ) (more : Types) (s after : Stream) (front written : List ℕ) (globals : Types)
     (f : IsFunction bytes info layout n locals expression operators) (empty : old ≡ [])
-    (appended : AppendsByWords (context_in info locals) s scope.rules (wanted_of scope) bytes operators rewrite old body more after) (at : slice_get layout.entries n ≡ Some entry)
+    (appended : AppendsByWords (context_in info locals) s scope.rules (wanted_of scope) bytes operators rewrite old body more after) (at :
+    slice_get layout.entries n ≡ Some entry)
     (front_is : front ≡ slice_range bytes entry.contents expression) (written_is : written ≡ body) (globals_are : globals ≡ more) where
   contents_is : front ++ written ≡ slice_range bytes f.entry.contents expression ++ body
   contents_is =

@@ -6,12 +6,12 @@ use Rattle.rand_core.specs.Stream.{Stream}
 use Rattle.wasm_code.specs.declared.operator.Operator.{Operator}
 use Rattle.wasm_types.specs.Module.{Module}
 use Rattle.wasm_types.specs.declared.types.PrimitiveTypeInfo.{PrimitiveTypeInfo}
-use Rattle.wasm_declarations.specs.declared.entries.Entry.{Entry}
-use Rattle.wasm_declarations.specs.Locals.{SpellsLocals}
+use Rattle.wasm_lists.specs.declared.entries.Entry.{Entry}
+use Rattle.wasm_lists.specs.Locals.{SpellsLocals}
 use Rattle.wasm_module.specs.Limits.{IsTooLarge}
 use Rattle.wasm_module.specs.Module.{Layout, IsModule}
 use Rattle.wasm_module.specs.Rewritten.{IsRewritten}
-use Rattle.peephole_machine.specs.Values.{Context, context_in}
+use Rattle.wasm_execution.specs.Values.{Context, context_in}
 use Rattle.rewrite_rules.specs.declared.rule.Rule.{Rule}
 use Rattle.body_rewrites.specs.Choice.{Chooses}
 use Rattle.body_rewrites.specs.Random.{AppendsByWords, HasNoRewrite}
@@ -32,7 +32,8 @@ pub record OneWriting : Type 0 where
   pub reading : OneReading
   pub body : (context : Context) (stream : Stream) (rules : List Rule) (wanted : List Growth) (input : List ℕ) (operators : List (Operator × ℕ)) (r q : Rewrite)
       (old new other : List ℕ) (asks others : List PrimitiveTypeInfo) (after later : Stream) →
-      AppendsByWords context stream rules wanted input operators r old new asks after → AppendsByWords context stream rules wanted input operators q old other others later →
+      AppendsByWords context stream rules wanted input operators r old new asks after →
+      AppendsByWords context stream rules wanted input operators q old other others later →
       (r ≡ q) × (new ≡ other) × (asks ≡ others) × (after ≡ later)
   pub none : (context : Context) (stream : Stream) (rules : List Rule) (wanted : List Growth) (operators : List (Operator × ℕ)) (r : Rewrite) →
       HasNoRewrite context rules wanted operators → Chooses context stream rules wanted operators r → ⊥
@@ -64,9 +65,12 @@ module _ (one : OneWriting) where
       let alike = one_body one.reading bytes info layout n a.locals b.locals a.expression b.expression a.operators b.operators a.function b.function in
       let place = one_place one.reading bytes info layout n a.locals b.locals a.expression b.expression a.operators b.operators a.function b.function in
       let there : AppendsByWords (context_in info a.locals) s scope.rules (wanted_of scope) bytes a.operators q [] b.body globals later =
-      subst (λ (ts : List PrimitiveTypeInfo). AppendsByWords (context_in info ts) s scope.rules (wanted_of scope) bytes a.operators q [] b.body globals later) (sym alike.0)
-      (subst (λ (os : List (Operator × ℕ)). AppendsByWords (context_in info b.locals) s scope.rules (wanted_of scope) bytes os q [] b.body globals later) (sym alike.1) b.writes) in
-      let same = one.body (context_in info a.locals) s scope.rules (wanted_of scope) bytes a.operators r q [] a.body b.body more globals after later a.writes there in
+      subst (λ (ts : List PrimitiveTypeInfo). AppendsByWords (context_in info ts) s scope.rules (wanted_of scope) bytes a.operators q [] b.body
+      globals later) (sym alike.0)
+      (subst (λ (os : List (Operator × ℕ)). AppendsByWords (context_in info b.locals) s scope.rules (wanted_of scope) bytes os q [] b.body globals
+      later) (sym alike.1) b.writes) in
+      let same = one.body (context_in info a.locals) s scope.rules (wanted_of scope) bytes a.operators r q [] a.body b.body more globals after later
+      a.writes there in
       let text =
       ap₂ (λ (e : Entry) (x : ℕ). slice_range bytes e.contents x ++ a.body) place.0 place.1
       ∙ ap (λ (t : List ℕ). slice_range bytes b.function.entry.contents b.expression ++ t) same.1 in

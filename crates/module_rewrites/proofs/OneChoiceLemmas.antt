@@ -1,5 +1,6 @@
 -- Words choose one rewrite of a module, and one after another.
-use Rattle.std.proofs.Common.{◌≡◌, ◌⊎◌, ◌%◌, ◌^◌, inl, inr, ℕ, ◌+◌, ◌-◌, ◌<◌, ◌≤◌, List, [], ◌∷◌, ◌++◌, length, Option, Some, None, refl, sym, ap, ap₂, subst, ◌∙◌, arith}
+use Rattle.std.proofs.Common.{◌≡◌, ◌⊎◌, ◌%◌, ◌^◌, inl, inr, ℕ, ◌+◌, ◌-◌, ◌<◌, ◌≤◌, List, [], ◌∷◌, ◌++◌, length, Option, Some, None, refl}
+use Rattle.std.proofs.Common.{sym, ap, ap₂, subst, ◌∙◌, arith}
 use Rattle.std.specs.Prelude.{IfSome}
 use Rattle.std.specs.List.{sum_by}
 use Rattle.std.proofs.lemmas.Bool.{cases_eq, cases_lt}
@@ -8,7 +9,7 @@ use Rattle.std.proofs.lemmas.List.Sums.{sum_by-take-le}
 use Rattle.std.proofs.lemmas.Option.{slice_get_within}
 use Rattle.rand_core.specs.Stream.{Stream, next_u64}
 use Rattle.wasm_types.specs.Module.{Module}
-use Rattle.wasm_declarations.specs.declared.entries.Entry.{Entry}
+use Rattle.wasm_lists.specs.declared.entries.Entry.{Entry}
 use Rattle.wasm_module.specs.Module.{Layout, IsModule}
 use Rattle.wasm_module.specs.declared.refusal.WriteError.TheVariants as writes
 use Rattle.body_rewrites.specs.declared.rewrite.Rewrite.{Rewrite}
@@ -62,7 +63,8 @@ module _ (one : OneWriting) (scope : Scope) (bytes : List ℕ) (info : Module) (
       let makes = subst (λ i. Makes scope bytes info layout b i) (sym same) q in
       (same, (each_count (TriesInVain scope bytes info layout) (Makes scope bytes info layout) are (λ j. n) f.1 g.1 s a b f.3 p vain makes).1)
   finds_one None s n m a b f g p q =
-      draws_one (TriesInVain scope bytes info layout) (Makes scope bytes info layout) are layout.entries (names_one_entry (some_byte a n p)) (draws_of scope bytes) s n m a b
+      draws_one (TriesInVain scope bytes info layout) (Makes scope bytes info layout) are layout.entries (names_one_entry (some_byte a n p))
+      (draws_of scope bytes) s n m a b
       (inside a n p) (inside b m q) p q f g
 
   pub chooses_one : (only : Option ℕ) (s : Stream) (f g : ℕ) (r q : Rewrite) (new other : List ℕ) (after later : Stream) →

@@ -2,7 +2,7 @@
 use Rattle.std.proofs.Common.{◌≡◌, ◌⊎◌, inl, inr, ℕ, zero, suc, ◌+◌, ◌<◌, List, length, sym, ap, subst, ◌∙◌, arith}
 use Rattle.std.proofs.lemmas.Bool.{cases_eq, cases_lt}
 use Rattle.rand_core.specs.Stream.{Stream}
-use Rattle.wasm_declarations.specs.declared.entries.Entry.{Entry}
+use Rattle.wasm_lists.specs.declared.entries.Entry.{Entry}
 use Rattle.body_rewrites.specs.Choice.{after_word}
 use Rattle.module_rewrites.specs.Drawing.{DrawsEntry, EachInVain, IsFirstBefore, IsFirstBehind, NamesEntry, NamesInVain, by_word, in_order}
 

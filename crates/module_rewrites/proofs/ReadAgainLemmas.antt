@@ -1,5 +1,6 @@
 -- A function is read again where its entry contains the same, and the rewritten one where its body was.
-use Rattle.std.proofs.Common.{◌≡◌, ℕ, zero, suc, ◌≤◌, Bool, true, ◌+◌, ◌-◌, List, [], ◌∷◌, ◌++◌, length, take, drop, Some, refl, sym, ap, ap₂, subst, ◌∙◌, arith}
+use Rattle.std.proofs.Common.{◌≡◌, ℕ, zero, suc, ◌≤◌, Bool, true, ◌+◌, ◌-◌, List, [], ◌∷◌, ◌++◌, length, take, drop, Some, refl, sym, ap}
+use Rattle.std.proofs.Common.{ap₂, subst, ◌∙◌, arith}
 use Rattle.std.specs.Prelude.{◌≢◌, IsTrue, map, slice_get, slice_range}
 use Rattle.std.proofs.lemmas.List.{drop-drop, take_all, take-append-drop, take-take, take_at, drop_at, length-append, length-take}
 use Rattle.std.proofs.lemmas.Option.{same_Some}
@@ -7,12 +8,12 @@ use Rattle.wasm_code.specs.Body.{SpellsAll, SpellsCode, ends, is_end}
 use Rattle.wasm_code.specs.declared.operator.Operator.{Operator}
 use Rattle.wasm_types.specs.Module.{Module, merged}
 use Rattle.wasm_types.specs.declared.types.PrimitiveTypeInfo.{PrimitiveTypeInfo}
-use Rattle.wasm_declarations.specs.declared.entries.Entry.{Entry}
-use Rattle.wasm_declarations.specs.Locals.{SpellsLocals}
+use Rattle.wasm_lists.specs.declared.entries.Entry.{Entry}
+use Rattle.wasm_lists.specs.Locals.{SpellsLocals}
 use Rattle.wasm_module.specs.Module.{IsModule, Layout}
 use Rattle.wasm_module.specs.declared.unknown.Unknown.{Unknown}
 use Rattle.wasm_module.specs.Reread.{HasContents, IsReread}
-use Rattle.peephole_programs.specs.control.Wider.{wider_module}
+use Rattle.wasm_equivalence.specs.control.Wider.{wider_module}
 use Rattle.body_splices.specs.OwnBytes.{own_bytes, without_offsets}
 use Rattle.body_splices.specs.Laws.{OwnBytesStay}
 use Rattle.module_rewrites.specs.Function.{IsFunction, KnowsIndices, parameters_of}
@@ -163,7 +164,8 @@ asking_there stay input text from to operators is spells {bytes} {info} {layout}
       located = h.located;
       is = h.is;
       are = ap asking_operators (sym (stay input bytes text (drop (to - from) (drop from input))
-          (drop (h.is.entry.end - h.expression) (drop h.expression bytes)) from h.expression operators h.located (begins_with input text from to is) (begins_with bytes text h.expression h.is.entry.end p.text_is)
+          (drop (h.is.entry.end - h.expression) (drop h.expression bytes)) from h.expression operators h.located (begins_with input text from to is)
+          (begins_with bytes text h.expression h.is.entry.end p.text_is)
           spells there));
     }
 

@@ -8,13 +8,13 @@ use Rattle.wasm_types.specs.declared.types.PrimitiveTypeInfo.{PrimitiveTypeInfo}
 use Rattle.wasm_sections.specs.Debug.{IsWithoutDebug}
 use Rattle.wasm_sections.specs.Section.{SpellsModule}
 use Rattle.wasm_sections.specs.declared.section.Section.{Section}
-use Rattle.wasm_declarations.specs.declared.entries.Entry.{Entry}
+use Rattle.wasm_lists.specs.declared.entries.Entry.{Entry}
 use Rattle.wasm_module.specs.Instance.{Making, IsMadeOf, with_more_globals}
 use Rattle.wasm_module.specs.Module.{Layout, IsModule}
 use Rattle.wasm_module.specs.Reread.{HasContents}
 use Rattle.wasm_module.specs.SameModule.{IsSameModule}
-use Rattle.peephole_programs.specs.hosts.Embedder.{Functions, Beyonds}
-use Rattle.peephole_programs.specs.control.Wider.{wider_module}
+use Rattle.wasm_equivalence.specs.hosts.Embedder.{Functions, Beyonds}
+use Rattle.wasm_equivalence.specs.control.Wider.{wider_module}
 use Rattle.body_splices.specs.Laws.{OwnBytesStay}
 use Rattle.module_rewrites.specs.DoesAsBefore.{AreFunctions, IsModuleAfter, DoesAsBefore}
 use Rattle.module_rewrites.specs.Function.{KnowsIndices, parameters_of}

@@ -6,7 +6,7 @@ use Rattle.std.proofs.lemmas.Bool.{true≢false}
 use Rattle.std.proofs.lemmas.Cmp.{nat_cmp_total, nat_list_cmp_total, on_total, then_total}
 use Rattle.rand_core.specs.Stream.{Stream}
 use Rattle.wasm_code.specs.declared.operator.Operator.{Operator}
-use Rattle.peephole_machine.specs.Values.{Context, context_in}
+use Rattle.wasm_execution.specs.Values.{Context, context_in}
 use Rattle.rewrite_rules.specs.declared.rule.Rule.{Rule}
 use Rattle.body_rewrites.specs.Choice.{Chooses, growths}
 use Rattle.body_rewrites.specs.Listing.{HasGrowth, IsWantedBy}

@@ -7,13 +7,13 @@ use Rattle.wasm_code.specs.Body.{SpellsAll}
 use Rattle.wasm_code.specs.declared.operator.Operator.{Operator}
 use Rattle.wasm_types.specs.Module.{Module}
 use Rattle.wasm_types.specs.declared.types.PrimitiveTypeInfo.{PrimitiveTypeInfo}
-use Rattle.wasm_declarations.specs.Locals.{SpellsLocals}
-use Rattle.wasm_declarations.specs.declared.entries.Entry.{Entry}
+use Rattle.wasm_lists.specs.Locals.{SpellsLocals}
+use Rattle.wasm_lists.specs.declared.entries.Entry.{Entry}
 use Rattle.wasm_module.specs.Module.{Layout}
 use Rattle.wasm_module.specs.Reread.{HasContents}
-use Rattle.peephole_programs.specs.hosts.Embedder.{Functions, Beyonds, with_operators, with_function}
-use Rattle.peephole_programs.specs.modules.Program.{Body}
-use Rattle.peephole_programs.specs.control.Wider.{wider_module}
+use Rattle.wasm_equivalence.specs.hosts.Embedder.{Functions, Beyonds, with_operators, with_function}
+use Rattle.wasm_equivalence.specs.modules.Program.{Body}
+use Rattle.wasm_equivalence.specs.control.Wider.{wider_module}
 use Rattle.body_splices.specs.OwnBytes.{own_bytes, without_offsets}
 use Rattle.module_rewrites.specs.Structure.{asking_operators, HasAsking, HasLabels, AreLabelled, texts_of}
 use Rattle.module_rewrites.specs.Function.{IsFunction}

@@ -5,7 +5,7 @@ use Rattle.wasm_code.specs.declared.operator.Operator.{Operator}
 use Rattle.wasm_code.specs.declared.operator.Operator.TheVariants.{Instr, BrTable, End}
 use Rattle.wasm_code.specs.Number.{SpellsUnsigned}
 use Rattle.body_splices.specs.OwnBytes.{own_bytes}
-use Rattle.module_rewrites.specs.Structure.{SpellsTable, asking_operators}
+use Rattle.module_rewrites.specs.Structure.{SpellsBranchTable, asking_operators}
 
 -- local.get 0; br_table 1 0; end, where the last operand is the default label
 abbrev body : List ℕ
@@ -25,7 +25,7 @@ none : SpellsUnsigned 32 (0x00 ∷ []) 0
 none = record { group = omega arith; short = omega arith; is = refl; fits = omega arith }
 
 -- to the label 1, or by default to 0
-labels_are : SpellsTable (0x0e ∷ 0x01 ∷ 0x01 ∷ 0x00 ∷ []) (1 ∷ []) 0
+labels_are : SpellsBranchTable (0x0e ∷ 0x01 ∷ 0x01 ∷ 0x00 ∷ []) (1 ∷ []) 0
 labels_are = record {
   count = 0x01 ∷ [];
   numbers = 0x01 ∷ 0x00 ∷ [];

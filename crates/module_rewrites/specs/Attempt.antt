@@ -64,7 +64,7 @@ pub record CanReadOne (only : Option ℕ) (bytes : List ℕ) : Type 0 where
   pub can : CanRead bytes info layout n
 
 -- the function of the n-th code entry can't be read, for this error, which is no want of memory
-pub record IsKnownFault (bytes : List ℕ) (info : Module) (layout : Layout) (n : ℕ) (e : FunctionError) : Type 0 where
+pub record IsKnownFunctionFault (bytes : List ℕ) (info : Module) (layout : Layout) (n : ℕ) (e : FunctionError) : Type 0 where
   pub fault : IsFunctionFault bytes info layout n e
   pub known : ¬ (IsWantOfMemory e)
 
@@ -81,7 +81,7 @@ pub record CanReadNone (only : Option ℕ) (bytes : List ℕ) (e : FunctionError
   pub is : IsModule bytes info layout
   pub n : ℕ
   pub first : IsFirstChosen only layout n
-  pub fault : IsKnownFault bytes info layout n e
+  pub fault : IsKnownFunctionFault bytes info layout n e
   pub none : (m : ℕ) → m < length layout.entries → IsChosen only (layout.imported_functions + m) → ¬ (CanRead bytes info layout m)
 
 -- ---- reasons

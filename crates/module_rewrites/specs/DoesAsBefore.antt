@@ -4,19 +4,19 @@ use Rattle.std.specs.List.{All}
 use Rattle.wasm_code.specs.declared.operator.Operator.{Operator}
 use Rattle.wasm_types.specs.Module.{Module}
 use Rattle.wasm_types.specs.declared.types.PrimitiveTypeInfo.{PrimitiveTypeInfo}
-use Rattle.wasm_declarations.specs.declared.entries.Entry.{Entry}
+use Rattle.wasm_lists.specs.declared.entries.Entry.{Entry}
 use Rattle.wasm_module.specs.Instance.{Making, IsMadeOf, with_more_globals}
 use Rattle.wasm_module.specs.Module.{Layout, IsModule}
 use Rattle.wasm_module.specs.Reread.{HasContents}
-use Rattle.peephole_machine.specs.Values.{Value, IsValue, types}
-use Rattle.peephole_programs.specs.hosts.Embedder.{Embedder, IsSoundEmbedder, Functions, Beyonds, running, AreValid}
-use Rattle.peephole_programs.specs.hosts.HostCode.{HostCode, run_code, IsTypedCode}
-use Rattle.peephole_programs.specs.control.Function.{structural}
-use Rattle.peephole_programs.specs.modules.Running.{DoesMore, world_of, Called, IsTypedCall, session, AreMore}
-use Rattle.peephole_programs.specs.modules.Program.{Body, context_for}
-use Rattle.peephole_programs.specs.validation.Sound.{IsValid}
-use Rattle.peephole_programs.specs.control.Standard.{Beyond, by_asked}
-use Rattle.peephole_programs.specs.control.Wider.{wider_module, wider, IsMore}
+use Rattle.wasm_execution.specs.Values.{Value, IsValue, types}
+use Rattle.wasm_equivalence.specs.hosts.Embedder.{Embedder, IsSoundEmbedder, Functions, Beyonds, running, AreValid}
+use Rattle.wasm_equivalence.specs.hosts.HostCode.{HostCode, run_code, IsTypedCode}
+use Rattle.wasm_equivalence.specs.control.Function.{structural}
+use Rattle.wasm_equivalence.specs.modules.Running.{DoesMore, world_of, Called, IsTypedCall, session, AreMore}
+use Rattle.wasm_equivalence.specs.modules.Program.{Body, function_context}
+use Rattle.wasm_equivalence.specs.validation.Sound.{IsValid}
+use Rattle.wasm_equivalence.specs.control.Standard.{Beyond, by_asked}
+use Rattle.wasm_equivalence.specs.control.Wider.{wider_module, wider, IsMore}
 use Rattle.module_rewrites.specs.Function.{IsFunction, KnowsIndices, parameters_of}
 use Rattle.module_rewrites.specs.ReadAgain.{HasFunction}
 use Rattle.module_rewrites.specs.Structure.{HasAsking, AreLabelled}
@@ -42,8 +42,8 @@ pub record StaysFunction (m : Module) (input : List ℕ) (more : List PrimitiveT
   pub params_are : old.params ≡ new.params
   pub locals_are : old.locals ≡ new.locals
   pub valid : (results : List PrimitiveTypeInfo) (beyond : Beyond) →
-      IsValid (context_for m old) results (by_asked (structural old.operators) beyond) old.operators →
-      IsValid (wider input more (context_for m old)) results (by_asked (structural new.operators) beyond) new.operators
+      IsValid (function_context m old) results (by_asked (structural old.operators) beyond) old.operators →
+      IsValid (wider input more (function_context m old)) results (by_asked (structural new.operators) beyond) new.operators
 
 -- both modules have a body, the new one valid where the old one is, or neither has one
 abbrev pub BothStay : Module → (input : List ℕ) → (more : List PrimitiveTypeInfo) → Option Body → Option Body → Type 0
@@ -77,8 +77,10 @@ abbrev pub CannotRead : (bytes : List ℕ) → Module → Layout → (n : ℕ) �
 CannotRead bytes info layout n =
     (locals : List PrimitiveTypeInfo) (expression : ℕ) (operators : List (Operator × ℕ)) → IsFunction bytes info layout n locals expression operators → ⊥
 
--- The new bytes are the module with globals more, whose functions do as those did. Operators that ask more than they carry have the bytes that they had, so that
--- the labels of branches by a table that stand in the old bytes stand in the new ones; entries that can't be read contain what they contained; and an instance of the new
+-- The new bytes are the module with globals more, whose functions do as those did. Operators that ask more than they carry have the bytes
+-- that they had, so that
+-- the labels of branches by a table that stand in the old bytes stand in the new ones; entries that can't be read contain what they
+-- contained; and an instance of the new
 -- module is made of what one of the old one is made of, with the further globals behind, which begin as zeros.
 pub record IsModuleAfter (bytes : List ℕ) (info : Module) (layout : Layout) (old : Functions) (new : List ℕ) : Type 0 where
   pub more : List PrimitiveTypeInfo

@@ -3,7 +3,7 @@
 use Rattle.std.specs.Prelude.{◌≡◌, ◌⊎◌, ℕ, zero, suc, ◌+◌, ◌-◌, ◌%◌, ◌^◌, ◌<◌, ◌≤◌, List, length, take}
 use Rattle.std.specs.List.{sum_by}
 use Rattle.rand_core.specs.Stream.{Stream, next_u64}
-use Rattle.wasm_declarations.specs.declared.entries.Entry.{Entry}
+use Rattle.wasm_lists.specs.declared.entries.Entry.{Entry}
 use Rattle.body_rewrites.specs.Choice.{after_word}
 
 -- how many bytes an entry contains

@@ -5,9 +5,9 @@ use Rattle.wasm_code.specs.declared.operator.Operator.{Operator}
 use Rattle.wasm_types.specs.Module.{Module}
 use Rattle.wasm_types.specs.declared.types.PrimitiveTypeInfo.{PrimitiveTypeInfo}
 use Rattle.wasm_module.specs.Module.{Layout}
-use Rattle.peephole_machine.specs.Values.{context_in}
+use Rattle.wasm_execution.specs.Values.{context_in}
 use Rattle.body_rewrites.specs.Choice.{Chooses, after_word}
-use Rattle.body_rewrites.specs.HasWords.{BeginsWith}
+use Rattle.body_rewrites.specs.HasWords.{BeginsWithWords}
 use Rattle.body_rewrites.specs.declared.rewrite.Rewrite.{Rewrite}
 use Rattle.module_rewrites.specs.Drawing.{NamesEntry}
 use Rattle.module_rewrites.specs.Function.{IsFunction}
@@ -32,4 +32,4 @@ pub record HasEntryWords (scope : Scope) (bytes : List ℕ) (info : Module) (lay
   pub one_fits : one < 2 ^ 64
   pub two_fits : two < 2 ^ 64
   pub three_fits : three < 2 ^ 64
-  pub draw : (stream : Stream) → BeginsWith (byte ∷ one ∷ two ∷ three ∷ []) stream → DrawsRewrite scope bytes info layout stream n rewrite
+  pub draw : (stream : Stream) → BeginsWithWords (byte ∷ one ∷ two ∷ three ∷ []) stream → DrawsRewrite scope bytes info layout stream n rewrite

@@ -10,8 +10,8 @@ use Rattle.wasm_types.specs.Module.{Module, function_type}
 use Rattle.wasm_types.specs.declared.types.PrimitiveTypeInfo.{PrimitiveTypeInfo}
 use Rattle.wasm_types.specs.declared.types.TypeInfo.{TypeInfo}
 use Rattle.wasm_types.specs.declared.types.TypeInfo.TheVariants.{Func, Other}
-use Rattle.wasm_declarations.specs.declared.entries.Entry.{Entry}
-use Rattle.wasm_declarations.specs.Locals.{SpellsLocals, IsLocalsFault}
+use Rattle.wasm_lists.specs.declared.entries.Entry.{Entry}
+use Rattle.wasm_lists.specs.Locals.{SpellsLocals, IsLocalsFault}
 use Rattle.wasm_sections.specs.declared.fault.ModuleError.{ModuleError}
 use Rattle.wasm_sections.specs.declared.fault.ModuleFault.{ModuleFault}
 use Rattle.wasm_sections.specs.declared.fault.ModuleFault.TheVariants as faults
@@ -37,7 +37,7 @@ pub record KnowsIndices (layout : Layout) : Type 0 where
   pub globals : layout.unknown.globals ≡ None
 
 -- Where the function of the n-th code entry stands, and the types of its parameters; the module's indices are known.
-pub record IsEntryOf (info : Module) (layout : Layout) (n : ℕ) (entry : Entry) (params : List PrimitiveTypeInfo) : Type 0 where
+pub record IsCodeEntryOf (info : Module) (layout : Layout) (n : ℕ) (entry : Entry) (params : List PrimitiveTypeInfo) : Type 0 where
   pub indices : KnowsIndices layout
   pub at : slice_get layout.entries n ≡ Some entry
   pub parameters : parameters_of info (layout.imported_functions + n) ≡ Some params
@@ -47,7 +47,7 @@ pub record IsFunction (bytes : List ℕ) (info : Module) (layout : Layout) (n : 
     (operators : List (Operator × ℕ)) : Type 0 where
   pub entry : Entry
   pub params : List PrimitiveTypeInfo
-  pub is : IsEntryOf info layout n entry params
+  pub is : IsCodeEntryOf info layout n entry params
   pub locals_are : SpellsLocals params entry.contents (slice_range bytes entry.contents entry.end) locals expression
   pub body : SpellsCode expression (slice_range bytes expression entry.end) operators
 
@@ -65,7 +65,7 @@ pub record FailsLocals (bytes : List ℕ) (info : Module) (layout : Layout) (n :
     (offset : ℕ) : Type 0 where
   pub entry : Entry
   pub params : List PrimitiveTypeInfo
-  pub is : IsEntryOf info layout n entry params
+  pub is : IsCodeEntryOf info layout n entry params
   pub fault : IsLocalsFault params entry.contents (slice_range bytes entry.contents entry.end) kind offset
 
 -- behind its locals stands no body
@@ -73,7 +73,7 @@ pub record FailsBody (bytes : List ℕ) (info : Module) (layout : Layout) (n : �
     (offset : ℕ) : Type 0 where
   pub entry : Entry
   pub params : List PrimitiveTypeInfo
-  pub is : IsEntryOf info layout n entry params
+  pub is : IsCodeEntryOf info layout n entry params
   pub locals : List PrimitiveTypeInfo
   pub expression : ℕ
   pub locals_are : SpellsLocals params entry.contents (slice_range bytes entry.contents entry.end) locals expression
@@ -94,10 +94,10 @@ abbrev pub HasNoType : Module → Layout → ℕ → Type 0
 HasNoType info layout n = parameters_of info (layout.imported_functions + n) ≡ None
 
 -- An import has that fault, a global where every import is known, or a type where indices are known and the function has no type that is.
-pub data IsUnknown (info : Module) (layout : Layout) (n : ℕ) (e : ModuleError) : Type 0 where
-  by_import : layout.unknown.imports ≡ Some e → IsUnknown info layout n e
-  by_global : layout.unknown.imports ≡ None → layout.unknown.globals ≡ Some e → IsUnknown info layout n e
-  by_type : KnowsIndices layout → layout.unknown.types ≡ Some e → HasNoType info layout n → IsUnknown info layout n e
+pub data FunctionIsUnknown (info : Module) (layout : Layout) (n : ℕ) (e : ModuleError) : Type 0 where
+  by_import : layout.unknown.imports ≡ Some e → FunctionIsUnknown info layout n e
+  by_global : layout.unknown.imports ≡ None → layout.unknown.globals ≡ Some e → FunctionIsUnknown info layout n e
+  by_type : KnowsIndices layout → layout.unknown.types ≡ Some e → HasNoType info layout n → FunctionIsUnknown info layout n e
 
 -- every type is known, and so are indices, but the module has no type for the function
 pub record LacksType (info : Module) (layout : Layout) (n : ℕ) : Type 0 where
@@ -108,7 +108,7 @@ pub record LacksType (info : Module) (layout : Layout) (n : ℕ) : Type 0 where
 -- An error of a function is right: what it needs of the module is of an unknown form, the module has no type for it, or its locals or its body have that
 -- first fault, of a body with the code of an operator that isn't known.
 abbrev pub IsFunctionFault : (bytes : List ℕ) → Module → Layout → (n : ℕ) → FunctionError → Type 0
-IsFunctionFault bytes info layout n (Unknown e) = IsUnknown info layout n e
+IsFunctionFault bytes info layout n (Unknown e) = FunctionIsUnknown info layout n e
 IsFunctionFault bytes info layout n UnknownType = LacksType info layout n
 IsFunctionFault bytes info layout n (Locals e) = FailsLocals bytes info layout n e.kind e.offset
 IsFunctionFault bytes info layout n (Body e) = FailsBody bytes info layout n e.fault.kind e.fault.offset × (e.operator ≡ operator_at_fault bytes e.fault)

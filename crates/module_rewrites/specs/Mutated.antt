@@ -4,14 +4,14 @@ use Rattle.rand_core.specs.Stream.{Stream}
 use Rattle.wasm_code.specs.declared.operator.Operator.{Operator}
 use Rattle.wasm_types.specs.Module.{Module}
 use Rattle.wasm_types.specs.declared.types.PrimitiveTypeInfo.{PrimitiveTypeInfo}
-use Rattle.wasm_declarations.specs.declared.entries.Entry.{Entry}
+use Rattle.wasm_lists.specs.declared.entries.Entry.{Entry}
 use Rattle.wasm_module.specs.Module.{Layout, IsModule}
 use Rattle.wasm_module.specs.Fault.{IsModuleFault}
 use Rattle.wasm_module.specs.Limits.{IsTooLarge}
 use Rattle.wasm_module.specs.Reread.{WasRewritten}
 use Rattle.wasm_module.specs.Rewritten.{IsRewritten}
 use Rattle.wasm_module.specs.declared.refusal.WriteError.TheVariants as writes
-use Rattle.peephole_machine.specs.Values.{context_in}
+use Rattle.wasm_execution.specs.Values.{context_in}
 use Rattle.body_splices.specs.OwnBytes.{without_offsets}
 use Rattle.body_rewrites.specs.declared.rewrite.Rewrite.{Rewrite}
 use Rattle.body_rewrites.specs.Random.{AppendsByWords, HasNoRewrite}
@@ -19,7 +19,7 @@ use Rattle.module_rewrites.specs.Function.{IsFunction}
 use Rattle.module_rewrites.specs.ReadAgain.{IsReadAgain}
 use Rattle.module_rewrites.specs.Scope.{Scope, IsMarked, wanted_of}
 use Rattle.module_rewrites.specs.Size.{IsSmallEnough}
-use Rattle.module_rewrites.specs.Writing.{Exceeds, IsNoSmaller, IsWritten}
+use Rattle.module_rewrites.specs.Writing.{Exceeds, IsNoSmaller, EntryIsWritten}
 use Rattle.module_rewrites.specs.declared.mutation.MutationError.{MutationError}
 use Rattle.module_rewrites.specs.declared.mutation.MutationError.TheVariants as mutations
 
@@ -85,12 +85,12 @@ pub record IsBehindLocals (bytes : List ℕ) (entry : Entry) (expression : ℕ) 
 abbrev pub RefusesEntry : Scope → (bytes : List ℕ) → Module → Layout → (n : ℕ) → MutationError → Type 0
 RefusesEntry scope bytes info layout n (mutations.Read e) = ⊥
 RefusesEntry scope bytes info layout n mutations.Memory = Unit {0}
-RefusesEntry scope bytes info layout n (mutations.Write writes.TooLarge) = IsWritten scope bytes info layout n (IsTooLarge bytes layout n)
+RefusesEntry scope bytes info layout n (mutations.Write writes.TooLarge) = EntryIsWritten scope bytes info layout n (IsTooLarge bytes layout n)
 RefusesEntry scope bytes info layout n (mutations.Write writes.EmptyType) = ⊥
 RefusesEntry scope bytes info layout n (mutations.Write writes.Memory) = Unit {0}
-RefusesEntry scope bytes info layout n mutations.TooLong = IsWritten scope bytes info layout n (Exceeds scope bytes layout n)
+RefusesEntry scope bytes info layout n mutations.TooLong = EntryIsWritten scope bytes info layout n (Exceeds scope bytes layout n)
 RefusesEntry scope bytes info layout n mutations.NotSmaller =
-    (scope.shrinking ≡ true) × IsWritten scope bytes info layout n (IsNoSmaller bytes layout n)
+    (scope.shrinking ≡ true) × EntryIsWritten scope bytes info layout n (IsNoSmaller bytes layout n)
 
 -- The same of the bytes of a module, at a function that may be rewritten.
 pub record RefusesChosenEntry (scope : Scope) (bytes : List ℕ) (e : MutationError) : Type 0 where
@@ -134,6 +134,6 @@ IsInVain (Ok (Some made)) = ⊥
 IsInVain (Err e) = IsOfSize e
 
 -- what several attempts in vain come to: the last refusal, if one was refused
-abbrev pub last_of : {A : Type 0} → (before after : Result (Option A) MutationError) → Result (Option A) MutationError
-last_of before (Ok None) = before
-last_of before after = after
+abbrev pub last_refusal_of : {A : Type 0} → (before after : Result (Option A) MutationError) → Result (Option A) MutationError
+last_refusal_of before (Ok None) = before
+last_refusal_of before after = after

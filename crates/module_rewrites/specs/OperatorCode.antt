@@ -1,6 +1,7 @@
 -- The code of an operator: one byte, or a prefix and a number (WebAssembly Core Specification 3.0, Binary Format, Instructions); and the family of one that
 -- can't be read, by the proposal that brought it (this project).
-use Rattle.std.specs.Prelude.{◌==◌, ◌&&◌, ◌||◌, if◌then◌else◌, nat_le, ℕ, ◌/◌, ◌%◌, Bool, false, List, [], ◌∷◌, ◌++◌, drop, codes, decimal, Option, Some, None, Result, Ok, Err}
+use Rattle.std.specs.Prelude.{◌==◌, ◌&&◌, ◌||◌, if◌then◌else◌, nat_le, ℕ, ◌/◌, ◌%◌, Bool, false, List, [], ◌∷◌, ◌++◌, drop, codes, decimal}
+use Rattle.std.specs.Prelude.{Option, Some, None, Result, Ok, Err}
 use Rattle.std.specs.Fmt.{digit_glyph}
 use Rattle.wasm_code.specs.Reader.{unsigned_at}
 use Rattle.wasm_code.specs.declared.fault.Cause.{Cause}
@@ -55,9 +56,9 @@ abbrev pub prefix_family : (prefix : ℕ) → Family
 prefix_family prefix = if prefix == 0xfb then GarbageCollection else if prefix == 0xfe then Atomics else Other
 
 -- the family of the code, where the operator can't be read
-abbrev pub family_of : OperatorCode → Family
-family_of (Byte byte) = byte_family byte
-family_of (Prefixed prefix number) = prefix_family prefix
+abbrev pub unreadable_code_family : OperatorCode → Family
+unreadable_code_family (Byte byte) = byte_family byte
+unreadable_code_family (Prefixed prefix number) = prefix_family prefix
 
 -- its name
 abbrev pub family_name : Family → List ℕ

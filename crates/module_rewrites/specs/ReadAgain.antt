@@ -4,10 +4,10 @@ use Rattle.wasm_code.specs.Body.{SpellsCode}
 use Rattle.wasm_code.specs.declared.operator.Operator.{Operator}
 use Rattle.wasm_types.specs.Module.{Module}
 use Rattle.wasm_types.specs.declared.types.PrimitiveTypeInfo.{PrimitiveTypeInfo}
-use Rattle.wasm_declarations.specs.declared.entries.Entry.{Entry}
+use Rattle.wasm_lists.specs.declared.entries.Entry.{Entry}
 use Rattle.wasm_module.specs.Module.{Layout, IsModule}
 use Rattle.wasm_module.specs.Reread.{HasContents, IsReread}
-use Rattle.peephole_programs.specs.control.Wider.{wider_module}
+use Rattle.wasm_equivalence.specs.control.Wider.{wider_module}
 use Rattle.body_splices.specs.OwnBytes.{own_bytes, without_offsets}
 use Rattle.module_rewrites.specs.Function.{IsFunction, KnowsIndices}
 use Rattle.module_rewrites.specs.Structure.{asking_operators, HasAsking}

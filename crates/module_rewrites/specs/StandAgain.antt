@@ -4,9 +4,9 @@ use Rattle.wasm_code.specs.declared.operator.Operator.{Operator}
 use Rattle.wasm_types.specs.Module.{Module}
 use Rattle.wasm_types.specs.declared.types.PrimitiveTypeInfo.{PrimitiveTypeInfo}
 use Rattle.wasm_module.specs.Module.{Layout}
-use Rattle.peephole_programs.specs.control.Wider.{wider_module}
-use Rattle.peephole_programs.specs.hosts.Embedder.{Functions, Beyonds, with_function}
-use Rattle.peephole_programs.specs.modules.Program.{Body}
+use Rattle.wasm_equivalence.specs.control.Wider.{wider_module}
+use Rattle.wasm_equivalence.specs.hosts.Embedder.{Functions, Beyonds, with_function}
+use Rattle.wasm_equivalence.specs.modules.Program.{Body}
 use Rattle.body_splices.specs.OwnBytes.{without_offsets}
 use Rattle.module_rewrites.specs.DoesAsBefore.{AreFunctions, IsBodyOf}
 use Rattle.module_rewrites.specs.Function.{IsFunction}

@@ -7,8 +7,8 @@ use Rattle.body_splices.specs.OwnBytes.{own_bytes, bytes_where}
 use Rattle.wasm_types.specs.Module.{Module}
 use Rattle.wasm_types.specs.declared.types.PrimitiveTypeInfo.{PrimitiveTypeInfo}
 use Rattle.wasm_module.specs.Module.{Layout}
-use Rattle.peephole_programs.specs.hosts.Embedder.{Beyonds}
-use Rattle.peephole_programs.specs.control.Standard.{Beyond, asks_beyond}
+use Rattle.wasm_equivalence.specs.hosts.Embedder.{Beyonds}
+use Rattle.wasm_equivalence.specs.control.Standard.{Beyond, asks_beyond}
 use Rattle.module_rewrites.specs.Function.{IsFunction}
 
 -- the operators that ask more than they carry, such as the labels of a branch by a table, in their order, each with its bytes
@@ -43,7 +43,7 @@ SpellsNumbers [] text = text ≡ []
 SpellsNumbers (n ∷ ns) text = IsNumber (SpellsNumbers ns) text n
 
 -- The bytes are a branch by a table: its opcode, how many labels there are, these, and the default one.
-pub record SpellsTable (text labels : List ℕ) (default : ℕ) : Type 0 where
+pub record SpellsBranchTable (text labels : List ℕ) (default : ℕ) : Type 0 where
   pub count : List ℕ
   pub numbers : List ℕ
   pub parts : text ≡ 0x0e ∷ count ++ numbers
@@ -53,7 +53,7 @@ pub record SpellsTable (text labels : List ℕ) (default : ℕ) : Type 0 where
 -- of operators that ask `Beyond`, with these bytes, each that is a branch by a table has the labels of its bytes
 abbrev pub HasLabels : (texts : List (List ℕ)) → Beyond → Type 0
 HasLabels texts beyond =
-    (k : ℕ) (text labels : List ℕ) (default : ℕ) → slice_get texts k ≡ Some text → SpellsTable text labels default →
+    (k : ℕ) (text labels : List ℕ) (default : ℕ) → slice_get texts k ≡ Some text → SpellsBranchTable text labels default →
     (beyond.labels k ≡ labels) × (beyond.default k ≡ default)
 
 -- The labels of every branch by a table are those that stand in the module's bytes.

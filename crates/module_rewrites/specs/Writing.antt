@@ -7,7 +7,7 @@ use Rattle.wasm_types.specs.declared.types.PrimitiveTypeInfo.{PrimitiveTypeInfo}
 use Rattle.wasm_module.specs.Module.{Layout}
 use Rattle.wasm_module.specs.Limits.{IsTooLarge}
 use Rattle.wasm_module.specs.Rewritten.{IsRewritten}
-use Rattle.peephole_machine.specs.Values.{context_in}
+use Rattle.wasm_execution.specs.Values.{context_in}
 use Rattle.body_rewrites.specs.declared.rewrite.Rewrite.{Rewrite}
 use Rattle.body_rewrites.specs.Random.{AppendsByWords}
 use Rattle.module_rewrites.specs.Function.{IsFunction}
@@ -58,7 +58,7 @@ pub record DoesNotFit (scope : Scope) (bytes : List ℕ) (info : Module) (layout
       ⊎ ((scope.shrinking ≡ true) × IsNoSmaller bytes layout n contents more)
 
 -- Some words write the n-th code entry of the module such that this holds of what it contains and the globals that it asks for.
-pub record IsWritten (scope : Scope) (bytes : List ℕ) (info : Module) (layout : Layout) (n : ℕ)
+pub record EntryIsWritten (scope : Scope) (bytes : List ℕ) (info : Module) (layout : Layout) (n : ℕ)
     (P : (contents : List ℕ) → (more : List PrimitiveTypeInfo) → Type 0) : Type 0 where
   pub s : Stream
   pub rewrite : Rewrite

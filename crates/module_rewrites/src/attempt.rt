@@ -1,6 +1,6 @@
 //! A module's first rewrite, or why nothing of it is rewritten; the functions of a module that may be rewritten.
 ghost use Rattle.std.specs.Prelude.{◌≡◌, ◌⊎◌, ◌↔◌, ◌≤◌, ◌<◌, ◌+◌, ◌^◌, ℕ, length, None, IfOk, IfErr, IfNone, IfSome, IsTrue, false};
-ghost use Rattle.module_rewrites.specs.Attempt.{CanRead, IsForSize, IsKnownFault, IsReason, IsReasonWithin, RefusesIndex};
+ghost use Rattle.module_rewrites.specs.Attempt.{CanRead, IsForSize, IsKnownFunctionFault, IsReason, IsReasonWithin, RefusesIndex};
 ghost use Rattle.module_rewrites.specs.Chosen.{ChoosesOfModule, GivesUp};
 ghost use Rattle.module_rewrites.specs.Mutated.{IsChosen, IsMutated, WasRewrittenAt};
 ghost use Rattle.module_rewrites.specs.declared.mutation.MutationError.TheVariants.{Memory};
@@ -132,7 +132,7 @@ fn first_unread(
     requires inside { entries.end ≤ length layout.now.entries }
     requires some { entries.start < entries.end }
     ensures fault { IfOk result (λ o. IfSome o (λ e.
-        IsKnownFault bytes.now info.now layout.now entries.start e)) }
+        IsKnownFunctionFault bytes.now info.now layout.now entries.start e)) }
     ensures none { IfOk result (λ o. IfSome o (λ e. (n : ℕ) → entries.start ≤ n
         → n < entries.end → ¬ (CanRead bytes.now info.now layout.now n))) }
     ensures some { IfOk result (λ o. IfNone o ((n : ℕ) × (entries.start ≤ n)

@@ -1,7 +1,7 @@
 //! A code entry, drawn by its size.
 ghost use Rattle.std.specs.Prelude.{◌≡◌, ◌<◌, ◌≤◌, ◌%◌, ◌^◌, All, length, IfNone, IfSome};
 ghost use Rattle.std.specs.List.{sum_by};
-ghost use Rattle.wasm_declarations.specs.declared.entries.Entry.{Entry as Place};
+ghost use Rattle.wasm_lists.specs.declared.entries.Entry.{Entry as Place};
 ghost use Rattle.body_rewrites.specs.Choice.{after_word};
 ghost use Rattle.module_rewrites.specs.Drawing.{ContainsByte, NamesEntry, WordNames, contents_length};
 

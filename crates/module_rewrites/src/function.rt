@@ -3,7 +3,7 @@ ghost use Rattle.std.specs.Prelude.{◌≡◌, ◌↔◌, ◌<◌, ◌+◌, ℕ,
 ghost use Rattle.wasm_code.specs.declared.operator.Operator.{Operator};
 ghost use Rattle.wasm_types.specs.declared.types.PrimitiveTypeInfo.{PrimitiveTypeInfo};
 ghost use Rattle.wasm_types.specs.Module.{Module, function_type};
-ghost use Rattle.module_rewrites.specs.Function.{HasNoType, IsFunction, IsFunctionFault, IsUnknown, IsWantOfMemory, KnowsIndices, operator_at_fault, parameters_of};
+ghost use Rattle.module_rewrites.specs.Function.{HasNoType, IsFunction, IsFunctionFault, FunctionIsUnknown, IsWantOfMemory, KnowsIndices, operator_at_fault, parameters_of};
 ghost use Rattle.wasm_module.specs.Inside.{IsInside};
 ghost use Rattle.wasm_module.specs.Module.{IsModule};
 
@@ -112,7 +112,7 @@ fn contents_of(bytes: &[u8], entry: Entry) -> &[u8]
 // The first import, or else the first global, of a form that isn't known.
 fn unknown_index(layout: &Layout) -> Option<ModuleError>
     ensures none { IfNone result (KnowsIndices layout.now) }
-    ensures some { (info : Module) (n : ℕ) → IfSome result (IsUnknown info layout.now n) }
+    ensures some { (info : Module) (n : ℕ) → IfSome result (FunctionIsUnknown info layout.now n) }
 {
     match layout.unknown.imports {
         Some(error) => Some(error),

@@ -12,7 +12,7 @@ ghost use Rattle.wasm_sections.specs.declared.fault.ModuleFault.TheVariants.{Mem
 ghost use Rattle.wasm_sections.specs.declared.section.Section.{Section};
 ghost use Rattle.wasm_module.specs.Fault.{IsModuleFault};
 ghost use Rattle.wasm_module.specs.Module.{Layout};
-ghost use Rattle.peephole_machine.specs.Values.{context_in};
+ghost use Rattle.wasm_execution.specs.Values.{context_in};
 ghost use Rattle.body_rewrites.specs.Listing.{IsWantedBy};
 ghost use Rattle.body_rewrites.specs.declared.rewrite.Rewrite.{Rewrite};
 ghost use Rattle.module_rewrites.specs.Chosen.{ChoosesOfModule, GivesUp};
@@ -38,12 +38,12 @@ use body_rewrites::laws::{
     words_write_one_body,
 };
 use body_splices::laws::own_bytes_stay;
-use peephole_programs::laws::{
+use wasm_code::laws::one_list as one_list_of_operators;
+use wasm_equivalence::laws::{
     embedders_are_sound, one_function_is_rewritten, pieces_do_as_before, rewritten_modules_do_more,
     sessions_do_more, valid_modules_do_more,
 };
-use wasm_code::laws::one_list as one_list_of_operators;
-use wasm_declarations::laws::one_list;
+use wasm_lists::laws::one_list;
 use wasm_module::laws::{
     entries_are_inside, entries_fit_the_module, modules_have_no_fault,
     modules_without_debug_are_the_same, one_reading, one_rewritten_module,

@@ -2,10 +2,10 @@
 ghost use Rattle.std.specs.Prelude.{◌≡◌, ◌↔◌, ◌<◌, ◌≤◌, ◌+◌, ℕ, length, Some, None, slice_range, IfOk, IfErr, IfNone, IfSome, IsTrue};
 ghost use Rattle.body_splices.specs.OwnBytes.{IsBodyIn};
 ghost use Rattle.wasm_module.specs.Module.{IsModule};
-ghost use Rattle.peephole_machine.specs.Values.{context_in};
+ghost use Rattle.wasm_execution.specs.Values.{context_in};
 ghost use Rattle.body_rewrites.specs.Random.{AppendsByWords, HasNoRewrite};
 ghost use Rattle.module_rewrites.specs.Chosen.{AllInVain, ChoosesAgain, ChoosesBy, ChoosesFrom, ChoosesOfModule, ChoosesWithin, GivesUp, GivesUpAgain, GivesUpInOrder, GivesUpOn, TriesInVain};
-ghost use Rattle.module_rewrites.specs.Mutated.{CannotMutate, HasNoMutation, IsBehindLocals, IsInVain, IsMutated, IsOfSize, IsRefusedForSize, MutatesEntry, MutatesOne, RefusesEntry, RefusesMutation, WasRewrittenAt, last_of};
+ghost use Rattle.module_rewrites.specs.Mutated.{CannotMutate, HasNoMutation, IsBehindLocals, IsInVain, IsMutated, IsOfSize, IsRefusedForSize, MutatesEntry, MutatesOne, RefusesEntry, RefusesMutation, WasRewrittenAt, last_refusal_of};
 ghost use Rattle.module_rewrites.specs.Scope.{IsMarked, wanted_of};
 ghost use Rattle.module_rewrites.specs.Size.{IsSmallEnough};
 ghost use Rattle.module_rewrites.specs.Writing.{MakesAt};
@@ -134,7 +134,7 @@ fn last(
     before: Result<Option<Mutated>, MutationError>,
     after: Result<Option<Mutated>, MutationError>,
 ) -> Result<Option<Mutated>, MutationError>
-    ensures { result ≡ last_of before after }
+    ensures { result ≡ last_refusal_of before after }
 {
     match after {
         Ok(None) => before,
@@ -320,8 +320,8 @@ fn mutate_in_order<R: Rng>(
     last(behind, before)
 }
 
-// The same at any code entry: at the first of those that are drawn where the attempt isn't in vain. Where it is at as many as may be
-// drawn, the entries are tried in order, from the one that was drawn last on.
+// Rewrites a function of any code entry: entries are drawn until an attempt isn't in vain. Where that is so of none of as many as may be
+// drawn, all entries are tried in order, from the one that was drawn last on.
 fn mutate_any<R: Rng>(
     alloc: Global,
     info: &ModuleInfo<'_>,

@@ -1,6 +1,6 @@
 //! The code of an operator, and the family of instructions of one that can't be read.
 ghost use Rattle.std.specs.Prelude.{◌≡◌};
-ghost use Rattle.module_rewrites.specs.OperatorCode.{byte_family, code_at, code_of, family_name, family_of, is_prefix, prefix_family};
+ghost use Rattle.module_rewrites.specs.OperatorCode.{byte_family, code_at, code_of, family_name, unreadable_code_family, is_prefix, prefix_family};
 
 use std::fmt;
 use wasm_code::u32_of;
@@ -71,7 +71,7 @@ fn prefix_family(prefix: u8) -> Family
 impl OperatorCode {
     /// The family of instructions that it is of, where it can't be read.
     pub fn family(self) -> Family
-        ensures { result ≡ family_of self }
+        ensures { result ≡ unreadable_code_family self }
     {
         match self {
             OperatorCode::Byte(byte) => byte_family(byte),

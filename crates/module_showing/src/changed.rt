@@ -1,7 +1,7 @@
 //! A change, shown.
 ghost use Rattle.std.specs.Prelude.{◌≡◌, ◌++◌, ℕ, List, OnOk, IfErr};
 ghost use Rattle.std.specs.Io.KnownBytes.{Appends};
-ghost use Rattle.module_showing.specs.Changed.{change_line};
+ghost use Rattle.module_showing.specs.Changed.{shown_change_line};
 ghost use Rattle.module_showing.specs.declared.error.ShowError.TheVariants.{Memory, Output};
 
 use crate::error::ShowError;
@@ -13,7 +13,7 @@ use std::io::Write;
 // Writes the first line.
 fn write_first<W: Write>(output: &mut W, made: &MadeChange) -> Result<(), ShowError>
     ensures line { OnOk result (Appends (W.contents output.old) (W.contents output.new)
-        (change_line made.now)) }
+        (shown_change_line made.now)) }
     ensures fails { IfErr result (λ e. e ≡ Output) }
 {
     let function = made.function;
@@ -40,7 +40,7 @@ pub fn write_shown_change<W: Write>(
 ) -> Result<(), ShowError>
     // What is written is the first line, and others.
     ensures shown { OnOk result ((more : List ℕ)
-        × Appends (W.contents output.old) (W.contents output.new) (change_line made.now ++ more)) }
+        × Appends (W.contents output.old) (W.contents output.new) (shown_change_line made.now ++ more)) }
     // Nothing is written where no memory was left.
     ensures unwritten { IfErr result (λ e. e ≡ Memory → output.new ≡ output.old) }
 {

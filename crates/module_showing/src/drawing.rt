@@ -2,9 +2,9 @@
 
 use crate::texts::Text;
 use body_rewrites::{Tree, trees_of};
-use peephole_machine::operand_count;
 use std::alloc::{AllocError, Global};
 use wasm_code::{Operator, OperatorAndByteOffset};
+use wasm_execution::operand_count;
 use wasm_types::{ModuleInfo, PrimitiveTypeInfo};
 
 // The most operators that are drawn: a deep tree's drawing grows with the square of its depth.

@@ -1,5 +1,7 @@
 //! Rewrites and changes of modules for people: which operators of which function were rewritten by which rule, or changed how, as they
 //! were and as they are, drawn as trees.
+//!
+//! Tests: `tests` and `text_tests`, in this crate.
 #![tactic(auto)]
 
 mod changed;

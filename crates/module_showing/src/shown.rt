@@ -16,7 +16,7 @@ use std::alloc::Global;
 use std::io::Write;
 use wasm_code::OperatorAndByteOffset;
 use wasm_module::Section;
-use wasm_names::function_name;
+use wasm_sections::function_name;
 use wasm_types::ModuleInfo;
 
 // A function of a module.

@@ -5,11 +5,11 @@ use body_changes::Change;
 use body_rewrites::Rewrite;
 use module_changes::MadeChange;
 use module_rewrites::MadeRewrite;
-use peephole_machine::IntegerType;
 use rewrite_rules::{Rule, row_count};
 use std::alloc::{AllocError, Global};
 use std::str;
 use std::test::Fail;
+use wasm_execution::IntegerType;
 
 /// A function of two i32 that answers their sum, with a name that has a line feed.
 const SUM: &[u8] = b"\0asm\x01\0\0\0\x01\x07\x01\x60\x02\x7f\x7f\x01\x7f\x03\x02\x01\0\

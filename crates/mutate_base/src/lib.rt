@@ -1,4 +1,6 @@
 //! What a mutation goes by, beside the module: the configuration; and why a call is refused.
+//!
+//! Tests: `reading_tests::base`.
 #![tactic(auto)]
 
 mod config;

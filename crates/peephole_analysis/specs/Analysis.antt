@@ -16,7 +16,8 @@ use Rattle.wasm_code.specs.declared.table.ResultKind.TheVariants as by
 use Rattle.wasm_code.specs.declared.table.RowInfo.{RowInfo}
 use Rattle.wasm_types.specs.Module.{Module, function_type}
 use Rattle.mutate_base.specs.declared.error.Error.{Error}
-use Rattle.mutate_base.specs.declared.error.Error.TheVariants.{NoMutationsApplicable, UnknownFunction, UnknownLocal, UnknownGlobal, UnknownTable, UnknownMemory, UnknownOperand}
+use Rattle.mutate_base.specs.declared.error.Error.TheVariants.{NoMutationsApplicable, UnknownFunction, UnknownLocal, UnknownGlobal}
+use Rattle.mutate_base.specs.declared.error.Error.TheVariants.{UnknownTable, UnknownMemory, UnknownOperand}
 use Rattle.wasm_types.specs.declared.types.ElementType.{ElementType}
 use Rattle.wasm_types.specs.declared.types.ElementType.TheVariants as element
 use Rattle.wasm_types.specs.declared.types.PrimitiveTypeInfo.{PrimitiveTypeInfo}

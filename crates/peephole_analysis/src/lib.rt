@@ -1,4 +1,6 @@
 //! The types of results: of a node, by the types of its operands, and of a term.
+//!
+//! Tests: `peephole_tests::types`.
 #![tactic(auto)]
 
 mod analysis;

@@ -1,12 +1,13 @@
 -- How the answer to the lines so far grows by a line.
-use Rattle.std.proofs.Common.{◌≡◌, ℕ, suc, zero, ◌+◌, ◌<◌, ◌⊎◌, true, false, List, [], ◌∷◌, ◌++◌, length, take, drop, refl, ap, sym, ◌∙◌, arith, append_assoc, append-nil, inl, inr, Ok, Err}
+use Rattle.std.proofs.Common.{◌≡◌, ℕ, suc, zero, ◌+◌, ◌<◌, ◌⊎◌, true, false, List, [], ◌∷◌, ◌++◌, length, take, drop, refl, ap, sym, ◌∙◌}
+use Rattle.std.proofs.Common.{arith, append_assoc, append-nil, inl, inr, Ok, Err}
 use Rattle.std.specs.Prelude.{Result}
 use Rattle.peephole_script.specs.declared.fault.Fault.{Fault}
 use Rattle.peephole_script.specs.declared.fault.Fault.TheVariants as fault
 use Rattle.peephole_script.specs.Text.{lines_of}
 use Rattle.peephole_commands.specs.State.{SessionState, Reply, start}
 use Rattle.peephole_commands.specs.Commands.{step_line}
-use Rattle.peephole_commands.specs.Answer.{Answer, prepend, answer_line, answer_from, answer_lines, fault_line, IsAnswer}
+use Rattle.peephole_commands.specs.Answer.{CommandAnswer, prepend, answer_line, answer_from, answer_lines, fault_line, IsCommandAnswer}
 
 abbrev Lines : Type 0
 Lines = List (List ℕ)
@@ -24,15 +25,15 @@ abbrev AppendsAt : SessionState → ℕ → Lines → Lines → Type 0
 AppendsAt s n xs ys = (answer_from s n xs).ok ≡ true → answer_from s n (xs ++ ys) ≡ prepend (answer_from s n xs).written
     (answer_from (state_after s xs) (n + length xs) ys)
 
-prepend_twice : (a b : List ℕ) (w : Answer) → prepend a (prepend b w) ≡ prepend (a ++ b) w
-prepend_twice a b w = ap (λ t. let r : Answer = record { written = t; ok = w.ok } in r) (sym (append_assoc a b w.written))
+prepend_twice : (a b : List ℕ) (w : CommandAnswer) → prepend a (prepend b w) ≡ prepend (a ++ b) w
+prepend_twice a b w = ap (λ t. let r : CommandAnswer = record { written = t; ok = w.ok } in r) (sym (append_assoc a b w.written))
 
 answer_append : (s : SessionState) (n : ℕ) (xs ys : Lines) → AppendsAt s n xs ys
 unfolding answer_from state_after
 answer_append s n [] ys h = let e : n + 0 ≡ n = omega arith in rw e refl
 answer_append s n (x ∷ xs) ys h =
-    let more : SessionState → Answer = λ next. answer_from next (n + 1) (xs ++ ys) in
-    let front : SessionState → Answer = λ next. answer_from next (n + 1) xs in
+    let more : SessionState → CommandAnswer = λ next. answer_from next (n + 1) (xs ++ ys) in
+    let front : SessionState → CommandAnswer = λ next. answer_from next (n + 1) xs in
     let e : n + suc (length xs) ≡ n + 1 + length xs = omega arith in
     (elim (step_line s x) as (λ r. (answer_line n front r).ok ≡ true → answer_line n more r ≡ prepend (answer_line n front r).written
     (answer_from (state_line s (λ next. state_after next xs) r) (n + suc (length xs)) ys)) [
@@ -79,8 +80,8 @@ take_all [] (suc n) h = refl
 take_all (x ∷ xs) zero h = cc
 take_all (x ∷ xs) (suc n) h = ap (λ t. x ∷ t) (take_all xs n h)
 
-sound_is : (a : Answer) → a.ok ≡ true → a ≡ record { written = a.written; ok = true }
-sound_is a h = ap (λ t. let r : Answer = record { written = a.written; ok = t } in r) h
+sound_is : (a : CommandAnswer) → a.ok ≡ true → a ≡ record { written = a.written; ok = true }
+sound_is a h = ap (λ t. let r : CommandAnswer = record { written = a.written; ok = t } in r) h
 
 pub reached_none : (all : Lines) → Reached all 0 all start
 unfolding answer_from state_after
@@ -104,7 +105,7 @@ state_append : (s : SessionState) (n : ℕ) (xs ys : Lines) → (answer_from s n
 unfolding answer_from state_after
 state_append s n [] ys h = refl
 state_append s n (x ∷ xs) ys h =
-    let front : SessionState → Answer = λ next. answer_from next (n + 1) xs in
+    let front : SessionState → CommandAnswer = λ next. answer_from next (n + 1) xs in
     (elim (step_line s x) as (λ r. (answer_line n front r).ok ≡ true → state_line s (λ next. state_after next (xs ++ ys)) r
     ≡ state_after (state_line s (λ next. state_after next xs) r) ys) [
       | Ok r ↦ λ k. state_append r.next (n + 1) xs ys k
@@ -125,7 +126,7 @@ line_taken : (all : Lines) (n : ℕ) (line : List ℕ) (left : Lines) (s : Sessi
 line_taken all n line left s r h k =
     let more = one_more all n line left h.rest in
     let e : answer_line (n + 1) (λ next. answer_from next (n + 1 + 1) []) (Ok r) ≡ record { written = r.text; ok = true } =
-    ap (prepend r.text) (quiet_end r.next (n + 1 + 1)) ∙ ap (λ t. let a : Answer = record { written = t; ok = true } in a) (append-nil r.text) in
+    ap (prepend r.text) (quiet_end r.next (n + 1 + 1)) ∙ ap (λ t. let a : CommandAnswer = record { written = t; ok = true } in a) (append-nil r.text) in
     ap answer_lines more.taken
     ∙ (at_line all n line left s [] h ∙ ap (prepend (front all n)) (ap (answer_line (n + 1) (λ next. answer_from next (n + 1 + 1) [])) k ∙ e))
 
@@ -153,14 +154,14 @@ reached_fault all n line left s f h k =
 
 -- at the end, and at a line that is faulty or wants memory
 pub answered_end : (input : List ℕ) (n : ℕ) (s : SessionState) (rest : List ℕ) → Reached (lines_of input) n (lines_of rest) s → length rest ≡ 0 →
-    IsAnswer input (front (lines_of input) n) true
+    IsCommandAnswer input (front (lines_of input) n) true
 answered_end input n s [] h e =
     let all = lines_of input in
     inl (ap answer_lines (sym (take_all all n h.rest)) ∙ sound_is (answer_lines (take n all)) h.sound)
 answered_end input n s (b ∷ rest) h e = absurd (omega arith)
 
 pub answered_fault : (input : List ℕ) (n : ℕ) (line : List ℕ) (left : Lines) (s : SessionState) (f : Fault) → Reached (lines_of input) n (line ∷ left) s →
-    (f ≡ fault.Memory) ⊎ (step_line s line ≡ Err f) → IsAnswer input (front (lines_of input) n ++ fault_line (n + 1) f) false
+    (f ≡ fault.Memory) ⊎ (step_line s line ≡ Err f) → IsCommandAnswer input (front (lines_of input) n ++ fault_line (n + 1) f) false
 answered_fault input n line left s f h (inl e) =
     let there = (one_more (lines_of input) n line left h.rest).there in
     inr (rw e (record { before = n; there = there; sound = h.sound; report = refl }), refl)

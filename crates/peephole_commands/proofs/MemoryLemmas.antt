@@ -17,7 +17,7 @@ use Rattle.wasm_code.specs.declared.table.RowInfo.{RowInfo}
 use Rattle.wasm_types.specs.Module.{function_type}
 use Rattle.mutate_base.specs.declared.error.Error.{Error}
 use Rattle.mutate_base.specs.declared.error.Error.TheVariants as error
-use Rattle.node_payloads.specs.declared.term_error.TermError.{TermError}
+use Rattle.peephole_payloads.specs.declared.term_error.TermError.{TermError}
 use Rattle.wasm_types.specs.declared.types.PrimitiveTypeInfo.{PrimitiveTypeInfo}
 use Rattle.wasm_types.specs.declared.types.TypeInfo.{TypeInfo}
 use Rattle.wasm_types.specs.declared.types.TypeInfo.TheVariants.{Func, Other}
@@ -45,8 +45,9 @@ use Rattle.peephole_script.specs.Text.{is_text, words_of, number_of}
 use Rattle.peephole_commands.specs.declared.graphs.Refusal.{Refusal}
 use Rattle.peephole_commands.specs.declared.graphs.Refusal.TheVariants as refusal
 use Rattle.peephole_commands.specs.Arguments.{only_word, all_below}
-use Rattle.peephole_commands.specs.Body.{Contents, with_operators, body_of}
-use Rattle.peephole_commands.specs.Commands.{with_argument, body_read, at_body, node_read, node_with, node_step, place_at, place_in, working_place, at_working_place, command_step, run_command, words_step, step_line}
+use Rattle.peephole_commands.specs.Body.{Contents, contents_with_operators, body_of}
+use Rattle.peephole_commands.specs.Commands.{reply_with_argument, body_read, at_body, node_read, node_with, node_step, place_at, place_in}
+use Rattle.peephole_commands.specs.Commands.{working_place, at_working_place, command_step, run_command, words_step, step_line}
 use Rattle.peephole_commands.specs.Graphs.{refusal_of, of_graph}
 use Rattle.peephole_commands.specs.Laws.{IsOfNoMemory, NeverFaultsForMemory, NeverRefusesForMemory}
 use Rattle.peephole_commands.specs.Results.{tree_type, first_tree_type}
@@ -72,7 +73,7 @@ either : (b : Bool) (x y : Result Reply Fault) → Sound x → Sound y → Sound
 either true x y h k = h
 either false x y h k = k
 
-argument_sound : {A : Type 0} (o : Option A) (k : A → Result Reply Fault) → ((x : A) → Sound (k x)) → Sound (with_argument o k)
+argument_sound : {A : Type 0} (o : Option A) (k : A → Result Reply Fault) → ((x : A) → Sound (k x)) → Sound (reply_with_argument o k)
 argument_sound None k h = (λ e. cc, λ e. cc)
 argument_sound (Some x) k h = h x
 
@@ -87,7 +88,7 @@ read_kind _ = kinds.NoEnd
 body_sound : HasNoMemoryFault → (s : SessionState) (bytes : List ℕ) → Sound (body_read s (body_of bytes))
 body_sound law s bytes = go (body_at 0 bytes) refl
   where
-    go : (r : Result (List (Operator × ℕ)) (ReadKind × ℕ)) → body_at 0 bytes ≡ r → Sound (body_read s (with_operators bytes r))
+    go : (r : Result (List (Operator × ℕ)) (ReadKind × ℕ)) → body_at 0 bytes ≡ r → Sound (body_read s (contents_with_operators bytes r))
     go (Ok xs) is = tt
     go (Err why) is = (λ e. cc, λ e. (law 0 bytes why.0 why.1 is).1 (ap read_kind e))
 
@@ -252,10 +253,10 @@ order_never false answer p e = p e
 
 pub never_refuses : RefusesByName → NeverRefusesForMemory
 never_refuses law = record {
-  show = λ info preserving site. of_graph_never _ _ (shapes_never (graph.fault_of info preserving (block_operators site)) _) (λ block e. cc);
-  result = λ a preserving site. of_graph_never _ _ (shapes_never (graph.fault_of a.info preserving (block_operators site)) _)
+  show = λ info preserving site. of_graph_never _ _ (shapes_never (graph.block_fault_of info preserving (block_operators site)) _) (λ block e. cc);
+  result = λ a preserving site. of_graph_never _ _ (shapes_never (graph.block_fault_of a.info preserving (block_operators site)) _)
       (λ block. mapped_never _ _ (tree_never a _));
   write = λ s preserving site nodes.
-      of_graph_never _ _ (shapes_never (graph.fault_of s.info preserving (block_operators site)) _)
+      of_graph_never _ _ (shapes_never (graph.block_fault_of s.info preserving (block_operators site)) _)
       (λ block. order_never _ _ (nodes_never law s site nodes));
 }

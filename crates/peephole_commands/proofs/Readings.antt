@@ -7,7 +7,7 @@ use Rattle.wasm_code.specs.declared.fault.ReadKind.{ReadKind}
 use Rattle.wasm_code.specs.declared.fault.ReadKind.TheVariants as kinds
 use Rattle.wasm_code.specs.Body.{SpellsBody, IsFault}
 use Rattle.wasm_code.specs.Reader.{body_at}
-use Rattle.peephole_commands.specs.Body.{with_operators, body_of}
+use Rattle.peephole_commands.specs.Body.{contents_with_operators, body_of}
 
 whole : (bytes slice : List ℕ) (n : ℕ) → slice ≡ bytes → n ≡ length slice → slice_range slice 0 n ≡ bytes
 whole bytes slice n e k = rw (k, e) (grind (arith, common_steps))
@@ -16,7 +16,7 @@ whole bytes slice n e k = rw (k, e) (grind (arith, common_steps))
 pub found : (bytes slice : List ℕ) (n : ℕ) (operators : List (Operator × ℕ)) → slice ≡ bytes → n ≡ length slice →
     ((start : ℕ) (text : List ℕ) (xs : List (Operator × ℕ)) → SpellsBody start text xs → body_at start text ≡ Ok xs) →
     SpellsBody 0 (slice_range slice 0 n) operators → body_of bytes ≡ Ok (record { bytes = bytes; operators = operators })
-found bytes slice n operators e k law h = ap (with_operators bytes) (law 0 bytes operators (rw (whole bytes slice n e k) at h))
+found bytes slice n operators e k law h = ap (contents_with_operators bytes) (law 0 bytes operators (rw (whole bytes slice n e k) at h))
 
 memory_or_not : (kind : ReadKind) → (kind ≡ kinds.Memory) ⊎ (kind ≢ kinds.Memory)
 memory_or_not kinds.Memory = inl refl
@@ -34,4 +34,4 @@ faulty bytes slice n kind offset e k law h = go (memory_or_not kind)
 
     go : (kind ≡ kinds.Memory) ⊎ (kind ≢ kinds.Memory) → (kind ≡ kinds.Memory) ⊎ (body_of bytes ≡ Err kind)
     go (inl m) = inl m
-    go (inr m) = inr (ap (with_operators bytes) (law 0 bytes kind offset (rw to at (rw (whole bytes slice n e k) at h)) m))
+    go (inr m) = inr (ap (contents_with_operators bytes) (law 0 bytes kind offset (rw to at (rw (whole bytes slice n e k) at h)) m))

@@ -7,7 +7,8 @@ use Rattle.mutate_base.specs.declared.error.Error.{Error}
 use Rattle.mutate_base.specs.declared.error.Error.TheVariants as error
 use Rattle.peephole_graphs.specs.declared.dfg.MiniDFG.{MiniDFG}
 use Rattle.peephole_graphs.specs.Shape.{shapes_of_block}
-use Rattle.peephole_graphs.specs.Faults.{Fault, held_by_none, calls_unknown, too_large, fault_of, unless, HasNoFault, FindsNoGraph, FindsUnknown, FindsTooLarge}
+use Rattle.peephole_graphs.specs.Faults.{Fault, held_by_none, calls_unknown, too_large, block_fault_of, unless, HasNoFault, FindsNoGraph}
+use Rattle.peephole_graphs.specs.Faults.{FindsUnknown, FindsTooLarge}
 use Rattle.peephole_graphs.specs.GraphOf.{HasNoGraph, IsRefused}
 use Rattle.peephole_commands.specs.declared.graphs.Refusal.TheVariants as refusal
 use Rattle.peephole_commands.specs.declared.place.Place.{Place}
@@ -21,7 +22,7 @@ shapes_found law info preserving p graph g =
     let os = block_operators (site_of p) in
     ap (λ (f : Option Fault). result_map_both (λ block. block) refusal_of (unless f (shapes_of_block info os))) ((law info preserving os).1 (g.fit, g.small))
 
-at_fault : (info : Module) (preserving : Bool) (site : Site) (f : Fault) → fault_of info preserving (block_operators site)
+at_fault : (info : Module) (preserving : Bool) (site : Site) (f : Fault) → block_fault_of info preserving (block_operators site)
     ≡ Some f →
     shapes_or_refusal info preserving site ≡ Err (refusal_of f)
 at_fault info preserving site f e =

@@ -22,7 +22,8 @@ only_is value [] word h = absurd (cc)
 only_is value (w ∷ []) word h = ap value (cc)
 only_is value (w ∷ other ∷ words) word h = absurd (cc)
 
-pub body_is : (s : SessionState) (words : List (List ℕ)) (bytes : List ℕ) (body : Contents) → result_ok (decode_of (concat words)) ≡ Some bytes → body_of bytes ≡ Ok body →
+pub body_is : (s : SessionState) (words : List (List ℕ)) (bytes : List ℕ) (body : Contents) → result_ok (decode_of (concat words)) ≡ Some bytes →
+    body_of bytes ≡ Ok body →
     body_step s words ≡ quiet (record s { body = Some body; point = None; nodes = [] })
 body_is s words bytes body h k = rw (h, k)
 

@@ -28,12 +28,12 @@ use Rattle.peephole_graphs.specs.Faults.{HasNoFault}
 use Rattle.peephole_graphs.specs.Forest.{forest}
 use Rattle.peephole_graphs.specs.Layout.{entry_nodes}
 use Rattle.peephole_terms.specs.Written.{source_at, block_shapes}
-use Rattle.peephole_graphs.specs.Shown.{last_of}
+use Rattle.peephole_graphs.specs.Shown.{last_tree_of}
 use Rattle.peephole_graphs.specs.Tree.{Tree, Trees, entry, node, no_trees, ◌▸◌}
 use Rattle.peephole_graphs.specs.TermOf.{IsTermOf, AreTermsOf, HasTermsOfTrees}
 use Rattle.peephole_commands.specs.declared.graphs.Refusal.{Refusal}
 use Rattle.peephole_commands.specs.declared.graphs.Refusal.TheVariants as refusal
-use Rattle.peephole_commands.specs.Graphs.{of_graph, site_of, IsPlace, IsGraphIn, AnswersAs}
+use Rattle.peephole_commands.specs.Graphs.{of_graph, site_of, IsPlaceInBlock, IsGraphIn, AnswersAs}
 use Rattle.peephole_commands.specs.Results.{tree_type, first_tree_type, result_output}
 use Rattle.peephole_terms.specs.Laws.{OperatorsHaveEntries}
 use Rattle.peephole_commands.specs.declared.place.Place.{Place}
@@ -84,7 +84,7 @@ abbrev refusing : Result PrimitiveTypeInfo Error → Result PrimitiveTypeInfo Re
 refusing r = result_map_both (λ t. t) refusal.Refused r
 
 -- the point has its own entry
-pub point_there : OperatorsHaveEntries → (info : Module) (preserving : Bool) (p : Place) (graph : MiniDFG) → IsPlace p →
+pub point_there : OperatorsHaveEntries → (info : Module) (preserving : Bool) (p : Place) (graph : MiniDFG) → IsPlaceInBlock p →
     IsGraphIn info preserving p graph → IsSome ((graph_of graph).own_entry p.point)
 point_there law info preserving p graph place g =
     let last = place.block.last in
@@ -94,7 +94,7 @@ point_there law info preserving p graph place g =
 
 -- the type of the point is that of its entry's term
 typed_is : HasNoFault → EndsWithTheLastTree → HasTermsOfTrees → (a : Analysis) (preserving : Bool) (p : Place) (graph : MiniDFG) (i : ℕ) →
-    IsPlace p → IsGraphIn a.info preserving p graph → (graph_of graph).own_entry p.point ≡ Some i →
+    IsPlaceInBlock p → IsGraphIn a.info preserving p graph → (graph_of graph).own_entry p.point ≡ Some i →
     result_output a preserving (site_of p) ≡ refusing (term_type a (tree_at (entry_nodes (graph_of graph).entries) i))
 typed_is fits ends stand a preserving p graph i place g at =
     let s = source_at a.info preserving (site_of p) in
@@ -107,9 +107,9 @@ typed_is fits ends stand a preserving p graph i place g at =
     let own = (g.finds p.point i).0 at in
     let there = slice_get_within entries i own.0 own.1 in
     let here : i ≡ length entries - 1 = same_Some i _ (sym at ∙ (ap (graph_of graph).own_entry (sym point) ∙ (g.last n e).0)) in
-    let tree : last_of (entry 0) (forest (block_shapes a.info (site_of p))) ≡ entry_tree s (graph_of graph) i =
+    let tree : last_tree_of (entry 0) (forest (block_shapes a.info (site_of p))) ≡ entry_tree s (graph_of graph) i =
     ends s (graph_of graph) g n e ∙ ap (entry_tree s (graph_of graph)) (sym here) in
-    ap (λ (r : Result (List Shape) Refusal). of_graph r (λ block. refusing (tree_type a (last_of (entry 0) (forest block)))))
+    ap (λ (r : Result (List Shape) Refusal). of_graph r (λ block. refusing (tree_type a (last_tree_of (entry 0) (forest block)))))
     (shapes_found fits a.info preserving p graph g)
     ∙ ap refusing (ap (tree_type a) tree ∙ sym (same_type a (tree_at (entry_nodes entries) i) (entry_tree s (graph_of graph) i)
     (stand s (graph_of graph) g i there)))
@@ -122,7 +122,7 @@ told_so said whole (Err e) w (inl m) = inl (ap refusal.Refused m)
 told_so said whole (Err e) w (inr h) = inr (w ∙ ap refusing h)
 
 pub point_told : HasNoFault → EndsWithTheLastTree → HasTermsOfTrees → OperatorsHaveEntries → (a : Analysis) (preserving : Bool) (p : Place)
-    (graph : MiniDFG) (result : Result PrimitiveTypeInfo Error) → IsPlace p → IsGraphIn a.info preserving p graph →
+    (graph : MiniDFG) (result : Result PrimitiveTypeInfo Error) → IsPlaceInBlock p → IsGraphIn a.info preserving p graph →
     IfSome ((graph_of graph).own_entry p.point) (λ i. Told (term_type a (tree_at (entry_nodes (graph_of graph).entries) i)) result) →
     AnswersAs (λ t. t) (result_output a preserving (site_of p)) (refusing result)
 point_told fits ends stand own a preserving p graph result place g told =

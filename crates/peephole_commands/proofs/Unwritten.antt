@@ -9,7 +9,7 @@ use Rattle.peephole_graphs.specs.declared.shape.Shape.{Shape}
 use Rattle.peephole_graphs.specs.declared.shape.Judged.{Judged}
 use Rattle.peephole_graphs.specs.declared.shape.Judged.TheVariants.{Fits}
 use Rattle.peephole_graphs.specs.Shape.{and_shape, judge, operator_shapes}
-use Rattle.peephole_graphs.specs.Forest.{is_operand, operator_tree, trees, without}
+use Rattle.peephole_graphs.specs.Forest.{is_operand, operator_tree, trees, trees_without}
 use Rattle.peephole_graphs.specs.Tree as tree
 use Rattle.peephole_graphs.specs.Tree.{Trees, entry, node, no_trees, join}
 use Rattle.peephole_terms.specs.Written.{Site, block_operators, block_shapes, has_root, is_written}
@@ -45,14 +45,14 @@ no_root_joined first at (tree.◌▸◌ (node i s kids) ts) us t u =
     neither (first + i == at) _ (first_of _ (has_root first at ts) t) (no_root_joined first at ts us (second (first + i == at) _ t) u)
 
 -- fewer trees
-no_root_left : (test : ℕ → Bool) (first at : ℕ) (ts : Trees) → has_root first at ts ≡ false → has_root first at (without test ts) ≡ false
+no_root_left : (test : ℕ → Bool) (first at : ℕ) (ts : Trees) → has_root first at ts ≡ false → has_root first at (trees_without test ts) ≡ false
 no_root_left test first at no_trees t = refl
 no_root_left test first at (tree.◌▸◌ (entry m) ts) t = no_root_left test first at ts t
 no_root_left test first at (tree.◌▸◌ (node i s kids) ts) t =
     go (test i) (first_of _ (has_root first at ts) t) (no_root_left test first at ts (second (first + i == at) _ t))
   where
     left : Trees
-    left = without test ts
+    left = trees_without test ts
 
     go : (gone : Bool) → (first + i == at) ≡ false → has_root first at left ≡ false →
         has_root first at (if gone then left else tree.◌▸◌ (node i s kids) left) ≡ false

@@ -14,7 +14,8 @@ use Rattle.peephole_commands.specs.Body.{Contents}
 use Rattle.peephole_commands.specs.declared.graphs.Refusal.{Refusal}
 use Rattle.peephole_commands.specs.declared.graphs.Refusal.TheVariants as refusal
 use Rattle.peephole_commands.specs.declared.place.Place.{Place}
-use Rattle.peephole_commands.specs.Commands.{place_in, place_for, working_place, at_working_place, answer_text, refusal_line, result_step, type_line, analysis_of, Steps, Prints}
+use Rattle.peephole_commands.specs.Commands.{place_in, place_for, working_place, at_working_place, answer_text, refusal_line, result_step}
+use Rattle.peephole_commands.specs.Commands.{type_line, analysis_of, Steps, Prints}
 use Rattle.peephole_commands.specs.Graphs.{site_of, AnswersAs, IsGraphIn, KeepsTheGraph}
 use Rattle.peephole_commands.specs.Results.{result_output}
 use Rattle.peephole_commands.specs.State.{SessionState, Reply, KeepsTheBlock, block_in}
@@ -59,7 +60,8 @@ result_printed s words site (Err r) result h (inl m) p other = refused r _ s res
 result_printed s words site (Err r) result h (inr k) p other = refused r _ s result (inr (result_told s words site (Err r) h k)) p other
 
 -- a configuration's module is the session's again
-pub module_back : (config new : Config Module (List ℕ)) (info back : Module) (words : List ℕ) → config.setup ≡ Some (record { info = info; generator = words }) →
+pub module_back : (config new : Config Module (List ℕ)) (info back : Module) (words : List ℕ) →
+    config.setup ≡ Some (record { info = info; generator = words }) →
     info_of new ≡ info_of config → info_of new ≡ Some back → back ≡ info
 module_back config new info back words e same taken = same_Some back info (sym taken ∙ (same ∙ ap module_in_setup e))
   where

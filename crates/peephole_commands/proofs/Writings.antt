@@ -28,7 +28,7 @@ use Rattle.peephole_terms.specs.Written.{Site, AppendsBody, KeepsOrder, RefusesB
 use Rattle.peephole_commands.specs.declared.graphs.Refusal.{Refusal}
 use Rattle.peephole_commands.specs.declared.graphs.Refusal.TheVariants as refusal
 use Rattle.peephole_commands.specs.declared.place.Place.{Place}
-use Rattle.peephole_commands.specs.Graphs.{of_graph, site_of, module_in, words_in, IsGraphIn, IsPlace}
+use Rattle.peephole_commands.specs.Graphs.{of_graph, site_of, module_in, words_in, IsGraphIn, IsPlaceInBlock}
 use Rattle.peephole_commands.specs.Writing.{in_order_alone, Output, output, with_code, with_term, with_nodes, term_output, written_output}
 use Rattle.peephole_commands.proofs.Refusals.{shapes_found}
 use Rattle.peephole_commands.proofs.Shows.{place_length}
@@ -172,7 +172,7 @@ moved p at = record { body = p.body; point = at; block = p.block }
 
 -- without nodes: a term for the point behind the block is written nowhere, so that the block's own trees are
 pub no_nodes : HasNoFault → OwnTreesAreKept → (s : Setting) (preserving : Bool) (p : Place) (at : ℕ) (graph : MiniDFG) (nodes : List Lang) (t : Term Head) →
-    IsPlace p → IsGraphIn s.info preserving p graph → length nodes ≡ 0 → at ≡ p.block.now.end →
+    IsPlaceInBlock p → IsGraphIn s.info preserving p graph → length nodes ≡ 0 → at ≡ p.block.now.end →
     answer_of s preserving p nodes ≡ term_output s preserving (site_of (moved p at)) t
 no_nodes fits kept s preserving p at graph (x ∷ nodes) t place g n behind = absurd (omega arith)
 no_nodes fits kept s preserving p at graph [] t place g n behind =

@@ -9,10 +9,10 @@ pub record Contents : Type 0 where
   pub bytes : List ℕ
   pub operators : List (Operator × ℕ)
 
-abbrev pub with_operators : List ℕ → Result (List (Operator × ℕ)) (ReadKind × ℕ) → Result Contents ReadKind
-with_operators bytes (Ok operators) = Ok (record { bytes = bytes; operators = operators })
-with_operators bytes (Err fault) = Err fault.0
+abbrev pub contents_with_operators : List ℕ → Result (List (Operator × ℕ)) (ReadKind × ℕ) → Result Contents ReadKind
+contents_with_operators bytes (Ok operators) = Ok (record { bytes = bytes; operators = operators })
+contents_with_operators bytes (Err fault) = Err fault.0
 
 -- the body that bytes are, or their first fault
 abbrev pub body_of : List ℕ → Result Contents ReadKind
-body_of bytes = with_operators bytes (body_at 0 bytes)
+body_of bytes = contents_with_operators bytes (body_at 0 bytes)

@@ -1,10 +1,11 @@
 -- What each command does (this project's rules).
-use Rattle.std.specs.Prelude.{◌≡◌, ◌⊎◌, ◌^◌, MatchResult, Vec, ℕ, not, List, [], ◌∷◌, ◌++◌, length, map, codes, decimal, nat_lt, Option, Some, None, Result, Ok, Err, if◌then◌else◌}
+use Rattle.std.specs.Prelude.{◌≡◌, ◌⊎◌, ◌^◌, MatchResult, Vec, ℕ, not, List, [], ◌∷◌, ◌++◌, length, map, codes, decimal, nat_lt, Option}
+use Rattle.std.specs.Prelude.{Some, None, Result, Ok, Err, if◌then◌else◌}
 use Rattle.std.specs.List.{concat}
 use Rattle.std.specs.Result.{result_ok}
 use Rattle.hex.specs.Hex.{decode_of, encode_lower}
 use Rattle.wasm_code.specs.declared.fault.ReadKind.{ReadKind}
-use Rattle.node_payloads.specs.declared.term_error.TermError.{TermError}
+use Rattle.peephole_payloads.specs.declared.term_error.TermError.{TermError}
 use Rattle.mutate_base.specs.Error.{error_name}
 use Rattle.wasm_types.specs.Types.{type_name}
 use Rattle.wasm_types.specs.declared.types.PrimitiveTypeInfo.{PrimitiveTypeInfo}
@@ -44,25 +45,25 @@ abbrev pub quiet : SessionState → Result Reply Fault
 quiet s = Ok (record { text = []; next = s })
 
 -- what comes of an argument that may not be what the command wants
-abbrev pub with_argument : {A : Type 0} → Option A → (A → Result Reply Fault) → Result Reply Fault
-with_argument None f = Err fault.BadArgument
-with_argument (Some x) f = f x
+abbrev pub reply_with_argument : {A : Type 0} → Option A → (A → Result Reply Fault) → Result Reply Fault
+reply_with_argument None f = Err fault.BadArgument
+reply_with_argument (Some x) f = f x
 
 -- the module's lines
 abbrev pub declare_step : Declaration → SessionState → List (List ℕ) → Result Reply Fault
-declare_step declaration s words = with_argument (with_declaration declaration s.info words) (λ info. quiet (record s { info = info }))
+declare_step declaration s words = reply_with_argument (with_declaration declaration s.info words) (λ info. quiet (record s { info = info }))
 
 -- `local T`: a local of that type
 abbrev pub local_step : SessionState → List (List ℕ) → Result Reply Fault
-local_step s words = with_argument (only_word type_of words) (λ t. quiet (record s { locals = s.locals ++ t ∷ [] }))
+local_step s words = reply_with_argument (only_word type_of words) (λ t. quiet (record s { locals = s.locals ++ t ∷ [] }))
 
 -- `preserve yes|no`: the mode
 abbrev pub preserve_step : SessionState → List (List ℕ) → Result Reply Fault
-preserve_step s words = with_argument (only_word is_yes words) (λ preserving. quiet (record s { preserving = preserving }))
+preserve_step s words = reply_with_argument (only_word is_yes words) (λ preserving. quiet (record s { preserving = preserving }))
 
 -- `word N`: a further word to be drawn
 abbrev pub draw_step : SessionState → List (List ℕ) → Result Reply Fault
-draw_step s words = with_argument (only_word number_of words) (λ n. quiet (record s { words = s.words ++ n ∷ [] }))
+draw_step s words = reply_with_argument (only_word number_of words) (λ n. quiet (record s { words = s.words ++ n ∷ [] }))
 
 -- `body HEX*`: the words joined are the body, in hexadecimal digits; point and nodes are cleared
 abbrev pub body_read : SessionState → Result Contents ReadKind → Result Reply Fault
@@ -70,7 +71,7 @@ body_read s (Ok body) = quiet (record s { body = Some body; point = None; nodes 
 body_read s (Err kind) = Err (fault.Read kind)
 
 abbrev pub body_step : SessionState → List (List ℕ) → Result Reply Fault
-body_step s words = with_argument (result_ok (decode_of (concat words))) (λ bytes. body_read s (body_of bytes))
+body_step s words = reply_with_argument (result_ok (decode_of (concat words))) (λ bytes. body_read s (body_of bytes))
 
 -- `at N`: the operator N is the point, whose block is told; the nodes are cleared
 abbrev pub block_line : Option BlockRange → List ℕ
@@ -85,7 +86,7 @@ at_body s n (Some body) =
     else Err fault.OutOfRange
 
 abbrev pub at_step : SessionState → List (List ℕ) → Result Reply Fault
-at_step s words = with_argument (only_word number_of words) (λ n. at_body s n s.body)
+at_step s words = reply_with_argument (only_word number_of words) (λ n. at_body s n s.body)
 
 -- `node TEXT ID*`: the text with earlier nodes as children is the next node of the term, where it can be written
 abbrev pub node_added : SessionState → Node Head → Result Reply Fault

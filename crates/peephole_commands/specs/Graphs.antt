@@ -35,7 +35,7 @@ of_graph (Err r) f = Err r
 -- ---- what calls are given and answer
 
 -- the point is an operator of the body, and the block is its
-pub record IsPlace (p : Place) : Type 0 where
+pub record IsPlaceInBlock (p : Place) : Type 0 where
   pub within : p.point < length p.body.now.operators
   pub block : IsBlockOf p.body.now.operators p.point p.block.now.start p.block.now.end
 

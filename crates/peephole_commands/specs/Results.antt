@@ -7,7 +7,7 @@ use Rattle.wasm_types.specs.declared.types.PrimitiveTypeInfo.TheVariants.{Empty}
 use Rattle.peephole_analysis.specs.Analysis.{Analysis, instruction_type}
 use Rattle.peephole_graphs.specs.declared.dfg.MiniDFG.{MiniDFG}
 use Rattle.peephole_graphs.specs.Forest.{forest}
-use Rattle.peephole_graphs.specs.Shown.{last_of}
+use Rattle.peephole_graphs.specs.Shown.{last_tree_of}
 use Rattle.peephole_graphs.specs.Tree.{Tree, Trees, entry, node, no_trees, ◌▸◌}
 use Rattle.peephole_commands.specs.declared.graphs.Refusal.{Refusal}
 use Rattle.peephole_commands.specs.declared.graphs.Refusal.TheVariants as refusal
@@ -29,9 +29,9 @@ abbrev mutual
 -- of the point, which is the block's last operator: its tree is the forest's last one
 abbrev pub result_output : Analysis → (preserving : Bool) → Site → Result PrimitiveTypeInfo Refusal
 result_output a preserving site = of_graph (shapes_or_refusal a.info preserving site) (λ block.
-    result_map_both (λ t. t) refusal.Refused (tree_type a (last_of (entry 0) (forest block))))
+    result_map_both (λ t. t) refusal.Refused (tree_type a (last_tree_of (entry 0) (forest block))))
 
 -- a call told the point's type by the graph of its block, whatever the mode
-abbrev pub Tells : Analysis → MiniDFG → Place → Result PrimitiveTypeInfo Refusal → Type 0
-Tells a graph p result =
+abbrev pub TellsPointType : Analysis → MiniDFG → Place → Result PrimitiveTypeInfo Refusal → Type 0
+TellsPointType a graph p result =
     (preserving : Bool) → IsGraphIn a.info preserving p graph → AnswersAs (λ t. t) (result_output a preserving (site_of p)) result

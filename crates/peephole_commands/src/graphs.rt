@@ -3,7 +3,7 @@
 ghost use Rattle.std.specs.Prelude.{◌≡◌, ◌⊎◌, Err, IfOk, IfErr, IfSome};
 ghost use Rattle.mutate_base.specs.declared.error.Error.TheVariants.{Memory};
 ghost use Rattle.peephole_commands.specs.declared.graphs.Refusal.TheVariants.{Refused};
-ghost use Rattle.peephole_commands.specs.Graphs.{shapes_or_refusal, site_of, IsPlace, IsGraphIn};
+ghost use Rattle.peephole_commands.specs.Graphs.{shapes_or_refusal, site_of, IsPlaceInBlock, IsGraphIn};
 
 use crate::place::Place;
 use given_words::LentWords;
@@ -41,7 +41,7 @@ pub fn point_graph(
     preserving: bool,
     place: &Place,
 ) -> Result<MiniDFG, Refusal>
-    requires place { IsPlace place.now }
+    requires place { IsPlaceInBlock place.now }
     requires kept { IfSome kept (IsGraphIn info.now preserving place.now) }
     ensures graph { IfOk result (IsGraphIn info.now preserving place.now) }
     ensures refused { IfErr result (λ r. (r ≡ Refused Memory)
@@ -59,7 +59,7 @@ fn make_graph(
     preserving: bool,
     place: &Place,
 ) -> Result<MiniDFG, Refusal>
-    requires { IsPlace place.now }
+    requires { IsPlaceInBlock place.now }
     ensures graph { IfOk result (IsGraphIn info.now preserving place.now) }
     ensures refused { IfErr result (λ r. (r ≡ Refused Memory)
         ⊎ (shapes_or_refusal info.now preserving (site_of place.now) ≡ Err r)) }

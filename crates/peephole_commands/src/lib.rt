@@ -1,4 +1,6 @@
 //! The commands of the program: lines are read and answered one by one.
+//!
+//! Tests: `peephole_run`, by whole scripts.
 #![tactic(auto)]
 
 mod arguments;

@@ -6,8 +6,8 @@ ghost use Rattle.peephole_lang.specs.Term.{tree_at};
 ghost use Rattle.peephole_analysis.specs.TermTypes.{term_type};
 ghost use Rattle.peephole_graphs.specs.Dfg.{graph_of};
 ghost use Rattle.peephole_graphs.specs.Layout.{entry_nodes};
-ghost use Rattle.peephole_commands.specs.Graphs.{IsPlace};
-ghost use Rattle.peephole_commands.specs.Results.{Tells};
+ghost use Rattle.peephole_commands.specs.Graphs.{IsPlaceInBlock};
+ghost use Rattle.peephole_commands.specs.Results.{TellsPointType};
 
 use crate::graphs::Refusal;
 use crate::place::Place;
@@ -43,9 +43,9 @@ pub fn point_type(
     graph: &MiniDFG,
     place: &Place,
 ) -> Result<PrimitiveTypeInfo, Refusal>
-    requires place { IsPlace place.now }
+    requires place { IsPlaceInBlock place.now }
     requires there { IsSome ((graph_of graph.now).own_entry place.now.point) }
-    ensures { Tells analysis.now graph.now place.now result }
+    ensures { TellsPointType analysis.now graph.now place.now result }
 {
     faults_are_found();
     entries_have_trees();

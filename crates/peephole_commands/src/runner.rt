@@ -3,7 +3,7 @@
 ghost use Rattle.std.specs.Prelude.{◌≡◌, ◌≢◌, ◌≤◌, false, IfOk, OnOk, OnErr, IsErrOf, IfSome, IsTrue, length, Ok, Err};
 ghost use Rattle.std.specs.Io.KnownBytes.{Appends, Keeps, IsAtEnd};
 ghost use Rattle.peephole_script.specs.Faults.{ConsumesMore};
-ghost use Rattle.peephole_commands.specs.Answer.{Answers, fault_line};
+ghost use Rattle.peephole_commands.specs.Answer.{WritesCommandAnswers, fault_line};
 
 use crate::session::Session;
 use device_tally::Tally;
@@ -52,7 +52,7 @@ fn answer_input<W: Write>(
     requires short { length input.now ≤ LIMIT }
     requires sound { output.old.failed ≡ false }
     ensures ok { IfOk result
-        (Answers input.now (W.contents output.old.device) (W.contents output.new.device)) }
+        (WritesCommandAnswers input.now (W.contents output.old.device) (W.contents output.new.device)) }
     ensures err { OnErr result (result ≡ Err RunError.Output) }
     ensures failed { OnErr result (IsTrue output.new.failed) }
 {
@@ -83,7 +83,7 @@ pub fn run<R: Read, W: Write>(
     requires input_sound { input.old.failed ≡ false }
     requires output_sound { output.old.failed ≡ false }
     ensures answer { IfOk result (λ ok. IfSome (R.remaining input.old.device) (λ bytes.
-        Answers bytes (W.contents output.old.device) (W.contents output.new.device) ok)) }
+        WritesCommandAnswers bytes (W.contents output.old.device) (W.contents output.new.device) ok)) }
     ensures end { OnOk result (IsAtEnd (R.remaining input.new.device)) }
     ensures short { OnOk result
         (IfSome (R.remaining input.old.device) (λ bytes. length bytes ≤ LIMIT)) }

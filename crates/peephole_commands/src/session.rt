@@ -8,7 +8,7 @@ ghost use Rattle.peephole_graphs.specs.Layout.{AreWritable};
 ghost use Rattle.peephole_script.specs.Text.{texts};
 ghost use Rattle.peephole_commands.specs.Arguments.{named_children};
 ghost use Rattle.peephole_commands.specs.State.{SessionState, PointsInto, KeepsTheBlock, block_in, start};
-ghost use Rattle.peephole_commands.specs.Graphs.{IsPlace, KeepsTheGraph};
+ghost use Rattle.peephole_commands.specs.Graphs.{IsPlaceInBlock, KeepsTheGraph};
 ghost use Rattle.peephole_commands.specs.Commands.{step_line, words_step, command_step, declare_step, local_step, preserve_step, draw_step, body_step, at_step, node_step, node_with, node_read, place_in, place_for, show_step, result_step, write_step, Steps, Finds};
 
 use crate::arguments::{ids_of, only};
@@ -359,7 +359,7 @@ fn place_for<'a>(
     requires point { PointsInto body.now point }
     requires block { block.now ≡ block_in body.now point }
     ensures place { Finds (place_for body.now point (texts arguments.now)) result }
-    ensures is { IfOk result IsPlace }
+    ensures is { IfOk result IsPlaceInBlock }
 {
     blocks_are_found();
     if !arguments.is_empty() {

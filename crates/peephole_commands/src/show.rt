@@ -4,7 +4,7 @@ ghost use Rattle.std.specs.Prelude.{◌≡◌, ◌<◌, ◌++◌, length, IfOk, 
 ghost use Rattle.mutate_base.specs.declared.error.Error.TheVariants.{Memory};
 ghost use Rattle.peephole_graphs.specs.Dfg.{graph_of};
 ghost use Rattle.peephole_graphs.specs.ForestText.{default_text};
-ghost use Rattle.peephole_commands.specs.Show.{yes_or_no, verdicts, Shows};
+ghost use Rattle.peephole_commands.specs.Show.{yes_or_no, verdicts, ShowsGraph};
 
 use mutate_base::Error;
 use peephole_terms::MiniDFG;
@@ -49,7 +49,7 @@ fn with_verdicts(
 /// colour.
 pub fn show_graph(alloc: Global, graph: &MiniDFG) -> Result<String, Error>
     requires { 0 < length (graph_of graph.now).entries }
-    ensures { MatchResult result (λ text. Shows graph.now (string_bytes text)) (λ e. e ≡ Memory) }
+    ensures { MatchResult result (λ text. ShowsGraph graph.now (string_bytes text)) (λ e. e ≡ Memory) }
 {
     faults_are_found();
     order_is_decided();

@@ -5,7 +5,7 @@ ghost use Rattle.mutate_base.specs.Config.{ChangesGeneratorAlone};
 ghost use Rattle.mutate_base.specs.declared.error.Error.TheVariants.{Memory};
 ghost use Rattle.peephole_lang.specs.Node.{node_of};
 ghost use Rattle.peephole_terms.specs.Expansion.{term_in};
-ghost use Rattle.peephole_commands.specs.Graphs.{setting_in, site_of, IsPlace, IsGraphAt, AnswersAs};
+ghost use Rattle.peephole_commands.specs.Graphs.{setting_in, site_of, IsPlaceInBlock, IsGraphAt, AnswersAs};
 ghost use Rattle.peephole_graphs.specs.Block.{IsBlockIn};
 ghost use Rattle.peephole_graphs.specs.Layout.{AreWritable};
 ghost use Rattle.peephole_commands.specs.Writing.{output, term_output, written_output};
@@ -85,7 +85,7 @@ pub fn write_nodes(
     graph: &MiniDFG,
 ) -> Result<Written, Refusal>
     requires set_up { IsTrue (is_some config.old.setup) }
-    requires place { IsPlace place.now }
+    requires place { IsPlaceInBlock place.now }
     requires writable { AreWritable nodes.now }
     requires graph { IsGraphAt config.old place.now graph.now }
     ensures answer { AnswersAs (λ w. output w.body w.requests.items)

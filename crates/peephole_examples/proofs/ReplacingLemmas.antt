@@ -8,7 +8,9 @@ use Rattle.wasm_code.specs.declared.operator.Operator.{Operator}
 use Rattle.mutate_base.specs.Config.{Setup}
 use Rattle.wasm_types.specs.Module.{Module}
 use Rattle.mutate_base.specs.declared.error.Error.{Error}
-use Rattle.mutate_base.specs.declared.error.Error.TheVariants.{Memory, NoMutationsApplicable, UnknownFunction, UnknownLocal, UnknownGlobal, UnknownTable, UnknownMemory, UnknownOperand, CannotUnfold, GlobalIndex, TooLarge}
+use Rattle.mutate_base.specs.declared.error.Error.TheVariants.{Memory, NoMutationsApplicable, UnknownFunction, UnknownLocal, UnknownGlobal}
+use Rattle.mutate_base.specs.declared.error.Error.TheVariants.{UnknownTable, UnknownMemory, UnknownOperand, CannotUnfold, GlobalIndex}
+use Rattle.mutate_base.specs.declared.error.Error.TheVariants.{TooLarge}
 use Rattle.peephole_lang.specs.declared.lang.Head.{Head}
 use Rattle.peephole_lang.specs.Term.{Term}
 use Rattle.peephole_graphs.specs.Entries.{Graph}

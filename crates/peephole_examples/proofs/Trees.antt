@@ -6,8 +6,8 @@ use Rattle.std.proofs.lemmas.List.{get_or-map, length-map}
 use Rattle.std.proofs.lemmas.List.Elements.{All-contains}
 use Rattle.peephole_nodes.specs.declared.id.Id.{Id}
 use Rattle.peephole_lang.specs.Term.{Node, AreBelow, nodes_of, tree_at, term_of}
-use Rattle.peephole_graphs.specs.Rebuild.{CanAnswer, told_tree, IsLaidOut, IsReached, IsToldBy}
-use Rattle.peephole_graphs.specs.Rebuild.IsReached.{the_root, a_child}
+use Rattle.peephole_graphs.specs.Rebuild.{CanAnswer, told_tree, IsLaidOut, NodeIsReached, IsToldBy}
+use Rattle.peephole_graphs.specs.Rebuild.NodeIsReached.{the_root, a_child}
 use Rattle.peephole_graphs.specs.Layout.{node_by, layout_from}
 use Rattle.peephole_lang.specs.laws.PlaceLemmas.{at_place, children_in}
 
@@ -26,7 +26,7 @@ module _ {L H : Type 0} (head : L → H) (children : L → List ℕ) (items expr
       let own : a.0.now ≡ get_or expr id a.0.now = a.1.1 a.0.now ∙ ap (λ (xs : List L). get_or xs id a.0.now) same in
       subst (λ (x : Node H). All (λ child. child < id) x.children) a.2 (children_in (at_place head children expr id a.0.now l own) below)
 
-  pub reached_inside : (id : ℕ) → IsReached Answers root id → id < length expr
+  pub reached_inside : (id : ℕ) → NodeIsReached Answers root id → id < length expr
   reached_inside id the_root = inside
   reached_inside id (a_child parent child n r a is) =
       let there = reached_inside parent r in

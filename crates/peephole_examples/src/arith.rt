@@ -3,12 +3,12 @@ ghost use Rattle.std.specs.Prelude.{◌≡◌, [], Some, codes, refl};
 ghost use Rattle.std.specs.Option.{option_copied};
 ghost use Rattle.peephole_lang.specs.Language.{ReadsInto};
 ghost use Rattle.peephole_lang.specs.Names.{rest_after};
-ghost use Rattle.peephole_examples.specs.Arith.{head_of, ids_of, children_of, with_ids, IsEqual, IsNode, arith_matches, text_of, read_number, reads, says, reads_back, determined, equal_says, keeps_head, has_written, matches_exactly, matches_equivalence};
+ghost use Rattle.peephole_examples.specs.Arith.{arithmetic_head, arithmetic_ids, arithmetic_children, arithmetic_with_ids, IsEqualArithmetic, IsArithmeticNode, arith_matches, arithmetic_text, read_number, arithmetic_reads, says, reads_back, determined, equal_says, keeps_head, has_written, matches_exactly, matches_equivalence};
 
 use mutate_base::Error;
-use node_payloads::TermError;
-use node_payloads::number::read_i32;
 use peephole_lang::{Children, Id, Language, no_children};
+use peephole_payloads::TermError;
+use peephole_payloads::number::read_i32;
 use std::fmt;
 
 /// What a node is, apart from its children.
@@ -45,13 +45,13 @@ fn behind_num(text: &str) -> Option<&str>
 
 // The node of the number that the digits write.
 fn read_num(digits: &str) -> Result<Arith, TermError>
-    ensures { ReadsInto head_of ids_of (λ text count. read_number text) digits.now [] result }
+    ensures { ReadsInto arithmetic_head arithmetic_ids (λ text count. read_number text) digits.now [] result }
 {
     Ok(Arith::Num(read_i32(digits)?))
 }
 
 impl fmt::Display for Arith {
-    ghost output = { λ a. Some (text_of a) };
+    ghost output = { λ a. Some (arithmetic_text a) };
 
     fn fmt<W: fmt::Write>(&self, f: &mut fmt::Formatter<W>) -> fmt::Result {
         match self {
@@ -66,23 +66,23 @@ impl fmt::Display for Arith {
 impl Language for Arith {
     type Head = ArithHead;
 
-    ghost head = { head_of };
+    ghost head = { arithmetic_head };
 
-    ghost ids = { ids_of };
+    ghost ids = { arithmetic_ids };
 
-    ghost children = { children_of };
+    ghost children = { arithmetic_children };
 
-    ghost text = { text_of };
+    ghost text = { arithmetic_text };
 
-    ghost reads = { reads };
+    ghost reads = { arithmetic_reads };
 
     ghost matches = { arith_matches };
 
-    ghost with_ids = { with_ids };
+    ghost with_ids = { arithmetic_with_ids };
 
-    ghost IsEqual = { IsEqual };
+    ghost IsEqual = { IsEqualArithmetic };
 
-    ghost IsNode = { IsNode };
+    ghost IsNode = { IsArithmeticNode };
 
     fn children(&self) -> &[Id] {
         match self {

@@ -5,7 +5,8 @@ use Rattle.std.proofs.lemmas.Bool.{both_ways, cases_Bool, cases_eq, cases_lt, fa
 use Rattle.std.proofs.lemmas.Option.{slice_get_cases}
 use Rattle.wasm_code.specs.Operator.{is_delimiter}
 use Rattle.wasm_code.specs.declared.operator.Operator.{Operator}
-use Rattle.peephole_graphs.specs.Block.{BlockRange, HasNoDelimiter, IsBlockIn, IsBlockOf, delimits, is_delimiter_of, block_start, block_at, FindsTheBlock, FindsNoBlock}
+use Rattle.peephole_graphs.specs.Block.{BlockRange, HasNoDelimiter, IsBlockIn, IsBlockOf, delimits, is_delimiter_of, block_start, block_at}
+use Rattle.peephole_graphs.specs.Block.{FindsTheBlock, FindsNoBlock}
 
 abbrev Operators : Type 0
 Operators = List (Operator × ℕ)

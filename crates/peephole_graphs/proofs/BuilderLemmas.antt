@@ -23,16 +23,16 @@ use Rattle.peephole_graphs.specs.Shape.{Shape, Judged, Fits, Unfit, IsFit, AreFi
 use Rattle.peephole_graphs.specs.Shape.{judge_callee, judge_call, judge_row, judge_found, judge_instruction, judge}
 use Rattle.peephole_graphs.specs.Color.{color_after}
 use Rattle.peephole_graphs.specs.Graph.{undef, GraphEntry}
-use Rattle.peephole_graphs.specs.GraphOf.{IsSmall, FirstFault, IsRefused, IsLarge}
+use Rattle.peephole_graphs.specs.GraphOf.{IsSmall, FirstFault, IsRefused, ShapeDoesNotFit}
 use Rattle.peephole_graphs.proofs.graph.BlockGraph.{result_count, missing_count}
-use Rattle.peephole_graphs.specs.Step.{down, grown, Growth}
-use Rattle.peephole_graphs.specs.Entries.{EntryView, entry_view, shape_of_judged, shape_of, graph_entry, graph_entries}
-use Rattle.peephole_graphs.specs.Measures.{sizes_kept, size_kept, Measured}
+use Rattle.peephole_graphs.specs.Step.{down, grown, GraphGrowth}
+use Rattle.peephole_graphs.specs.Entries.{EntryView, entry_view, shape_of_judged, instruction_shape_of, graph_entry, graph_entries}
+use Rattle.peephole_graphs.specs.Measures.{sizes_kept, size_kept, SubtreesAreMeasured}
 use Rattle.peephole_graphs.specs.Growing.{undef_entry, lacks, taken_of, own_index, IsConsistent, Added}
 use Rattle.peephole_graphs.proofs.OwnEntriesLemmas.{slice_get_push}
 use Rattle.peephole_graphs.proofs.graph.Representation.{IsOwnOrUndef}
 use Rattle.peephole_lang.specs.Lang.{place_of, ids_of}
-use Rattle.peephole_lang.specs.Node.{is_count, takes, takes_children}
+use Rattle.peephole_lang.specs.Node.{is_count, row_takes_count, takes_children}
 use Rattle.peephole_graphs.proofs.graph.StackGraph.{graph, is_graph, IsGraph, behind}
 use Rattle.peephole_graphs.proofs.graph.BlockGraphLemmas.{own, facts, stack_height, own_replicate}
 use Rattle.peephole_graphs.specs.declared.growing.Growing.{Growing}
@@ -74,15 +74,16 @@ found_instr info i (Some row) = go row.operands
     go None = call_instr info i i.imm
     go (Some k) = refl
 
-pub shape_instr : (info : Module) (i : Instruction) → (shape_of info i).instr ≡ i
+pub shape_instr : (info : Module) (i : Instruction) → (instruction_shape_of info i).instr ≡ i
 shape_instr info i = found_instr info i (row_info_of i.row)
 
 -- an instruction that fits takes as many children as its shape has operands
-found_takes : (info : Module) (i : Instruction) (found : Option RowInfo) (s : Shape) → judge_found info i found ≡ Fits s → takes found s.operands ≡ true
+found_takes : (info : Module) (i : Instruction) (found : Option RowInfo) (s : Shape) → judge_found info i found ≡ Fits s →
+    row_takes_count found s.operands ≡ true
 found_takes info i None s e = unfit_fits s e
 found_takes info i (Some row) s e = go row.operands refl e
   where
-    go : (o : Option ℕ) → row.operands ≡ o → judge_row info i row o ≡ Fits s → takes (Some row) s.operands ≡ true
+    go : (o : Option ℕ) → row.operands ≡ o → judge_row info i row o ≡ Fits s → row_takes_count (Some row) s.operands ≡ true
     go None w u = ap (λ x. is_count x s.operands) w
     go (Some k) w u = ap (λ x. is_count x s.operands) w ∙ eq-eqb k s.operands (ap (λ (x : Shape). x.operands)
         (fits_same (record { instr = i; operands = k; has_result = has_result row.result; change = row.change }) s u))
@@ -106,7 +107,7 @@ of_shape info _ s e = unfit_fits s e
 pub operator_fits : (info : Module) (o : Operator) (s : Shape) → judge info o ≡ Fits s → o ≡ Instr s.instr
 operator_fits info o s e = (of_shape info o s e).is
 
-pub shape_fit : (info : Module) (o : Operator) (s : Shape) → judge info o ≡ Fits s → shape_of info s.instr ≡ s
+pub shape_fit : (info : Module) (o : Operator) (s : Shape) → judge info o ≡ Fits s → instruction_shape_of info s.instr ≡ s
 shape_fit info o s e = ap (shape_of_judged s.instr) (of_shape info o s e).judged
 
 pub shape_makes : (info : Module) (o : Operator) (s : Shape) → Fits s ≡ judge info o → takes_children s.instr.row s.operands ≡ true
@@ -142,7 +143,7 @@ block_length info os h = length-reverse (operator_shapes info os) ∙ shapes_len
 abbrev pub nodes_in : Source → Growing → List GraphEntry
 nodes_in source g = graph_entries source.info source.first g.entries.items
 
-abbrev pub state_of : Source → Growing → Growth
+abbrev pub state_of : Source → Growing → GraphGrowth
 state_of source g = record { nodes = nodes_in source g; parents = reverse g.parents.items; stack = reverse g.stack.items }
 
 -- the same with other operators
@@ -161,7 +162,7 @@ pub record Kept (source : Source) (g : Growing) : Type 0 where
   pub names : (n : ℕ) → slice_get g.map.entries.items n ≡ own (nodes_in source g) n
   pub later : All (λ (x : EntryView). source.first ≤ x.operator) (map entry_view g.entries.items)
   pub color : g.color ≡ color_after source.preserving (shapes_in source)
-  pub measured : Measured g.entries.items g.subtrees.items
+  pub measured : SubtreesAreMeasured g.entries.items g.subtrees.items
   pub missing : All IsOwnOrUndef g.entries.items
 
 module _ (source : Source) (g : Growing) (h : Kept source g) where
@@ -176,7 +177,7 @@ module _ (source : Source) (g : Growing) (h : Kept source g) where
 
   kept_room : sum_by (size_kept g.subtrees.items) g.stack.items ≤ length g.entries.items
   kept_room = stack_room g.entries.items (sizes_kept g.subtrees.items) g.stack.items (state_of source g) source.info source.first
-      refl refl h.measured.sizes_are (subst (λ (x : Growth). sum_by (size_of_entry x) x.stack ≤ length x.nodes) (sym h.state)
+      refl refl h.measured.sizes_are (subst (λ (x : GraphGrowth). sum_by (size_of_entry x) x.stack ≤ length x.nodes) (sym h.state)
       (stack_total source.preserving (shapes_in source)))
 
   pub kept_consistent : IsConsistent g
@@ -192,7 +193,7 @@ module _ (source : Source) (g : Growing) (h : Kept source g) where
   place_is s =
       let block = shapes_in source in
       let count : length g.entries.items ≡ length block + missing_count block = sym (nodes_length source.info source.first g.entries.items) ∙
-      (ap (λ (x : Growth). length x.nodes) h.state ∙ (facts source.preserving block).count) in
+      (ap (λ (x : GraphGrowth). length x.nodes) h.state ∙ (facts source.preserving block).count) in
       let stack_is : length g.stack.items ≡ result_count block = sym (length-reverse g.stack.items) ∙ stack_height block (state_of source g) kept_graph in
       let lacks_is : lacks s.operands g ≡ s.operands - result_count block = ap (λ x. s.operands - x) stack_is in
       omega arith
@@ -215,7 +216,7 @@ unfolding place_of ids_of
 undef_seen source n = let number : (source.first + n) - source.first ≡ n = omega arith in ap undef number
 
 -- the new entries are those of the graph's next step
-state_more : (source : Source) (n : ℕ) (s : Shape) (old new : Growing) → shape_of source.info s.instr ≡ s →
+state_more : (source : Source) (n : ℕ) (s : Shape) (old new : Growing) → instruction_shape_of source.info s.instr ≡ s →
     All (λ i. i < length old.parents.items) old.stack.items → Added s (source.first + n) old new →
     state_of source new ≡ grown (state_of source old) s n old.color
 state_more source n s old new f b a =
@@ -228,7 +229,7 @@ state_more source n s old new f b a =
     sym (length-map (map entry_view old.entries.items) (graph_entry source.info source.first) ∙ length-map old.entries.items entry_view) in
     let number : (source.first + n) - source.first ≡ n = omega arith in
     let own_is : seen source a.own ≡ record { shape = Some s; children = children; number = n; color = old.color } = λ i. record {
-      shape = (ap (option_map (shape_of source.info)) a.own_instr ∙ ap Some f) i;
+      shape = (ap (option_map (instruction_shape_of source.info)) a.own_instr ∙ ap Some f) i;
       children = a.own_children i;
       number = (ap (λ x. x - source.first) a.own_operator ∙ number) i;
       color = a.own_color i;
@@ -261,7 +262,7 @@ names_more source n s old new e count h a m =
     let old_is = h m in
     let rest = own_replicate more n m nodes in
     let next : slice_get new.map.entries.items m ≡ own (grown (state_of source old) s n old.color).nodes m = grind (arith, nat_tests) in
-    next ∙ ap (λ (x : Growth). own x.nodes m) (sym e)
+    next ∙ ap (λ (x : GraphGrowth). own x.nodes m) (sym e)
 
 split_at : (operators : List (Operator × ℕ)) (i : ℕ) (d : Operator × ℕ) → i < length operators → operators ≡ take i operators ++
     get_or operators i d ∷ drop (i + 1) operators
@@ -287,7 +288,7 @@ refused source i d given old e l h j w =
     let block = shapes_in (front source i) in
     ⊎_elim
     (λ m. subst (IsRefused source) (sym m) tt)
-    (λ m. subst (IsRefused source) (sym m.0) (fault source i d old (IsLarge source.preserving) l h (
+    (λ m. subst (IsRefused source) (sym m.0) (fault source i d old (ShapeDoesNotFit source.preserving) l h (
       given,
       sym j,
       λ small. let p = place_is (front source i) old h given in let q = h.color in let a = small.1 in
@@ -328,7 +329,7 @@ kept_more source o s old new h e a p q r =
           old new a (later_entries source.first old.entries.items h.later) (omega arith) (let at = a.own_operator in omega arith));
       measured = measured_more source.info source.first n s block old.entries.items new.entries.items old.subtrees.items
           new.subtrees.items old.color old.stack.items (lacks s.operands old) (taken_of s.operands old) (state_of source old)
-          (kept_graph source old h) refl refl (ap (λ (x : Growth). x.nodes) state) q refl refl h.measured a.subtrees;
+          (kept_graph source old h) refl refl (ap (λ (x : GraphGrowth). x.nodes) state) q refl refl h.measured a.subtrees;
       color = r ∙ (ap (λ x. if source.preserving then x + s.change else x) h.color ∙ (color_more source.preserving s block ∙
           ap (color_after source.preserving) (sym push)));
     }

@@ -12,11 +12,12 @@ use Rattle.std.proofs.lemmas.List.{length-take, take_more, take-map, get_or-map}
 use Rattle.peephole_graphs.specs.Shape.{Shape}
 use Rattle.peephole_graphs.specs.Graph.{undef, item}
 use Rattle.peephole_graphs.proofs.graph.BlockGraph.{entry_at}
-use Rattle.peephole_graphs.specs.Step.{Growth, grown}
+use Rattle.peephole_graphs.specs.Step.{GraphGrowth, grown}
 use Rattle.peephole_graphs.specs.Downwards.{Kin, HasOneColor, downwards, kin_at}
 use Rattle.std.proofs.Math.ListN as list
 use Rattle.peephole_graphs.specs.Entries.{EntryView, entry_view, kin, kins_of, graph_entry}
-use Rattle.peephole_graphs.specs.Measures.{colors, sizes_kept, flags_kept, size_kept, flag_kept, are_colored, sizes_of, flags_of, are_alike, Measured, forward, forwards}
+use Rattle.peephole_graphs.specs.Measures.{colors, sizes_kept, flags_kept, size_kept, flag_kept, are_colored, sizes_of, color_flags_of}
+use Rattle.peephole_graphs.specs.Measures.{are_alike, SubtreesAreMeasured, forward, forwards}
 use Rattle.peephole_graphs.specs.Entries.{graph_entries}
 use Rattle.peephole_graphs.specs.Growing.{missing_subtree}
 use Rattle.peephole_graphs.specs.declared.subtree.Subtree.{Subtree}
@@ -67,14 +68,14 @@ kins_length es = length-reverse (map kin es) ∙ length-map es kin
 pub sizes_count : (es : List StackEntry) (sizes : List ℕ) → reverse sizes ≡ sizes_of (kins_of es) → length sizes ≡ length es
 sizes_count es sizes h = sym (length-reverse sizes) ∙ (ap length h ∙ (sizes_length (kins_of es) ∙ kins_length es))
 
-pub flags_count : (es : List StackEntry) (same : List Bool) → reverse same ≡ flags_of (kins_of es) → length same ≡ length es
+pub flags_count : (es : List StackEntry) (same : List Bool) → reverse same ≡ color_flags_of (kins_of es) → length same ≡ length es
 flags_count es same h = sym (length-reverse same) ∙ (ap length h ∙ (flags_length (kins_of es) ∙ kins_length es))
 
 sizes_are : (es : List StackEntry) (sizes : List ℕ) → reverse sizes ≡ sizes_of (kins_of es) → slice_index sizes ≡ item 0 (sizes_of (kins_of es))
 sizes_are es sizes h = λ j i. (get_item 0 sizes i ∙ ap (λ x. item 0 x i) h) j
 
-flags_are : (es : List StackEntry) (same : List Bool) → reverse same ≡ flags_of (kins_of es) →
-    (λ i. slice_index_or same i false) ≡ item false (flags_of (kins_of es))
+flags_are : (es : List StackEntry) (same : List Bool) → reverse same ≡ color_flags_of (kins_of es) →
+    (λ i. slice_index_or same i false) ≡ item false (color_flags_of (kins_of es))
 flags_are es same h = λ j i. (get_item false same i ∙ ap (λ x. item false x i) h) j
 
 colors_are : (es : List StackEntry) → slice_index (colors es) ≡ (λ i. (kin_at (kins_of es) i).color)
@@ -88,7 +89,7 @@ kept_size ts i t e = ap (λ (x : Subtree). x.len) e ∙ sym (list.get_or-map (λ
 pub kept_flag : (ts : List Subtree) (i : ℕ) (t : Subtree) → t ≡ get_or ts i t → t.one_color ≡ get_or (flags_kept ts) i t.one_color
 kept_flag ts i t e = ap (λ (x : Subtree). x.one_color) e ∙ sym (list.get_or-map (λ (x : Subtree). x.one_color) ts i t)
 
-pub kept_count : (es : List StackEntry) (ts : List Subtree) → Measured es ts → length ts ≡ length es
+pub kept_count : (es : List StackEntry) (ts : List Subtree) → SubtreesAreMeasured es ts → length ts ≡ length es
 kept_count es ts m = sym (length-map ts (λ (x : Subtree). x.len)) ∙ sizes_count es (sizes_kept ts) m.sizes_are
 
 map_added : {B : Type 0} (f : Subtree → B) (ts : List Subtree) (n : ℕ) (own : Subtree) →
@@ -98,19 +99,19 @@ map_added f ts n own =
     ap (λ x. map f ts ++ x) (map_replicate f n missing_subtree))
 
 pub measured_more : (info : Module) (first n : ℕ) (s : Shape) (earlier : List Shape) (es es' : List StackEntry)
-    (ts ts' : List Subtree) (c : ℕ) (stack : List ℕ) (more : ℕ) (taken : List ℕ) (g : Growth) → IsGraph earlier g →
+    (ts ts' : List Subtree) (c : ℕ) (stack : List ℕ) (more : ℕ) (taken : List ℕ) (g : GraphGrowth) → IsGraph earlier g →
     g.nodes ≡ graph_entries info first es → g.stack ≡ reverse stack → graph_entries info first es' ≡ (grown g s n c).nodes → c < 4294967295 →
-    more ≡ s.operands - length stack → taken ≡ drop (length stack - s.operands) stack → Measured es ts →
+    more ≡ s.operands - length stack → taken ≡ drop (length stack - s.operands) stack → SubtreesAreMeasured es ts →
     ts' ≡ (ts ++ replicate more missing_subtree) ++ record {
       len = suc (more + sum_by (size_kept ts) taken);
       one_color = (more == 0) && are_alike (flag_kept ts) (slice_index (colors es)) c taken;
-    } ∷ [] → Measured es' ts'
+    } ∷ [] → SubtreesAreMeasured es' ts'
 measured_more info first n s earlier es es' ts ts' c stack more taken g ig gn gs e b m w h added =
     let sizes = sizes_kept ts in
     let same = flags_kept ts in
     let k = s.operands in
     let size = item 0 (sizes_of (kins_of es)) in
-    let flag = item false (flags_of (kins_of es)) in
+    let flag = item false (color_flags_of (kins_of es)) in
     let color = λ (i : ℕ). (kin_at (kins_of es) i).color in
     let kins_old : kins g.nodes ≡ kins_of es = ap kins gn ∙ kins_same info first es in
     let kins_new : kins_of es' ≡ kins (grown g s n c).nodes = sym (kins_same info first es') ∙ ap kins e in
@@ -129,11 +130,11 @@ measured_more info first n s earlier es es' ts ts' c stack more taken g ig gn gs
       flags_are = ap reverse (ap flags_kept added ∙ map_added (λ (x : Subtree). x.one_color) ts more _) ∙ (reverse_push (same ++ replicate more true) _
           ∙ (ap₂ (λ x y. x ∷ y) (ap₂ (λ x y. (x == 0) && y) more_is alike_is) (reverse-append same (replicate more true)
           ∙ ap₂ (λ x y. x ++ y) (reverse_replicate more true ∙ ap (λ x. replicate x true) more_is) h.flags_are)
-          ∙ (sym (rw kins_old at (flags_grown s earlier g n c ig b)) ∙ ap flags_of (sym kins_new))));
+          ∙ (sym (rw kins_old at (flags_grown s earlier g n c ig b)) ∙ ap color_flags_of (sym kins_new))));
     }
 
 -- what `add_row` wants
-pub stack_room : (es : List StackEntry) (sizes : List ℕ) (stack : List ℕ) (g : Growth) (info : Module) (first : ℕ) →
+pub stack_room : (es : List StackEntry) (sizes : List ℕ) (stack : List ℕ) (g : GraphGrowth) (info : Module) (first : ℕ) →
     g.nodes ≡ graph_entries info first es → g.stack ≡ reverse stack → reverse sizes ≡ sizes_of (kins_of es) →
     sum_by (size_of_entry g) g.stack ≤ length g.nodes → sum_by (λ i. slice_index sizes i) stack ≤ length es
 stack_room es sizes stack g info first gn gs h l =
@@ -149,7 +150,7 @@ pub size_read : (es : List StackEntry) (sizes : List ℕ) → reverse sizes ≡ 
 size_read es sizes h i l d = get_or_default sizes i d 0 (let e = sizes_count es sizes h in omega arith) ∙
     (ap (λ f. f i) (sizes_are es sizes h) ∙ sym (size_at (kins_of es) i (let e = kins_length es in omega arith)))
 
-flag_read : (es : List StackEntry) (same : List Bool) → reverse same ≡ flags_of (kins_of es) → (i : ℕ) → i < length es →
+flag_read : (es : List StackEntry) (same : List Bool) → reverse same ≡ color_flags_of (kins_of es) → (i : ℕ) → i < length es →
     (d : Bool) → get_or same i d ≡ are_colored (kins_of es) (kin_at (kins_of es) i).color (downwards (kins_of es) i)
 flag_read es same h i l d = get_or_default same i d false (let e = flags_count es same h in omega arith) ∙
     (ap (λ f. f i) (flags_are es same h) ∙ sym (flag_at (kins_of es) i (let e = kins_length es in omega arith)))
@@ -159,7 +160,7 @@ pub decides_colored : (xs : List Kin) (c : ℕ) (is : List ℕ) → Decides (are
 decides_colored xs c is = Decides-by_and (λ j. (kin_at xs j).color == c) (λ j. (kin_at xs j).color ≡ c) (are_colored xs c)
     (λ j. Decides-eqb (kin_at xs j).color c) refl (λ _ _. refl) is
 
-pub one_color : (es : List StackEntry) (same : List Bool) → reverse same ≡ flags_of (kins_of es) → (i : ℕ) → i < length es →
+pub one_color : (es : List StackEntry) (same : List Bool) → reverse same ≡ color_flags_of (kins_of es) → (i : ℕ) → i < length es →
     (b : Bool) → b ≡ get_or same i b → IsTrue b ↔ HasOneColor (kins_of es) i
 one_color es same h i l b e =
     let f : b ≡ are_colored (kins_of es) (kin_at (kins_of es) i).color (downwards (kins_of es) i) = e ∙ flag_read es same h i l b in
@@ -217,7 +218,7 @@ forwards_stop es i h = false_from_ne_true (forwards (kins_of es)) (λ w. false�
     (kins_of (take i es)) (ap forwards (sym (kins_parts es i)) ∙ w)))
 
 -- the same by what the code reads at an entry
-pub forwards_read : (es : List StackEntry) (ts : List Subtree) → Measured es ts → (i : ℕ) → i < length es → (e : StackEntry) → e ≡ get_or es i e →
+pub forwards_read : (es : List StackEntry) (ts : List Subtree) → SubtreesAreMeasured es ts → (i : ℕ) → i < length es → (e : StackEntry) → e ≡ get_or es i e →
     (t : Subtree) → t ≡ get_or ts i t → (from : ℕ) → from ≡ (i + 1) - t.len → (b : Bool) →
     b ≡ forward (size_kept (take i ts)) (slice_index (colors (take i es))) from (children_of e.operator) →
     forwards (kins_of (take (i + 1) es)) ≡ (forwards (kins_of (take i es)) && b)

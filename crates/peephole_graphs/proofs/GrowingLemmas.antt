@@ -11,7 +11,7 @@ use Rattle.std.proofs.lemmas.List.Elements.{All-head, All-tail, All-drop}
 use Rattle.peephole_graphs.specs.Shape.{Shape}
 use Rattle.peephole_graphs.specs.Forest.{has}
 use Rattle.peephole_graphs.specs.Graph.{undef}
-use Rattle.peephole_graphs.specs.Step.{mark, down, grown, Growth}
+use Rattle.peephole_graphs.specs.Step.{mark, down, grown, GraphGrowth}
 use Rattle.peephole_graphs.specs.Growing.{set_each}
 use Rattle.peephole_graphs.proofs.Lists.{all_reverse, has_reverse}
 use Rattle.peephole_graphs.proofs.graph.StackGraph.{IsGraph, length-mark, taken_below}
@@ -76,7 +76,7 @@ mark_same p is js h [] = refl
 mark_same p is js h (q ∷ qs) = ap₂ (λ b x. (if b then Some p else q) ∷ x) (h (length qs)) (mark_same p is js h qs)
 
 state_same : {a b : List graph.GraphEntry} {c d : List (Option ℕ)} {e f : List ℕ} → a ≡ b → c ≡ d → e ≡ f →
-    ◌≡◌ {A = Growth} (record { nodes = a; parents = c; stack = e }) (record { nodes = b; parents = d; stack = f })
+    ◌≡◌ {A = GraphGrowth} (record { nodes = a; parents = c; stack = e }) (record { nodes = b; parents = d; stack = f })
 state_same p q r = λ i. record { nodes = p i; parents = q i; stack = r i }
 
 pub grown_is : (s : Shape) (n c base : ℕ) (nodes : List graph.GraphEntry) (parents : List (Option ℕ)) (stack : List ℕ)
@@ -87,7 +87,7 @@ pub grown_is : (s : Shape) (n c base : ℕ) (nodes : List graph.GraphEntry) (par
     nodes' ≡ (nodes ++ replicate more (undef n)) ++ record { shape = Some s; children = down base more ++ taken; number = n; color = c } ∷ [] →
     parents' ≡ (set_each (base + more) taken parents ++ replicate more (Some (base + more))) ++ None ∷ [] →
     stack' ≡ (if s.has_result then take at stack ++ (base + more) ∷ [] else take at stack) →
-    ◌≡◌ {A = Growth} (record { nodes = reverse nodes'; parents = reverse parents'; stack = reverse stack' })
+    ◌≡◌ {A = GraphGrowth} (record { nodes = reverse nodes'; parents = reverse parents'; stack = reverse stack' })
     (grown (record { nodes = reverse nodes; parents = reverse parents; stack = reverse stack }) s n c))
 grown_is s n c base nodes parents stack nodes' parents' stack' o h e f g =
     let k = s.operands in

@@ -1,4 +1,5 @@
--- Colours: while preserving an operator's colour is the sum of the changes before it, and without it is 0. Lists of operators have the last one first. This project's rule.
+-- Colours: while preserving an operator's colour is the sum of the changes before it, and without it is 0. Lists of operators have the last
+-- one first. This project's rule.
 use Rattle.std.specs.Prelude.{ℕ, ◌+◌, ◌==◌, Bool, List, [], ◌∷◌, length, if◌then◌else◌}
 use Rattle.peephole_graphs.specs.Shape.{Shape}
 

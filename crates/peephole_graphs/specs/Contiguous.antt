@@ -6,12 +6,12 @@ use Rattle.peephole_graphs.specs.Entries.{kins_of}
 use Rattle.peephole_graphs.specs.declared.dfg.StackEntry.{StackEntry}
 
 -- the body's indexes of the entries' operators
-abbrev pub operators_of : List StackEntry → List ℕ
-operators_of entries = map (λ (e : StackEntry). e.operator_idx) entries
+abbrev pub entry_operators_of : List StackEntry → List ℕ
+entry_operators_of entries = map (λ (e : StackEntry). e.operator_idx) entries
 
 -- those of the entries from one downwards, in postfix
 abbrev pub operators_below : List StackEntry → ℕ → List ℕ
-operators_below entries i = map (λ j. slice_index (operators_of entries) j) (downwards (kins_of entries) i)
+operators_below entries i = map (λ j. slice_index (entry_operators_of entries) j) (downwards (kins_of entries) i)
 
 -- each number is the one before it and 1
 abbrev pub AreConsecutive : List ℕ → Type 0

@@ -44,12 +44,18 @@ shape_of_judged i (Fits s) = s
 shape_of_judged i _ = record { instr = i; operands = 0; has_result = false; change = 0 }
 
 -- the shape of an instruction under a module's information
-abbrev pub shape_of : Module → Instruction → Shape
-shape_of info i = shape_of_judged i (judge_instruction info i)
+abbrev pub instruction_shape_of : Module → Instruction → Shape
+instruction_shape_of info i = shape_of_judged i (judge_instruction info i)
 
 -- the operators are numbered from the block's first one on, whose index in the body is `first`
 abbrev pub graph_entry : Module → ℕ → EntryView → GraphEntry
-graph_entry info first e = record { shape = option_map (shape_of info) e.instr; children = e.children; number = e.operator - first; color = e.color }
+graph_entry info first e = record {
+  shape = option_map (instruction_shape_of info) e.instr;
+  children = e.children;
+  number =
+      e.operator - first;
+  color = e.color;
+}
 
 -- all of them, the last one first
 abbrev pub graph_entries : Module → ℕ → List StackEntry → List GraphEntry

@@ -18,8 +18,8 @@ height [] = pos 0
 height (s ∷ earlier) = height earlier +ℤ (results s -ℤ pos s.operands)
 
 -- the place of an operator's first operand and of its result
-abbrev pub low : Shape → List Shape → ℤ
-low s earlier = height earlier -ℤ pos s.operands
+abbrev pub first_operand_height : Shape → List Shape → ℤ
+first_operand_height s earlier = height earlier -ℤ pos s.operands
 
 -- the trees at `count` places from `place` on
 abbrev pub from_height : (ℤ → Tree) → ℤ → ℕ → Trees
@@ -35,11 +35,12 @@ entry_number (negsuc n) = n
 abbrev pub at_height : List Shape → ℤ → Tree
 at_height [] p = entry (entry_number p)
 at_height (s ∷ earlier) p =
-    if s.has_result && int_eq p (low s earlier) then node (length earlier) s (from_height (at_height earlier) (low s earlier) s.operands) else at_height earlier p
+    if s.has_result && int_eq p (first_operand_height s earlier) then node (length earlier) s
+    (from_height (at_height earlier) (first_operand_height s earlier) s.operands) else at_height earlier p
 
 -- the tree of an operator
 abbrev pub operator_tree : Shape → List Shape → Tree
-operator_tree s earlier = node (length earlier) s (from_height (at_height earlier) (low s earlier) s.operands)
+operator_tree s earlier = node (length earlier) s (from_height (at_height earlier) (first_operand_height s earlier) s.operands)
 
 -- the trees of all operators, ascending
 abbrev pub trees : List Shape → Trees
@@ -59,14 +60,14 @@ is_operand j (entry m ▸ ts) = is_operand j ts
 is_operand j (node i s kids ▸ ts) = is_root j kids || is_operand j ts
 
 -- the trees without those of the operators that pass the test
-abbrev pub without : (ℕ → Bool) → Trees → Trees
-without test no_trees = no_trees
-without test (entry m ▸ ts) = entry m ▸ without test ts
-without test (node i s kids ▸ ts) = if test i then without test ts else node i s kids ▸ without test ts
+abbrev pub trees_without : (ℕ → Bool) → Trees → Trees
+trees_without test no_trees = no_trees
+trees_without test (entry m ▸ ts) = entry m ▸ trees_without test ts
+trees_without test (node i s kids ▸ ts) = if test i then trees_without test ts else node i s kids ▸ trees_without test ts
 
 -- the forest: the trees, ascending, of the operators that are no operator's operand
 abbrev pub forest : List Shape → Trees
-forest block = without (λ j. is_operand j (trees block)) (trees block)
+forest block = trees_without (λ j. is_operand j (trees block)) (trees block)
 
 -- the trees lie one after another: their operators in postfix, joined, are the block's, ascending
 abbrev pub IsInOrder : List Shape → Type 0
@@ -81,7 +82,8 @@ has j (i ∷ is) = (i == j) || has j is
 abbrev pub AreTogether : List Shape → Type 0
 AreTogether [] = ⊤
 AreTogether (s ∷ earlier) =
-    AreTogether earlier × ((j : ℕ) → j < length earlier → IsTrue (has j (postfix_of (operator_tree s earlier))) → IsTrue (has (suc j) (postfix_of (operator_tree s earlier))))
+    AreTogether earlier × ((j : ℕ) → j < length earlier → IsTrue (has j (postfix_of (operator_tree s earlier))) →
+    IsTrue (has (suc j) (postfix_of (operator_tree s earlier))))
 
 -- ---- the order as a test
 

@@ -18,7 +18,7 @@ use Rattle.peephole_graphs.specs.Entries.{roots_of}
 -- ---- the lines
 
 -- an entry's line, and what stands in front of its own text there
-pub record Line : Type 0 where
+pub record EntryLine : Type 0 where
   pub prefix : List ℕ
   pub entry : StackEntry
 
@@ -39,11 +39,11 @@ edge false = codes "    "
 
 -- a tree's lines by the prefix and the inner prefix of its root, and those of the trees of a parent's children by its inner prefix
 abbrev mutual
-  pub tree_lines : (prefix inner : List ℕ) → Term StackEntry → List Line
+  pub tree_lines : (prefix inner : List ℕ) → Term StackEntry → List EntryLine
   tree_lines prefix inner absent = []
   tree_lines prefix inner (node e kids) = record { prefix = prefix; entry = e } ∷ child_lines inner kids
 
-  pub child_lines : List ℕ → Terms StackEntry → List Line
+  pub child_lines : List ℕ → Terms StackEntry → List EntryLine
   child_lines inner no_terms = []
   child_lines inner (t ▸ ts) = tree_lines (inner ++ branch (is_followed ts)) (inner ++ edge (is_followed ts)) t ++ child_lines inner ts
 
@@ -56,12 +56,12 @@ abbrev pub entry_term : List StackEntry → ℕ → Term StackEntry
 entry_term entries i = tree_at (entries_as_nodes entries) i
 
 -- the lines of the roots' trees, root by root
-abbrev pub root_lines : List StackEntry → List ℕ → List Line
+abbrev pub root_lines : List StackEntry → List ℕ → List EntryLine
 root_lines entries [] = []
 root_lines entries (i ∷ is) = tree_lines [] [] (entry_term entries i) ++ root_lines entries is
 
 -- the lines of the forest, the roots ascending
-abbrev pub forest_lines : List StackEntry → List (Option ℕ) → List Line
+abbrev pub forest_lines : List StackEntry → List (Option ℕ) → List EntryLine
 forest_lines entries parents = root_lines entries (roots_of parents)
 
 -- ---- their text, where `said` tells the text of each entry, or its refusal
@@ -75,13 +75,13 @@ abbrev pub entry_text : StackEntry → List ℕ → List ℕ
 entry_text e text = line_text e.color e.operator_idx text
 
 -- with an entry's own text behind it
-abbrev pub with_text : List ℕ → StackEntry → Result (List ℕ) Error → Result (List ℕ) Error
-with_text before e (Ok text) = Ok (before ++ entry_text e text)
-with_text before e (Err refusal) = Err refusal
+abbrev pub with_entry_text : List ℕ → StackEntry → Result (List ℕ) Error → Result (List ℕ) Error
+with_entry_text before e (Ok text) = Ok (before ++ entry_text e text)
+with_entry_text before e (Err refusal) = Err refusal
 
 -- with the text that `said` tells of the entry
 abbrev pub with_entry : (StackEntry → Result (List ℕ) Error) → List ℕ → StackEntry → Result (List ℕ) Error
-with_entry said before e = with_text before e (said e)
+with_entry said before e = with_entry_text before e (said e)
 
 -- what comes after a text, or the refusal
 abbrev pub then_text : Result (List ℕ) Error → (List ℕ → Result (List ℕ) Error) → Result (List ℕ) Error
@@ -89,7 +89,7 @@ then_text (Ok text) go = go text
 then_text (Err refusal) go = Err refusal
 
 -- with the lines behind it, or the first refusal
-abbrev pub with_lines : (StackEntry → Result (List ℕ) Error) → List ℕ → List Line → Result (List ℕ) Error
+abbrev pub with_lines : (StackEntry → Result (List ℕ) Error) → List ℕ → List EntryLine → Result (List ℕ) Error
 with_lines said before [] = Ok before
 with_lines said before (l ∷ ls) = then_text (with_entry said (before ++ l.prefix) l.entry) (λ text. with_lines said text ls)
 
@@ -100,7 +100,7 @@ forest_text said entries parents = with_lines said (codes "DFG forest\n") (fores
 -- ---- the default text
 
 -- the lines' texts, where each entry's is its operator's
-abbrev pub default_lines : List Line → List ℕ
+abbrev pub default_lines : List EntryLine → List ℕ
 default_lines [] = []
 default_lines (l ∷ ls) = (l.prefix ++ entry_text l.entry (text_of l.entry.operator)) ++ default_lines ls
 
@@ -120,7 +120,8 @@ abbrev pub CanTell : {F : Type 0} → Shared F (Bor StackEntry × Unit {0}) (Res
 CanTell g f e = (shown : Bor StackEntry) → shown.now ≡ e → g.pre f (shown, tt)
 
 -- `f` answers of the entry what `said` tells.
-abbrev pub Tells : {F : Type 0} → Shared F (Bor StackEntry × Unit {0}) (Result (String Global) Error) → F → (StackEntry → Result (List ℕ) Error) → StackEntry → Type 0
+abbrev pub Tells : {F : Type 0} → Shared F (Bor StackEntry × Unit {0}) (Result (String Global) Error) → F → (StackEntry → Result (List ℕ) Error) →
+    StackEntry → Type 0
 Tells g f said e = (r : Result (String Global) Error) → FnReturnsAt g f e r → IsText (said e) r
 
 -- ---- the same for every `f`, which may answer of an entry now this and now that
@@ -143,7 +144,7 @@ abbrev pub AnswersAmong : {F : Type 0} → Shared F (Bor StackEntry × Unit {0})
 AnswersAmong g f entries e said = Contains entries e × Answers g f e said
 
 -- The whole is the text before with the lines behind it, each with what was answered of its entry when it was asked, or the first refusal.
-abbrev pub HasLines : (StackEntry → Result (List ℕ) Error → Type 0) → List ℕ → List Line → Result (List ℕ) Error → Type 0
+abbrev pub HasLines : (StackEntry → Result (List ℕ) Error → Type 0) → List ℕ → List EntryLine → Result (List ℕ) Error → Type 0
 HasLines Answered before [] whole = whole ≡ Ok before
 HasLines Answered before (l ∷ ls) whole =
     (said : Result (List ℕ) Error) × Answered l.entry said ×

@@ -28,7 +28,8 @@ tree_of_entry (Some s) children number missing at = node number s (trees_at at c
 -- the tree of the entry with an index, by its children's trees, which are those of earlier entries
 abbrev pub tree_at_entry : List GraphEntry → ℕ → Tree
 tree_at_entry [] i = entry 0
-tree_at_entry (e ∷ earlier) i = if length earlier == i then tree_of_entry e.shape e.children e.number (undefs earlier) (tree_at_entry earlier) else tree_at_entry earlier i
+tree_at_entry (e ∷ earlier) i = if length earlier == i then tree_of_entry e.shape e.children e.number (undefs earlier) (tree_at_entry earlier) else
+    tree_at_entry earlier i
 
 -- the entries without a parent
 abbrev pub roots : List (Option ℕ) → List ℕ

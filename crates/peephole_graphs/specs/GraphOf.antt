@@ -17,7 +17,8 @@ use Rattle.peephole_graphs.specs.Entries.{Graph, forest_of, IsForest}
 
 -- ---- limits
 
--- With each operator there are at most 2^32 operators and entry operands, so that the index of every entry has 32 bits; and its colour is below that of a missing operand.
+-- With each operator there are at most 2^32 operators and entry operands, so that the index of every entry has 32 bits; and its colour is
+-- below that of a missing operand.
 abbrev pub IsSmall : Bool → List Shape → Type 0
 IsSmall preserving [] = ⊤
 IsSmall preserving (s ∷ earlier) = IsSmall preserving earlier × (full_size (forest (s ∷ earlier)) ≤ 4294967296) × (color_after preserving earlier < 4294967295)
@@ -27,15 +28,16 @@ IsSmall preserving (s ∷ earlier) = IsSmall preserving earlier × (full_size (f
 -- The entry is the operator with the number `n` in the block: its node has the operator's instruction, and it has the operator's colour.
 abbrev pub IsOperator : Source → ℕ → StackEntry → Type 0
 IsOperator s n e =
-    (i : Instruction) × (at : ℕ) × (slice_get s.operators n ≡ Some (Instr i, at)) × (instr_of e.operator ≡ Some i) × (e.color ≡ color_at s.preserving (shapes_in s) n)
+    (i : Instruction) × (at : ℕ) × (slice_get s.operators n ≡ Some (Instr i, at)) × (instr_of e.operator ≡ Some i)
+    × (e.color ≡ color_at s.preserving (shapes_in s) n)
 
 -- The entry is a missing operand.
 abbrev pub IsMissing : StackEntry → Type 0
 IsMissing e = (e.operator ≡ Undef) × (e.color ≡ 4294967295)
 
 -- An entry is an operator of the block, or a missing operand of one.
-abbrev pub IsEntryOf : Source → StackEntry → Type 0
-IsEntryOf s e = (n : ℕ) × (n < length s.operators) × (e.operator_idx ≡ s.first + n) × (IsOperator s n e ⊎ IsMissing e)
+abbrev pub IsStackEntryOf : Source → StackEntry → Type 0
+IsStackEntryOf s e = (n : ℕ) × (n < length s.operators) × (e.operator_idx ≡ s.first + n) × (IsOperator s n e ⊎ IsMissing e)
 
 -- the entry with the index `i` is the own entry of the operator with the body's index `k`
 abbrev pub IsOwnEntry : List StackEntry → ℕ → ℕ → Type 0
@@ -51,7 +53,7 @@ pub record IsGraphOf (s : Source) (g : Graph) : Type 0 where
   pub forest_is : IsForest g.entries g.parents
   pub trees : forest_of s g ≡ forest (shapes_in s)
   -- what each entry is; a missing operand carries the operator that took it, and the operators never fall along the entries
-  pub entry : (i : ℕ) (e : StackEntry) → slice_get g.entries i ≡ Some e → IsEntryOf s e
+  pub entry : (i : ℕ) (e : StackEntry) → slice_get g.entries i ≡ Some e → IsStackEntryOf s e
   pub taker : (p i : ℕ) (e d : StackEntry) → slice_get g.entries p ≡ Some e → slice_get g.entries i ≡ Some d →
       has i (children_of e.operator) ≡ true → IsMissing d → d.operator_idx ≡ e.operator_idx
   pub order : (i j : ℕ) (d e : StackEntry) → i ≤ j → slice_get g.entries i ≡ Some d → slice_get g.entries j ≡ Some e → d.operator_idx ≤ e.operator_idx
@@ -74,8 +76,8 @@ pub record FirstFault (s : Source) (P : List Shape → Judged → Type 0) : Type
   pub fault : P (shapes_of_block s.info before) (judge s.info at.0)
 
 -- an index or a colour that does not fit
-abbrev pub IsLarge : Bool → List Shape → Judged → Type 0
-IsLarge preserving block j = (s : Shape) × (j ≡ Fits s) × (IsSmall preserving (s ∷ block) → ⊥)
+abbrev pub ShapeDoesNotFit : Bool → List Shape → Judged → Type 0
+ShapeDoesNotFit preserving block j = (s : Shape) × (j ≡ Fits s) × (IsSmall preserving (s ∷ block) → ⊥)
 
 -- the first operator at fault is one that no graph holds
 abbrev pub HasNoGraph : Source → Type 0
@@ -86,13 +88,13 @@ abbrev pub CallsUnknown : Source → ℕ → Type 0
 CallsUnknown s function = FirstFault s (λ b j. j ≡ Unknown function)
 
 -- the first operator at fault has an index or a colour that does not fit
-abbrev pub IsTooLarge : Source → Type 0
-IsTooLarge s = FirstFault s (IsLarge s.preserving)
+abbrev pub OperatorIsTooLarge : Source → Type 0
+OperatorIsTooLarge s = FirstFault s (ShapeDoesNotFit s.preserving)
 
 -- Why no graph was answered: at want of memory nothing is said, and no error is answered but these three.
 abbrev pub IsRefused : Source → Error → Type 0
 IsRefused s Memory = Unit {0}
-IsRefused s TooLarge = IsTooLarge s
+IsRefused s TooLarge = OperatorIsTooLarge s
 IsRefused s (UnknownFunction function) = CallsUnknown s function
 IsRefused s _ = ⊥
 

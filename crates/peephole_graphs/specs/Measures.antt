@@ -1,5 +1,7 @@
--- What the code keeps and reads of a graph's entries to answer how many there are from one downwards, whether they have one colour, and whether they lie forward: the way that it goes, for private functions. Lists of kins have the last entry first. This project's rule.
-use Rattle.std.specs.Prelude.{ℕ, suc, ◌+◌, ◌-◌, ◌≡◌, Bool, true, false, ◌&&◌, ◌==◌, List, [], ◌∷◌, length, map, reverse, slice_index, slice_index_or, if◌then◌else◌}
+-- What the code keeps and reads of a graph's entries to answer how many there are from one downwards, whether they have one colour, and
+-- whether they lie forward: the way that it goes, for private functions. Lists of kins have the last entry first. This project's rule.
+use Rattle.std.specs.Prelude.{ℕ, suc, ◌+◌, ◌-◌, ◌≡◌, Bool, true, false, ◌&&◌, ◌==◌, List, [], ◌∷◌, length, map, reverse, slice_index}
+use Rattle.std.specs.Prelude.{slice_index_or, if◌then◌else◌}
 use Rattle.peephole_graphs.specs.declared.dfg.StackEntry.{StackEntry}
 use Rattle.peephole_graphs.specs.declared.subtree.Subtree.{Subtree}
 use Rattle.peephole_graphs.specs.Graph.{item}
@@ -37,9 +39,9 @@ sizes_of [] = []
 sizes_of (e ∷ earlier) = length (downwards (e ∷ earlier) (length earlier)) ∷ sizes_of earlier
 
 -- whether they have one colour
-abbrev pub flags_of : List Kin → List Bool
-flags_of [] = []
-flags_of (e ∷ earlier) = are_colored (e ∷ earlier) e.color (downwards (e ∷ earlier) (length earlier)) ∷ flags_of earlier
+abbrev pub color_flags_of : List Kin → List Bool
+color_flags_of [] = []
+color_flags_of (e ∷ earlier) = are_colored (e ∷ earlier) e.color (downwards (e ∷ earlier) (length earlier)) ∷ color_flags_of earlier
 
 -- every entry from there downwards has the flag and the colour
 abbrev pub are_alike : (ℕ → Bool) → (ℕ → ℕ) → ℕ → List ℕ → Bool
@@ -47,9 +49,9 @@ are_alike flag color c [] = true
 are_alike flag color c (i ∷ is) = (flag i && (color i == c)) && are_alike flag color c is
 
 -- what is kept is right
-pub record Measured (entries : List StackEntry) (subtrees : List Subtree) : Type 0 where
+pub record SubtreesAreMeasured (entries : List StackEntry) (subtrees : List Subtree) : Type 0 where
   pub sizes_are : reverse (sizes_kept subtrees) ≡ sizes_of (kins_of entries)
-  pub flags_are : reverse (flags_kept subtrees) ≡ flags_of (kins_of entries)
+  pub flags_are : reverse (flags_kept subtrees) ≡ color_flags_of (kins_of entries)
 
 -- the children that are no missing operands lie, by their sizes, one behind another from `at` on
 abbrev pub forward : (ℕ → ℕ) → (ℕ → ℕ) → ℕ → List ℕ → Bool
@@ -59,4 +61,5 @@ forward size color at (c ∷ cs) = if color c == 4294967295 then forward size co
 -- so do those of every entry, and end right before it
 abbrev pub forwards : List Kin → Bool
 forwards [] = true
-forwards (e ∷ earlier) = forwards earlier && forward (λ i. item 0 (sizes_of earlier) i) (λ i. (kin_at earlier i).color) (suc (length earlier) - length (downwards (e ∷ earlier) (length earlier))) e.children
+forwards (e ∷ earlier) = forwards earlier && forward (λ i. item 0 (sizes_of earlier) i) (λ i. (kin_at earlier i).color)
+    (suc (length earlier) - length (downwards (e ∷ earlier) (length earlier))) e.children

@@ -12,10 +12,10 @@ abbrev pub CanAnswer : {L H : Type 0} → (L → H) → (L → List ℕ) → (Id
 CanAnswer {L} head children post id n = (given : Bor L) × post (record { 0 = id }) given × (node_by head children given.now ≡ n)
 
 -- The root is reached, and so is each child of a node that can be answered for a reached id.
-pub data IsReached {H : Type 0} (Answers : ℕ → Node H → Type 0) (root : ℕ) : ℕ → Type 0 where
-  the_root : IsReached Answers root root
-  a_child : (parent child : ℕ) (n : Node H) → IsReached Answers root parent → Answers parent n → Contains n.children child →
-      IsReached Answers root child
+pub data NodeIsReached {H : Type 0} (Answers : ℕ → Node H → Type 0) (root : ℕ) : ℕ → Type 0 where
+  the_root : NodeIsReached Answers root root
+  a_child : (parent child : ℕ) (n : Node H) → NodeIsReached Answers root parent → Answers parent n → Contains n.children child →
+      NodeIsReached Answers root child
 
 -- The term is the upper part of a tree of the id: each node of it can be answered for its id.
 abbrev mutual
@@ -30,8 +30,8 @@ abbrev mutual
   AreParts Answers (id ∷ ids) (t ▸ ts) = IsPart Answers id t × AreParts Answers ids ts
 
 -- and it is the tree down to its leaves
-abbrev pub IsTree : {H : Type 0} → (ℕ → Node H → Type 0) → ℕ → Term H → Type 0
-IsTree Answers id t = IsPart Answers id t × IsWhole t
+abbrev pub IsRebuiltTree : {H : Type 0} → (ℕ → Node H → Type 0) → ℕ → Term H → Type 0
+IsRebuiltTree Answers id t = IsPart Answers id t × IsWhole t
 
 -- The expression is the tree laid out, and its term is that tree.
 pub record IsLaidOut {L H : Type 0} (head : L → H) (children : L → List ℕ) (t : Term H) (expr : List L) : Type 0 where
@@ -39,21 +39,21 @@ pub record IsLaidOut {L H : Type 0} (head : L → H) (children : L → List ℕ)
   pub term_is : term_of head children expr ≡ t
 
 -- a part of the tree has more nodes already than an expression holds
-abbrev pub IsTooLong : {H : Type 0} → (ℕ → Node H → Type 0) → ℕ → Type 0
-IsTooLong {H} Answers root = (t : Term H) × IsPart Answers root t × (2 ^ 32 < node_count_of t)
+abbrev pub TreeIsTooLong : {H : Type 0} → (ℕ → Node H → Type 0) → ℕ → Type 0
+TreeIsTooLong {H} Answers root = (t : Term H) × IsPart Answers root t × (2 ^ 32 < node_count_of t)
 
 -- No reached id is reached twice: children are below their parent, and no two of a node are the same, nor of two reached ids.
 pub record IsReachedOnce {H : Type 0} (Answers : ℕ → Node H → Type 0) (root : ℕ) : Type 0 where
-  pub below : (id : ℕ) (n : Node H) → IsReached Answers root id → Answers id n → All (λ child. child < id) n.children
-  pub different : (id : ℕ) (n : Node H) → IsReached Answers root id → Answers id n → AllPairs (λ a b. a ≢ b) n.children
-  pub one_parent : (a b child : ℕ) (n m : Node H) → IsReached Answers root a → IsReached Answers root b → Answers a n → Answers b m →
+  pub below : (id : ℕ) (n : Node H) → NodeIsReached Answers root id → Answers id n → All (λ child. child < id) n.children
+  pub different : (id : ℕ) (n : Node H) → NodeIsReached Answers root id → Answers id n → AllPairs (λ a b. a ≢ b) n.children
+  pub one_parent : (a b child : ℕ) (n m : Node H) → NodeIsReached Answers root a → NodeIsReached Answers root b → Answers a n → Answers b m →
       Contains n.children child → Contains m.children child → a ≡ b
 
 -- The nodes, ascending, are what is answered for the reached ids, and children are below their parent.
 pub record IsToldBy {H : Type 0} (Answers : ℕ → Node H → Type 0) (root : ℕ) (nodes : List (Node H)) : Type 0 where
   pub there : root < length nodes
-  pub same : (id : ℕ) (n : Node H) → IsReached Answers root id → Answers id n → slice_index_or nodes id n ≡ n
-  pub below : (id : ℕ) (n : Node H) → IsReached Answers root id → Answers id n → All (λ child. child < id) n.children
+  pub same : (id : ℕ) (n : Node H) → NodeIsReached Answers root id → Answers id n → slice_index_or nodes id n ≡ n
+  pub below : (id : ℕ) (n : Node H) → NodeIsReached Answers root id → Answers id n → All (λ child. child < id) n.children
 
 -- the tree of an index among nodes, ascending
 abbrev pub told_tree : {H : Type 0} → List (Node H) → ℕ → Term H
@@ -86,5 +86,5 @@ abbrev mutual
   all_in_postfix (t ▸ ts) = in_postfix t ++ all_in_postfix ts
 
 -- The nodes are the tree's, in postfix, the last one first.
-abbrev pub AreAsked : {L H : Type 0} → (L → H) → (L → List ℕ) → List (Bor L) → Term H → Type 0
-AreAsked {L} head children nodes t = reverse (map (λ (n : Bor L). piece_by head children n.now) nodes) ≡ in_postfix t
+abbrev pub AreNodesOfTree : {L H : Type 0} → (L → H) → (L → List ℕ) → List (Bor L) → Term H → Type 0
+AreNodesOfTree {L} head children nodes t = reverse (map (λ (n : Bor L). piece_by head children n.now) nodes) ≡ in_postfix t

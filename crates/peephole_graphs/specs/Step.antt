@@ -16,13 +16,13 @@ mark p is [] = []
 mark p is (q ∷ earlier) = (if has (length earlier) is then Some p else q) ∷ mark p is earlier
 
 -- a graph as it grows: its entries, their parents, and the indexes whose results no operator has taken yet
-pub record Growth : Type 0 where
+pub record GraphGrowth : Type 0 where
   pub nodes : List GraphEntry
   pub parents : List (Option ℕ)
   pub stack : List ℕ
 
 -- the graph with the operator of a shape behind the others, which has the number `n` and the colour `c`
-abbrev pub grown : Growth → Shape → ℕ → ℕ → Growth
+abbrev pub grown : GraphGrowth → Shape → ℕ → ℕ → GraphGrowth
 grown g s n c =
     let more = s.operands - length g.stack in
     let own = length g.nodes + more in

@@ -51,5 +51,5 @@ trees_text color first no_trees = []
 trees_text color first (t ▸ ts) = tree_text color first [] [] 0 t ++ trees_text color first ts
 
 -- the text of the block's forest
-abbrev pub block_text : Bool → (first : ℕ) → List Shape → List ℕ
-block_text preserving first block = codes "DFG forest\n" ++ trees_text (color_at preserving block) first (forest block)
+abbrev pub forest_block_text : Bool → (first : ℕ) → List Shape → List ℕ
+forest_block_text preserving first block = codes "DFG forest\n" ++ trees_text (color_at preserving block) first (forest block)

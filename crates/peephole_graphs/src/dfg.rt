@@ -5,8 +5,8 @@ ghost use Rattle.std.proofs.Props.{props};
 ghost use Rattle.std.proofs.lemmas.Map.Keys.{IsDistinct-prop};
 ghost use Rattle.peephole_graphs.specs.Downwards.{downwards, HasOneColor};
 ghost use Rattle.peephole_graphs.specs.Entries.{kins_of, IsForest};
-ghost use Rattle.peephole_graphs.specs.Measures.{Measured, forwards};
-ghost use Rattle.peephole_graphs.specs.Order.{AreInOrder};
+ghost use Rattle.peephole_graphs.specs.Measures.{SubtreesAreMeasured, forwards};
+ghost use Rattle.peephole_graphs.specs.Order.{TreesAreInOrder};
 ghost use Rattle.peephole_graphs.specs.Layout.{HasTrees, Lang-set};
 ghost use Rattle.peephole_graphs.specs.OwnEntries.{own_entry_in};
 
@@ -39,11 +39,11 @@ pub struct MiniDFG {
     parents: Vec<Option<usize>>,
     // Of the entries from each one downwards.
     subtrees: Vec<Subtree>,
-    ghost measured: { Measured entries.items subtrees.items } by { Prim.hlevel props },
+    ghost measured: { SubtreesAreMeasured entries.items subtrees.items } by { Prim.hlevel props },
     ghost trees: { HasTrees entries.items (own_entry_in map) } by { Prim.hlevel (props, Lang-set) },
     ghost forest: { IsForest entries.items parents.items } by { Prim.hlevel (props, IsDistinct-prop) },
     // Whether the trees lie one after another is seen from the entries' sizes alone.
-    ghost lies: { IsTrue (forwards (kins_of entries.items)) ↔ AreInOrder entries.items parents.items } by { Prim.hlevel props },
+    ghost lies: { IsTrue (forwards (kins_of entries.items)) ↔ TreesAreInOrder entries.items parents.items } by { Prim.hlevel props },
 }
 
 impl Clone for StackEntry {
@@ -90,11 +90,11 @@ impl MiniDFG {
         parents: Vec<Option<usize>>,
         subtrees: Vec<Subtree>,
     ) -> MiniDFG
-        requires measured { Measured entries.items subtrees.items }
+        requires measured { SubtreesAreMeasured entries.items subtrees.items }
         requires trees { HasTrees entries.items (own_entry_in map) }
         requires forest { IsForest entries.items parents.items }
         requires lies { IsTrue (forwards (kins_of entries.items))
-            ↔ AreInOrder entries.items parents.items }
+            ↔ TreesAreInOrder entries.items parents.items }
         ensures map { (k : ℕ) → (graph_of result).own_entry k ≡ own_entry_in map k }
         ensures entries { (graph_of result).entries ≡ entries.items }
         ensures parents { (graph_of result).parents ≡ parents.items }
@@ -196,7 +196,8 @@ impl MiniDFG {
         self.subtrees[i].one_color
     }
 
-    /// The same of the last entry, which is the block's last operator's. Condition: there is an entry.
+    /// Whether all entries from the last one downwards, which is that of the block's last operator, have one colour. Condition: there is
+    /// an entry.
     pub fn is_subtree_consistent_from_root(&self) -> bool
         requires { 0 < length (graph_of self.now).entries }
         ensures { let entries = (graph_of self.now).entries in
@@ -233,7 +234,7 @@ impl MiniDFG {
     /// in postfix, ascend. True of no entries.
     pub fn keeps_order(&self) -> bool
         ensures { IsTrue result
-            ↔ AreInOrder (graph_of self.now).entries (graph_of self.now).parents }
+            ↔ TreesAreInOrder (graph_of self.now).entries (graph_of self.now).parents }
     {
         self.lies_forward()
     }

@@ -6,7 +6,7 @@ ghost use Rattle.mutate_base.specs.declared.error.Error.{Error};
 ghost use Rattle.peephole_lang.specs.Term.{AreBelow};
 ghost use Rattle.peephole_lang.specs.Text.{text_of};
 ghost use Rattle.peephole_graphs.specs.ForestText.{branch, edge, entries_as_nodes, entry_term, tree_lines, forest_lines, Answers, AnswersAmong, CanTell, HasLines, IsForestText, LeavesText};
-ghost use Rattle.peephole_graphs.specs.ForestSteps.{has_some, edges, HasEntry};
+ghost use Rattle.peephole_graphs.specs.ForestSteps.{has_some_children, edges, HasEntry};
 
 use crate::dfg::StackEntry;
 use mutate_base::Error;
@@ -15,14 +15,14 @@ use std::alloc::{AllocError, Global};
 
 // What stands in front of a child behind its parent's inner prefix, by the children behind it.
 fn branch(later: &[Id]) -> &'static str
-    ensures { result.now ≡ branch (has_some later.now) }
+    ensures { result.now ≡ branch (has_some_children later.now) }
 {
     if later.is_empty() { "└──" } else { "├──" }
 }
 
 // What stands there in front of those below the child.
 fn edge(later: &[Id]) -> &'static str
-    ensures { result.now ≡ edge (has_some later.now) }
+    ensures { result.now ≡ edge (has_some_children later.now) }
 {
     if later.is_empty() { "    " } else { "│   " }
 }
@@ -65,7 +65,7 @@ fn write_child<F: Fn(&StackEntry) -> Result<String, Error>>(
 ) -> Result<(), Error>
     requires { CanTell F.Fn f.now entry.now }
     ensures { LeavesText (HasEntry (Answers F.Fn f.now) (string_bytes text.old
-        ++ (edges (map (λ ids. ids.now) levels.now) ++ branch (has_some later.now))) entry.now)
+        ++ (edges (map (λ ids. ids.now) levels.now) ++ branch (has_some_children later.now))) entry.now)
         result (string_bytes text.new) }
 {
     write_edges(text, levels)?;

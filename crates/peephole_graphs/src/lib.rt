@@ -1,4 +1,6 @@
 //! Blocks of a body as forests and graphs, and terms laid out.
+//!
+//! Tests: `peephole_tests` (`graphs`, `deep`, `layouts`).
 #![tactic(auto)]
 
 mod block;

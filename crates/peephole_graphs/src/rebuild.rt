@@ -4,8 +4,8 @@ ghost use Rattle.std.specs.Prelude.{◌≡◌, ◌<◌, ◌≤◌, ◌^◌, ◌�
 ghost use Rattle.peephole_nodes.specs.declared.id.Id.{Id};
 ghost use Rattle.peephole_lang.specs.Term.{Term};
 ghost use Rattle.peephole_graphs.specs.Layout.{node_count_of, IsWhole};
-ghost use Rattle.peephole_graphs.specs.Rebuild.{CanAnswer, IsReached, IsReachedOnce, IsTooLong, IsTree};
-ghost use Rattle.peephole_graphs.specs.Rebuild.{told_tree, AreAsked, IsLaidOut, IsToldBy};
+ghost use Rattle.peephole_graphs.specs.Rebuild.{CanAnswer, NodeIsReached, IsReachedOnce, TreeIsTooLong, IsRebuiltTree};
+ghost use Rattle.peephole_graphs.specs.Rebuild.{told_tree, AreNodesOfTree, IsLaidOut, IsToldBy};
 
 use crate::layout::add_own;
 use mutate_base::Error;
@@ -18,15 +18,15 @@ fn ask_tree<'a, L: Language + 'a, F: Fn(Id) -> &'a L>(
     root: Id,
     id_to_lang: F,
 ) -> Result<Vec<&'a L>, Error>
-    requires { (id : Id) → IsReached (CanAnswer L.head L.children (F.post id_to_lang)) root.0 id.0
+    requires { (id : Id) → NodeIsReached (CanAnswer L.head L.children (F.post id_to_lang)) root.0 id.0
         → F.pre id_to_lang id }
     ensures tree { IfOk result (λ nodes. (t : Term _)
-        × IsTree (CanAnswer L.head L.children (F.post id_to_lang)) root.0 t
-        × AreAsked L.head L.children nodes.items t) }
+        × IsRebuiltTree (CanAnswer L.head L.children (F.post id_to_lang)) root.0 t
+        × AreNodesOfTree L.head L.children nodes.items t) }
     ensures few { IfOk result (λ nodes. length nodes.items ≤ 2 ^ 32) }
     ensures refused { IfErr result (λ e. (e ≡ Error.Memory)
         ⊎ ((e ≡ Error.TooLarge)
-        × IsTooLong (CanAnswer L.head L.children (F.post id_to_lang)) root.0)) }
+        × TreeIsTooLong (CanAnswer L.head L.children (F.post id_to_lang)) root.0)) }
 {
     const LIMIT: usize = 4294967296;
     let mut nodes = Vec::new(alloc);
@@ -45,10 +45,10 @@ fn ask_tree<'a, L: Language + 'a, F: Fn(Id) -> &'a L>(
 
 // The tree of those nodes laid out.
 fn lay_asked<L: Language>(alloc: Global, mut asked: Vec<&L>) -> Result<RecExpr<L>, Error>
-    requires tree { (t : Term _) × IsWhole t × AreAsked L.head L.children asked.items t }
+    requires tree { (t : Term _) × IsWhole t × AreNodesOfTree L.head L.children asked.items t }
     requires few { length asked.items ≤ 2 ^ 32 }
     ensures laid { IfOk result (λ expr. (t : Term _) → IsWhole t
-        → AreAsked L.head L.children asked.entry.items t → IsLaidOut L.head L.children t expr) }
+        → AreNodesOfTree L.head L.children asked.entry.items t → IsLaidOut L.head L.children t expr) }
     ensures refused { IfErr result (λ e. e ≡ Error.Memory) }
 {
     let mut expr = RecExpr::new(alloc);
@@ -72,17 +72,17 @@ pub fn build_expr<'a, L: Language + 'a, F: Fn(Id) -> &'a L>(
     id_to_lang: F,
 ) -> Result<RecExpr<L>, Error>
     requires may { (id : Id)
-        → IsReached (CanAnswer L.head L.children (F.post id_to_lang)) root.0 id.0
+        → NodeIsReached (CanAnswer L.head L.children (F.post id_to_lang)) root.0 id.0
         → F.pre id_to_lang id }
     ensures laid { IfOk result (λ expr. (t : Term _)
-        × IsTree (CanAnswer L.head L.children (F.post id_to_lang)) root.0 t
+        × IsRebuiltTree (CanAnswer L.head L.children (F.post id_to_lang)) root.0 t
         × IsLaidOut L.head L.children t expr) }
     ensures told { (nodes : List _)
         → IsToldBy (CanAnswer L.head L.children (F.post id_to_lang)) root.0 nodes
         → IfOk result (λ expr. IsLaidOut L.head L.children (told_tree nodes root.0) expr) }
     ensures refused { IfErr result (λ e. (e ≡ Error.Memory)
         ⊎ ((e ≡ Error.TooLarge)
-        × IsTooLong (CanAnswer L.head L.children (F.post id_to_lang)) root.0)) }
+        × TreeIsTooLong (CanAnswer L.head L.children (F.post id_to_lang)) root.0)) }
     ensures once { IsReachedOnce (CanAnswer L.head L.children (F.post id_to_lang)) root.0
         → IfErr result (λ e. e ≡ Error.Memory) }
     ensures too_large { (nodes : List _)

@@ -9,11 +9,11 @@ use Rattle.peephole_lang.specs.declared.lang.Head.{Head}
 use Rattle.peephole_lang.specs.declared.lang.Lang.{Lang}
 use Rattle.peephole_nodes.specs.declared.payload.Payload.{Payload}
 use Rattle.peephole_lang.specs.laws.Fits.{fits_own}
-use Rattle.peephole_lang.specs.Lang.{place_of, payload_of, ids_of, count_of}
+use Rattle.peephole_lang.specs.Lang.{place_of, payload_of, ids_of, variant_child_count}
 use Rattle.peephole_lang.specs.Language.{IsSame}
 use Rattle.peephole_nodes.specs.laws.VariantLemmas.{HasVariant, has_variant}
-use Rattle.peephole_lang.specs.Node.{IsNode, head_of, instr_of, instr_of_head, takes, takes_children}
-use Rattle.peephole_nodes.specs.Payload.{imm_of, payload_of_imm, is_of, is_writable}
+use Rattle.peephole_lang.specs.Node.{IsNode, head_of, instr_of, instr_of_head, row_takes_count, takes_children}
+use Rattle.peephole_nodes.specs.Payload.{imm_of, payload_of_imm, is_payload_of, is_writable}
 use Rattle.peephole_nodes.specs.laws.PayloadLemmas.{imm_back}
 use Rattle.peephole_nodes.specs.Variants.{Variant, variant_at}
 use Rattle.peephole_lang.proofs.RowLemmas.{has_row}
@@ -47,11 +47,11 @@ head_of_instr h i e =
         let same = same_Some _ _ e in
         record { above = above; row = ap (λ (x : Instruction). x.row) same; imm = ap (λ (x : Instruction). x.imm) same }
 
-own_variant : (l : Lang) → HasVariant (place_of l) (payload_of l) (count_of l)
-own_variant l = has_variant (place_of l) (payload_of l) (count_of l) (fits_own l)
+own_variant : (l : Lang) → HasVariant (place_of l) (payload_of l) (variant_child_count l)
+own_variant l = has_variant (place_of l) (payload_of l) (variant_child_count l) (fits_own l)
 
 -- the instruction takes the node's children
-pub takes_own : (l : Lang) (i : Instruction) (n : ℕ) → instr_of l ≡ Some i → n ≡ count_of l → takes_children i.row n ≡ true
+pub takes_own : (l : Lang) (i : Instruction) (n : ℕ) → instr_of l ≡ Some i → n ≡ variant_child_count l → takes_children i.row n ≡ true
 unfolding row_info_of
 takes_own l i n e c =
     let h = head_of_instr (head_of l) i e in
@@ -59,12 +59,13 @@ takes_own l i n e c =
     let above = h.above in
     let again : 12 + (place_of l - 12) ≡ place_of l = omega arith in
     let row = has_row (place_of l - 12) own.variant (ap variant_at again ∙ own.at) in
-    ap₂ (λ r k. takes_children r k) (sym h.row) c ∙ (ap (λ r. takes (info_in r) (count_of l)) row.1.0 ∙ (row.1.1.operands (count_of l) ∙ own.right))
+    ap₂ (λ r k. takes_children r k) (sym h.row) c ∙ (ap (λ r. row_takes_count (info_in r) (variant_child_count l)) row.1.0
+    ∙ (row.1.1.operands (variant_child_count l) ∙ own.right))
 
 pub instr_takes : (l : Lang) (i : Instruction) → IsNode l → instr_of l ≡ Some i → takes_children i.row (length (ids_of l)) ≡ true
 instr_takes l i is e = takes_own l i (length (ids_of l)) e is.1
 
-same_payloads : (v w : Variant) (p q : Payload) → v ≡ w → is_of v.payload p ≡ true → is_of w.payload q ≡ true → imm_of p ≡ imm_of q → p ≡ q
+same_payloads : (v w : Variant) (p q : Payload) → v ≡ w → is_payload_of v.payload p ≡ true → is_payload_of w.payload q ≡ true → imm_of p ≡ imm_of q → p ≡ q
 same_payloads v w p q same a b e =
     same_Some p q
     (sym (imm_back v.payload p a) ∙ (ap₂ (λ (x : Variant) i. payload_of_imm x.payload i) same e ∙ imm_back w.payload q b))

@@ -17,16 +17,16 @@ use Rattle.peephole_nodes.specs.declared.payload.PayloadKind.TheVariants as kind
 use Rattle.peephole_lang.specs.declared.variants.VariantRow.{VariantRow}
 use Rattle.peephole_lang.specs.VariantRows.{variant_row}
 use Rattle.peephole_lang.specs.laws.Fits.{fits_own}
-use Rattle.peephole_lang.specs.Lang.{place_of, payload_of, count_of}
+use Rattle.peephole_lang.specs.Lang.{place_of, payload_of, variant_child_count}
 use Rattle.peephole_lang.specs.laws.MadeLemmas.{fits_made}
 use Rattle.peephole_nodes.specs.laws.VariantLemmas.{has_variant}
 use Rattle.peephole_lang.specs.Making.{is_made}
-use Rattle.peephole_lang.specs.Node.{instr_of, takes, takes_children}
-use Rattle.peephole_nodes.specs.Payload.{imm_of, payload_of_imm, is_of, is_writable}
+use Rattle.peephole_lang.specs.Node.{instr_of, row_takes_count, takes_children}
+use Rattle.peephole_nodes.specs.Payload.{imm_of, payload_of_imm, is_payload_of, is_writable}
 use Rattle.peephole_nodes.specs.PayloadKind.{imm_kind}
 use Rattle.peephole_nodes.specs.laws.PayloadLemmas.{imm_fits, of_imm_back, of_imm_some}
 use Rattle.peephole_lang.specs.laws.TableLemmas.{place_is}
-use Rattle.peephole_nodes.specs.Variants.{Variant, variant_at, is_right, is_node_of, fits}
+use Rattle.peephole_nodes.specs.Variants.{Variant, variant_at, is_right, is_node_of, variant_fits}
 use Rattle.std.specs.Option.{option_map}
 use Rattle.peephole_lang.proofs.InstrLaws.{takes_own}
 use Rattle.peephole_lang.proofs.RowLemmas.{IsOfRow, has_row}
@@ -35,7 +35,7 @@ use Rattle.peephole_lang.proofs.RowLemmas.{has_variant as has_variant_of_row}
 -- an instruction of the node's row says its payload exactly where the node is writable
 is_row : (l : Lang) → 12 ≤ place_of l → fits_row (row_at (place_of l - 12)) (imm_of (payload_of l)) ≡ is_writable (payload_of l)
 is_row l h =
-    let own = has_variant (place_of l) (payload_of l) (count_of l) (fits_own l) in
+    let own = has_variant (place_of l) (payload_of l) (variant_child_count l) (fits_own l) in
     let again : 12 + (place_of l - 12) ≡ place_of l = omega arith in
     let row = has_row (place_of l - 12) own.variant (ap variant_at again ∙ own.at) in
     ap (λ r. fits_row r (imm_of (payload_of l))) row.1.0
@@ -81,11 +81,12 @@ all_fit false b e = absurd cc
 -- what is made is what fits
 made_fits : (result : Option Lang) (place : ℕ) (p : Payload) (given : ℕ) → IfSome result (λ l. place_of l ≡ place) →
     IfSome result (λ l. payload_of l ≡ p)
-    → IfSome result (λ l. count_of l ≡ given) → is_some result ≡ is_made place p given → is_some result ≡ fits place p given
-made_fits (Some l) place p given at same count made = sym (fits_own l) ∙ (ap₂ (λ n q. fits n q (count_of l)) at same ∙ ap (fits place p) count)
-made_fits None place p given at same count made = none_fits (fits place p given) refl
+    → IfSome result (λ l. variant_child_count l ≡ given) → is_some result ≡ is_made place p given → is_some result ≡ variant_fits place p given
+made_fits (Some l) place p given at same count made = sym (fits_own l)
+    ∙ (ap₂ (λ n q. variant_fits n q (variant_child_count l)) at same ∙ ap (variant_fits place p) count)
+made_fits None place p given at same count made = none_fits (variant_fits place p given) refl
   where
-    none_fits : (b : Bool) → fits place p given ≡ b → false ≡ fits place p given
+    none_fits : (b : Bool) → variant_fits place p given ≡ b → false ≡ variant_fits place p given
     none_fits true e = absurd (true≢false (sym (fits_made place p given e) ∙ sym made))
     none_fits false e = sym e
 
@@ -149,7 +150,7 @@ says_instr i is v p node l at same =
 
 -- and is there exactly where the row takes so many children
 pub takes_made : (i : Instruction) → IsInstruction i → (v : Variant) (p : Payload) → IsNodeOf i v p → (result : Option Lang) (given : ℕ)
-    → IfSome result (λ l. place_of l ≡ v.place) → IfSome result (λ l. payload_of l ≡ p) → IfSome result (λ l. count_of l ≡ given)
+    → IfSome result (λ l. place_of l ≡ v.place) → IfSome result (λ l. payload_of l ≡ p) → IfSome result (λ l. variant_child_count l ≡ given)
     → is_some result ≡ is_made v.place p given → is_some result ≡ takes_children i.row given
 unfolding row_info_of
 takes_made i is v p node result given at same count made =
@@ -159,9 +160,9 @@ takes_made i is v p node result given at same count made =
     made_fits result v.place p given at same count made
     ∙ (ap (λ n. is_node_of (variant_at n) p given) node.own
     ∙ (ap (λ o. is_node_of o p given) node.at
-    ∙ (all_fit (is_of v.payload p) (is_right v.children given) back.1
+    ∙ (all_fit (is_payload_of v.payload p) (is_right v.children given) back.1
     ∙ (ap (λ (w : Variant). is_right w.children given) (sym same_variant)
-    ∙ (sym (known.1.1.1.1.0.operands given) ∙ sym (ap (λ r. takes (info_in r) given) known.1.1.1.0))))))
+    ∙ (sym (known.1.1.1.1.0.operands given) ∙ sym (ap (λ r. row_takes_count (info_in r) given) known.1.1.1.0))))))
 
 -- a node at the place of the instruction's row that says its immediate says the instruction
 pub says_imm : (i : Instruction) → IsInstruction i → (l : Lang) → place_of l ≡ 12 + i.row → imm_of (payload_of l) ≡ i.imm → instr_of l ≡ Some i
@@ -178,18 +179,18 @@ only_nothing : (x : Imm) → is_of_kind Kind.Nothing x ≡ true → x ≡ imm.No
 only_nothing imm.Nothing e = refl
 only_nothing _ e = absurd (false≢true e)
 
-kind_of_nothing : (k : PayloadKind) → is_of k payload.Nothing ≡ true → imm_kind k ≡ Kind.Nothing
+kind_of_nothing : (k : PayloadKind) → is_payload_of k payload.Nothing ≡ true → imm_kind k ≡ Kind.Nothing
 kind_of_nothing kind.Nothing e = refl
 kind_of_nothing _ e = absurd (false≢true e)
 
 -- a node at that place without a payload says the instruction
 pub says_nothing : (i : Instruction) → IsInstruction i → (l : Lang) → place_of l ≡ 12 + i.row → payload_of l ≡ payload.Nothing → instr_of l ≡ Some i
 says_nothing i is l at plain =
-    let own = has_variant (place_of l) (payload_of l) (count_of l) (fits_own l) in
+    let own = has_variant (place_of l) (payload_of l) (variant_child_count l) (fits_own l) in
     let known = variant_of_instr i is in
     let same : known.0 ≡ own.variant = same_Some _ _ (sym known.1.0 ∙ (ap variant_at (sym at) ∙ own.at)) in
     let kind : imm_kind known.0.payload ≡ Kind.Nothing = ap (λ (v : Variant). imm_kind v.payload) same
-    ∙ kind_of_nothing own.variant.payload (sym (ap (is_of own.variant.payload) plain) ∙ own.kind) in
+    ∙ kind_of_nothing own.variant.payload (sym (ap (is_payload_of own.variant.payload) plain) ∙ own.kind) in
     let none : i.imm ≡ imm.Nothing = only_nothing i.imm (sym (ap (λ k. is_of_kind k i.imm) (known.1.1.1.1.0.kind ∙ kind)) ∙ known.1.1.1.1.1) in
     says_imm i is l at (ap imm_of plain ∙ sym none)
 
@@ -206,7 +207,7 @@ pub imm_says : (i : Instruction) → IsInstruction i → (row : ℕ) → row ≡
 imm_says i is row same x whose l at says = says_imm i is l (at ∙ ap (λ n. 12 + n) same) (says ∙ whose)
 
 -- with as many children as the row takes
-pub made_takes : (i : Instruction) (l : Lang) (given : ℕ) → count_of l ≡ given → instr_of l ≡ Some i → true ≡ takes_children i.row given
+pub made_takes : (i : Instruction) (l : Lang) (given : ℕ) → variant_child_count l ≡ given → instr_of l ≡ Some i → true ≡ takes_children i.row given
 made_takes i l given count says = sym (takes_own l i given says (sym count))
 
 found_row : (i : Instruction) → IsInstruction i → (o : Option VariantRow) → o ≡ option_map variant_row (variant_at (12 + i.row)) →
@@ -224,7 +225,8 @@ no_variant_row o told e f = some_none told (sym e ∙ f)
     some_none told e = cc
 
 -- the table has a row for the instruction
-pub has_variant_row : (i : Instruction) → IsInstruction i → (row : ℕ) (o : Option VariantRow) → row ≡ i.row → o ≡ option_map variant_row (variant_at (12 + row)) →
+pub has_variant_row : (i : Instruction) → IsInstruction i → (row : ℕ) (o : Option VariantRow) → row ≡ i.row →
+    o ≡ option_map variant_row (variant_at (12 + row)) →
     o ≡ None → ⊥
 has_variant_row i is row o same e none = let f = found_row i is o (at_row row i o same e) in no_variant_row o (variant_row f.0) f.1.1 none
 
@@ -273,7 +275,7 @@ says_found i is told p found None at same = at
 says_found i is told p found (Some l) at same = says_instr i is found.variant p found.node l (at ∙ sym found.place) same
 
 pub takes_found : (i : Instruction) → IsInstruction i → (told : VariantRow) (p : Payload) → IsFound i told p → (result : Option Lang) (given : ℕ)
-    → IfSome result (λ l. place_of l ≡ told.place) → IfSome result (λ l. payload_of l ≡ p) → IfSome result (λ l. count_of l ≡ given)
+    → IfSome result (λ l. place_of l ≡ told.place) → IfSome result (λ l. payload_of l ≡ p) → IfSome result (λ l. variant_child_count l ≡ given)
     → is_some result ≡ is_made told.place p given → is_some result ≡ takes_children i.row given
 takes_found i is told p found None given at same count made = takes_made i is found.variant p found.node None given at same count (made
     ∙ ap (λ n. is_made n p given) (sym found.place))

@@ -15,7 +15,7 @@ use Rattle.peephole_lang.specs.laws.Fits.{fits_own}
 use Rattle.peephole_lang.specs.Lang.{place_of, payload_of, ids_of}
 use Rattle.peephole_lang.specs.Language.{IsSame}
 use Rattle.peephole_lang.specs.Node.{IsNode, head_of}
-use Rattle.peephole_nodes.specs.Variants.{fits}
+use Rattle.peephole_nodes.specs.Variants.{variant_fits}
 use Rattle.peephole_lang.specs.laws.NodeLemmas.{same_head}
 
 eq_says : (l m : Lang) → lang_eq l m ≡ true → IsSame head_of ids_of l m
@@ -46,5 +46,5 @@ pub payloads_equal : (p q : Payload) → Decides (payload_eq.ghosts.eq p q) (p �
 payloads_equal p q = (same_payload p q, payload_itself p q)
 
 -- a node's place, payload and number of children are a variant's
-pub fits_again : (l : Lang) → IsNode l → fits (place_of l) (payload_of l) (length (ids_of l)) ≡ true
-fits_again l is = ap (fits (place_of l) (payload_of l)) is.1 ∙ fits_own l
+pub fits_again : (l : Lang) → IsNode l → variant_fits (place_of l) (payload_of l) (length (ids_of l)) ≡ true
+fits_again l is = ap (variant_fits (place_of l) (payload_of l)) is.1 ∙ fits_own l

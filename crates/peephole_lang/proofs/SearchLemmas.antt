@@ -17,15 +17,16 @@ use Rattle.peephole_nodes.specs.Variants.{Variant, variants, variant_at}
 use Rattle.peephole_lang.specs.Names.{rest_after, find_in}
 use Rattle.peephole_lang.specs.VariantRows.{variant_row, found, place_found}
 use Rattle.peephole_lang.specs.Fronts.{front_order}
-use Rattle.peephole_nodes.specs.Fronts.{front_of, front_at}
+use Rattle.peephole_nodes.specs.Fronts.{variant_front_of, front_at}
 use Rattle.peephole_lang.specs.laws.TableLemmas.{place_is, is_known}
 use Rattle.peephole_lang.specs.laws.FrontLemmas.{after_is, after_none}
-use Rattle.peephole_lang.specs.laws.VariantLemmas.{fit, fits_where_equal, standings_rise, standing_at, stands_equal, found_at, found_is, not_found, behind_front}
+use Rattle.peephole_lang.specs.laws.VariantLemmas.{fit, fits_where_equal, standings_rise, standing_at, stands_equal, found_at, found_is}
+use Rattle.peephole_lang.specs.laws.VariantLemmas.{not_found, behind_front}
 
 -- ---- a place that is found
 
-pub front_known : (place : ℕ) (v : Variant) → variant_at place ≡ Some v → front_at place ≡ front_of v
-front_known place v at = ap (λ known. unwrap_or (option_map front_of known) []) at
+pub front_known : (place : ℕ) (v : Variant) → variant_at place ≡ Some v → front_at place ≡ variant_front_of v
+front_known place v at = ap (λ known. unwrap_or (option_map variant_front_of known) []) at
 
 fits_at : (o : Option (List ℕ)) (place : ℕ) (v : Variant) (text : List ℕ) → variant_at place ≡ Some v → fit v text ≡ o → is_some o ≡ true
     → Some place ≡ place_found (find_in variants text)
@@ -36,7 +37,7 @@ stands_at : (o : Option Variant) (place : ℕ) (text : List ℕ) → variant_at 
     → Some place ≡ place_found (find_in variants text)
 stands_at None place text at some equal = absurd cc
 stands_at (Some v) place text at some equal =
-    let equal_there : front_order (front_of v) text ≡ Equal = ap (λ front. front_order front text) (sym (front_known place v at)) ∙ equal in
+    let equal_there : front_order (variant_front_of v) text ≡ Equal = ap (λ front. front_order front text) (sym (front_known place v at)) ∙ equal in
     let fits : is_some (fit v text) ≡ true = fits_where_equal place v text at ∙ ap is_eq equal_there in
     fits_at (fit v text) place v text at refl fits
 

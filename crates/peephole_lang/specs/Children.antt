@@ -1,13 +1,13 @@
 -- The children of a node as a value of its own: one id, several, or any number of them (this project).
 use Rattle.std.specs.Prelude.{◌≡◌, ℕ, List, [], ◌∷◌, length, slice_index_or, Option, Some, None, Result, Ok, Err}
-use Rattle.node_payloads.specs.declared.term_error.TermError.{TermError}
+use Rattle.peephole_payloads.specs.declared.term_error.TermError.{TermError}
 use Rattle.peephole_nodes.specs.declared.id.Id.{Id}
 use Rattle.peephole_nodes.specs.Written.{one_written}
 
 -- the value of these ids, or what is wrong with their number
-abbrev pub IsMadeOf : {C : Type 0} → (C → List Id) → (ℕ → Option TermError) → List Id → Result C TermError → Type 0
-IsMadeOf ids wrong given (Ok c) = (wrong (length given) ≡ None) × (ids c ≡ given)
-IsMadeOf ids wrong given (Err e) = wrong (length given) ≡ Some e
+abbrev pub IsMadeOfIds : {C : Type 0} → (C → List Id) → (ℕ → Option TermError) → List Id → Result C TermError → Type 0
+IsMadeOfIds ids wrong given (Ok c) = (wrong (length given) ≡ None) × (ids c ≡ given)
+IsMadeOfIds ids wrong given (Err e) = wrong (length given) ≡ Some e
 
 abbrev pub only : Id → List Id
 only id = id ∷ []

@@ -5,7 +5,8 @@ use Rattle.std.specs.Hash.{HashWrites, Alike}
 use Rattle.std.specs.Ordering.{on, eq_of_both, as_partial_cmp, eq_by_cmp}
 use Rattle.std.specs.Cmp.{IsEquivalence, IsPartialEquivalence, IsTotalOrder, IsPartialOrder}
 use Rattle.std.specs.declared.cmp.Ordering.{Ordering}
-use Rattle.peephole_nodes.specs.Compared.{node_eq, node_cmp, node_hash, node_equiv, node_partial_equiv, node_total, node_ties, node_agrees, node_order, node_alike}
+use Rattle.peephole_nodes.specs.Compared.{node_eq, node_cmp, node_hash, node_equiv, node_partial_equiv, node_total, node_ties, node_agrees}
+use Rattle.peephole_nodes.specs.Compared.{node_order, node_alike}
 use Rattle.peephole_nodes.specs.contracts.payload.PayloadPartialEq.TheImpl as payload_eq
 use Rattle.peephole_lang.specs.declared.lang.Lang.{Lang}
 use Rattle.peephole_lang.specs.Lang.{place_of, payload_of, ids_of}

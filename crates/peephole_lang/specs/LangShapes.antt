@@ -23,7 +23,8 @@ unfoldable pub is_index_three : ℕ → Bool
 is_index_three place = place == 194 || place == 200
 
 unfoldable pub is_memory_one : ℕ → Bool
-is_memory_one place = place == 23 || place == 24 || place == 25 || place == 26 || place == 27 || place == 28 || place == 29 || place == 30 || place == 31 || place == 32 || place == 33 || place == 34 || place == 35 || place == 36
+is_memory_one place = place == 23 || place == 24 || place == 25 || place == 26 || place == 27 || place == 28 || place == 29 || place == 30
+    || place == 31 || place == 32 || place == 33 || place == 34 || place == 35 || place == 36
 
 unfoldable pub is_memory_two : ℕ → Bool
 is_memory_two place = place == 37 || place == 38 || place == 39 || place == 40 || place == 41 || place == 42 || place == 43 || place == 44 || place == 45

@@ -3,7 +3,7 @@ use Rattle.std.specs.Prelude.{◌≡◌, ℕ, List, length, Bool, Result, Ok, Er
 use Rattle.std.specs.Bool.{Decides, one_answer}
 use Rattle.std.specs.Cmp.{IsEquivalence}
 use Rattle.std.proofs.Common.{sym, ◌∙◌}
-use Rattle.node_payloads.specs.declared.term_error.TermError.{TermError}
+use Rattle.peephole_payloads.specs.declared.term_error.TermError.{TermError}
 use Rattle.peephole_nodes.specs.declared.id.Id.{Id}
 
 module _ {L H : Type 0} (head : L → H) (ids : L → List Id) where
@@ -24,8 +24,16 @@ module _ {L H : Type 0} (head : L → H) (ids : L → List Id) where
   pub alike_equivalence : (test : L → L → Bool) → ((l m : L) → Decides (test l m) (IsAlike l m)) → IsEquivalence test
   alike_equivalence test decides = record {
     refl = λ l. (decides l l).1 (refl, refl);
-    symm = λ l m. one_answer (test l m) (test m l) (decides l m) (λ e. let a = (decides m l).0 e in (sym a.0, sym a.1), λ a. (decides m l).1 (sym a.0, sym a.1));
+    symm = λ l m. one_answer (test l m) (test m l) (decides l m) (
+      λ e. let a = (decides m l).0 e in
+          (sym a.0, sym a.1),
+      λ a. (decides m l).1 (sym a.0, sym a.1),
+    );
     congr = λ l m n e.
         let a = (decides l m).0 e in
-        one_answer (test l n) (test m n) (decides l n) (λ f. let b = (decides m n).0 f in (a.0 ∙ b.0, a.1 ∙ b.1), λ b. (decides m n).1 (sym a.0 ∙ b.0, sym a.1 ∙ b.1));
+        one_answer (test l n) (test m n) (decides l n) (
+          λ f. let b = (decides m n).0 f in
+              (a.0 ∙ b.0, a.1 ∙ b.1),
+          λ b. (decides m n).1 (sym a.0 ∙ b.0, sym a.1 ∙ b.1),
+        );
   }

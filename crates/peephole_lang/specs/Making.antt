@@ -3,7 +3,7 @@ use Rattle.std.specs.Prelude.{ℕ, ◌==◌, ◌||◌, Bool, true, false, if◌t
 use Rattle.peephole_nodes.specs.declared.payload.Payload.{Payload}
 use Rattle.peephole_nodes.specs.declared.payload.Payload.TheVariants as payload
 use Rattle.peephole_lang.specs.LangShapes as lang
-use Rattle.peephole_nodes.specs.NumericShapes.{is_numeric}
+use Rattle.peephole_nodes.specs.NumericShapes.{is_numeric_node}
 use Rattle.peephole_nodes.specs.SimdShapes.{is_simd, is_simd_plain}
 
 -- the children are a list: those of `container` and `call`
@@ -18,8 +18,8 @@ is_few place count =
     if count == 1 then lang.is_plain_one place else
     if count == 0 then lang.is_plain_leaf place else false
 
-abbrev pub is_plain : ℕ → ℕ → Bool
-is_plain place count = if place == 11 then true else is_numeric place count || (is_simd_plain place count || is_few place count)
+abbrev pub is_plain_node : ℕ → ℕ → Bool
+is_plain_node place count = if place == 11 then true else is_numeric_node place count || (is_simd_plain place count || is_few place count)
 
 abbrev pub is_index : ℕ → ℕ → Bool
 is_index place count =
@@ -29,8 +29,8 @@ is_index place count =
     if count == 1 then lang.is_index_one place else
     if count == 0 then lang.is_index_leaf place else false
 
-abbrev pub is_memory : ℕ → ℕ → Bool
-is_memory place count = if count == 2 then lang.is_memory_two place else if count == 1 then lang.is_memory_one place else false
+abbrev pub is_memory_node : ℕ → ℕ → Bool
+is_memory_node place count = if count == 2 then lang.is_memory_two place else if count == 1 then lang.is_memory_one place else false
 
 -- with a payload that only a node without children has, or only one with three
 abbrev pub is_single : ℕ → Payload → ℕ → Bool
@@ -48,9 +48,9 @@ is_single _ _ _ = false
 
 -- a node is made of that place, that payload and that many children
 abbrev pub is_made : ℕ → Payload → ℕ → Bool
-is_made place payload.Nothing count = is_plain place count
+is_made place payload.Nothing count = is_plain_node place count
 is_made place (payload.Index _) count = is_index place count
-is_made place (payload.Memory m) count = is_simd place (payload.Memory m) count || is_memory place count
+is_made place (payload.Memory m) count = is_simd place (payload.Memory m) count || is_memory_node place count
 is_made place (payload.Lane lane) count = is_simd place (payload.Lane lane) count
 is_made place (payload.V128 z) count = is_simd place (payload.V128 z) count
 is_made place (payload.MemoryLane m) count = is_simd place (payload.MemoryLane m) count

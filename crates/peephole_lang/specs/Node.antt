@@ -6,7 +6,7 @@ use Rattle.wasm_code.specs.Table.{row_info_of}
 use Rattle.wasm_code.specs.declared.table.RowInfo.{RowInfo}
 use Rattle.peephole_lang.specs.declared.lang.Head.{Head}
 use Rattle.peephole_lang.specs.declared.lang.Lang.{Lang}
-use Rattle.peephole_lang.specs.Lang.{place_of, payload_of, ids_of, count_of}
+use Rattle.peephole_lang.specs.Lang.{place_of, payload_of, ids_of, variant_child_count}
 use Rattle.peephole_nodes.specs.Payload.{imm_of, is_writable}
 use Rattle.peephole_lang.specs.Term.{Node, numbers_of}
 
@@ -22,7 +22,7 @@ node_of l = record { head = head_of l; children = children_of l }
 
 -- its numbers are of their types, and it has as many children as its variant
 abbrev pub IsNode : Lang → Type 0
-IsNode l = InRange (imm_of (payload_of l)) × (length (ids_of l) ≡ count_of l)
+IsNode l = InRange (imm_of (payload_of l)) × (length (ids_of l) ≡ variant_child_count l)
 
 -- the two nodes say the same, and have the same children
 abbrev pub SameNode : Lang → Lang → Type 0
@@ -45,10 +45,10 @@ abbrev pub is_count : Option ℕ → ℕ → Bool
 is_count None count = true
 is_count (Some operands) count = operands == count
 
-abbrev pub takes : Option RowInfo → ℕ → Bool
-takes None count = false
-takes (Some info) count = is_count info.operands count
+abbrev pub row_takes_count : Option RowInfo → ℕ → Bool
+row_takes_count None count = false
+row_takes_count (Some info) count = is_count info.operands count
 
 -- the row takes that many children
 abbrev pub takes_children : ℕ → ℕ → Bool
-takes_children row count = takes (row_info_of row) count
+takes_children row count = row_takes_count (row_info_of row) count

@@ -1,8 +1,8 @@
 -- The text of a node, and which node a text reads as (this project): the name of its variant, and where it has a payload
 -- a dot and the payload.
 use Rattle.std.specs.Prelude.{◌≡◌, ℕ, ◌==◌, List, length, Option, Some, None, Result, Ok, Err, if◌then◌else◌}
-use Rattle.node_payloads.specs.declared.term_error.TermError.{TermError}
-use Rattle.node_payloads.specs.declared.term_error.TermError.TheVariants.{InvalidToken, ExpectedZeroChildren, ExpectedOneChild, ExpectedChildren}
+use Rattle.peephole_payloads.specs.declared.term_error.TermError.{TermError}
+use Rattle.peephole_payloads.specs.declared.term_error.TermError.TheVariants.{InvalidToken, ExpectedZeroChildren, ExpectedOneChild, ExpectedChildren}
 use Rattle.peephole_nodes.specs.declared.id.Id.{Id}
 use Rattle.peephole_lang.specs.declared.lang.Head.{Head}
 use Rattle.peephole_lang.specs.declared.lang.Lang.{Lang}
@@ -50,6 +50,6 @@ abbrev pub reads : List ℕ → ℕ → Result Head TermError
 reads text count = read_found (find_in variants text) count
 
 -- the node that the text with these children reads as, or the refusal
-abbrev pub ReadsAs : List ℕ → List Id → Result Lang TermError → Type 0
-ReadsAs text ids (Ok l) = (reads text (length ids) ≡ Ok (head_of l)) × (ids_of l ≡ ids)
-ReadsAs text ids (Err e) = reads text (length ids) ≡ Err e
+abbrev pub NodeReadsAs : List ℕ → List Id → Result Lang TermError → Type 0
+NodeReadsAs text ids (Ok l) = (reads text (length ids) ≡ Ok (head_of l)) × (ids_of l ≡ ids)
+NodeReadsAs text ids (Err e) = reads text (length ids) ≡ Err e

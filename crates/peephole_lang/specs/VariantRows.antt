@@ -9,9 +9,9 @@ abbrev pub variant_row : Variant → VariantRow
 variant_row v = record { place = v.place; payload = v.payload; children = v.children }
 
 -- a row and a text that a function gives
-abbrev pub given : Option (VariantRow × Bor (List ℕ)) → Option (VariantRow × List ℕ)
-given None = None
-given (Some x) = Some (x.0, x.1.now)
+abbrev pub variant_row_given : Option (VariantRow × Bor (List ℕ)) → Option (VariantRow × List ℕ)
+variant_row_given None = None
+variant_row_given (Some x) = Some (x.0, x.1.now)
 
 -- the row of the variant that was found, and the text of the payload
 abbrev pub found : Option (Variant × List ℕ) → Option (VariantRow × List ℕ)

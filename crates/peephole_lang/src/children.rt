@@ -2,16 +2,16 @@
 ghost use Rattle.std.specs.Prelude.{◌≡◌, ℕ, List, length, Option, None, refl};
 ghost use Rattle.std.specs.Borrow.{sem, Lends, Array};
 ghost use Rattle.std.specs.Vec.{with_items};
-ghost use Rattle.node_payloads.specs.declared.term_error.TermError.{TermError};
+ghost use Rattle.peephole_payloads.specs.declared.term_error.TermError.{TermError};
 ghost use Rattle.peephole_nodes.specs.contracts.id.Id as id_row;
 ghost use Rattle.peephole_nodes.specs.declared.id.Id.{Id};
 ghost use Rattle.peephole_nodes.specs.declared.arity.Arity.TheVariants as arity;
 ghost use Rattle.peephole_lang.specs.Text.{wrong_count};
 ghost use Rattle.peephole_nodes.specs.Written.{any_written};
-ghost use Rattle.peephole_lang.specs.Children.{IsMadeOf, only, with_only, only_one, only_same, only_written};
+ghost use Rattle.peephole_lang.specs.Children.{IsMadeOfIds, only, with_only, only_one, only_same, only_written};
 
-use node_payloads::TermError;
 use peephole_nodes::Id;
+use peephole_payloads::TermError;
 
 /// The children of a node: an `Id` where it has one, `[Id; N]` where it has N, `Vec<Id>` where it may have any number.
 pub trait Children: Drop {
@@ -30,7 +30,7 @@ pub trait Children: Drop {
     /// The children that a list names, or what is wrong with their number: `ExpectedOneChild` with the number given,
     /// or `ExpectedChildren` with the number wanted.
     fn from(list: Vec<Id>) -> Result<Self, TermError>
-        ensures { IsMadeOf ids wrong list.items result };
+        ensures { IsMadeOfIds ids wrong list.items result };
 
     /// The ids, the first operand first.
     fn as_slice(&self) -> &[Id]

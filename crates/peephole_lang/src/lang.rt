@@ -1,6 +1,6 @@
 //! The nodes of peephole terms.
-use node_payloads::{F32, F64, MemArg, MemoryCopy, MemoryInit, RefType, TableCopy, TableInit};
 use peephole_nodes::{Id, Numeric, Payload, Simd};
+use peephole_payloads::{F32, F64, MemArg, MemoryCopy, MemoryInit, RefType, TableCopy, TableInit};
 use wasm_code::ValType;
 
 const _: () = prove!(size_of::<Lang>() <= 48);

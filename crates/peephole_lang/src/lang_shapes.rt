@@ -1,20 +1,20 @@
 //! Nodes by place, one function for each kind of payload and number of children.
 ghost use Rattle.std.specs.Prelude.{◌≡◌, IfSome, is_some, [], ◌∷◌};
-ghost use Rattle.peephole_lang.specs.Lang.{place_of, payload_of, ids_of, count_of};
+ghost use Rattle.peephole_lang.specs.Lang.{place_of, payload_of, ids_of, variant_child_count};
 ghost use Rattle.peephole_lang.specs.LangShapes.{is_plain_leaf, is_plain_one, is_plain_three, is_index_leaf, is_index_one, is_index_two, is_index_three, is_memory_one, is_memory_two, is_i32_leaf, is_i64_leaf, is_f32_leaf, is_f64_leaf, is_ref_leaf, is_memory_init_three, is_memory_copy_three, is_table_init_three, is_table_copy_three, is_value_three};
 ghost use Rattle.peephole_nodes.specs.declared.payload.Payload.TheVariants as P;
 
 use crate::lang::Lang;
-use node_payloads::{F32, F64, MemArg, MemoryCopy, MemoryInit, RefType, TableCopy, TableInit};
 use peephole_nodes::Id;
+use peephole_payloads::{F32, F64, MemArg, MemoryCopy, MemoryInit, RefType, TableCopy, TableInit};
 use wasm_code::ValType;
 
-#[tactic(auto, unfolding(crate::specs::LangShapes::is_plain_leaf, crate::specs::Lang::place_of, crate::specs::Lang::payload_of, crate::specs::Lang::ids_of, crate::specs::Lang::count_of))]
+#[tactic(auto, unfolding(crate::specs::LangShapes::is_plain_leaf, crate::specs::Lang::place_of, crate::specs::Lang::payload_of, crate::specs::Lang::ids_of, crate::specs::Lang::variant_child_count))]
 pub fn plain_leaf(place: u16) -> Option<Lang>
     ensures place { IfSome result (λ l. place_of l ≡ place) }
     ensures payload { IfSome result (λ l. payload_of l ≡ P.Nothing) }
     ensures children { IfSome result (λ l. ids_of l ≡ []) }
-    ensures count { IfSome result (λ l. count_of l ≡ 0) }
+    ensures count { IfSome result (λ l. variant_child_count l ≡ 0) }
     ensures complete { is_some result ≡ is_plain_leaf place }
 {
     match place {
@@ -28,12 +28,12 @@ pub fn plain_leaf(place: u16) -> Option<Lang>
     }
 }
 
-#[tactic(auto, unfolding(crate::specs::LangShapes::is_plain_one, crate::specs::Lang::place_of, crate::specs::Lang::payload_of, crate::specs::Lang::ids_of, crate::specs::Lang::count_of))]
+#[tactic(auto, unfolding(crate::specs::LangShapes::is_plain_one, crate::specs::Lang::place_of, crate::specs::Lang::payload_of, crate::specs::Lang::ids_of, crate::specs::Lang::variant_child_count))]
 pub fn plain_one(place: u16, child: Id) -> Option<Lang>
     ensures place { IfSome result (λ l. place_of l ≡ place) }
     ensures payload { IfSome result (λ l. payload_of l ≡ P.Nothing) }
     ensures children { IfSome result (λ l. ids_of l ≡ child ∷ []) }
-    ensures count { IfSome result (λ l. count_of l ≡ 1) }
+    ensures count { IfSome result (λ l. variant_child_count l ≡ 1) }
     ensures complete { is_some result ≡ is_plain_one place }
 {
     match place {
@@ -49,12 +49,12 @@ pub fn plain_one(place: u16, child: Id) -> Option<Lang>
     }
 }
 
-#[tactic(auto, unfolding(crate::specs::LangShapes::is_plain_three, crate::specs::Lang::place_of, crate::specs::Lang::payload_of, crate::specs::Lang::ids_of, crate::specs::Lang::count_of))]
+#[tactic(auto, unfolding(crate::specs::LangShapes::is_plain_three, crate::specs::Lang::place_of, crate::specs::Lang::payload_of, crate::specs::Lang::ids_of, crate::specs::Lang::variant_child_count))]
 pub fn plain_three(place: u16, first: Id, second: Id, third: Id) -> Option<Lang>
     ensures place { IfSome result (λ l. place_of l ≡ place) }
     ensures payload { IfSome result (λ l. payload_of l ≡ P.Nothing) }
     ensures children { IfSome result (λ l. ids_of l ≡ first ∷ second ∷ third ∷ []) }
-    ensures count { IfSome result (λ l. count_of l ≡ 3) }
+    ensures count { IfSome result (λ l. variant_child_count l ≡ 3) }
     ensures complete { is_some result ≡ is_plain_three place }
 {
     match place {
@@ -63,12 +63,12 @@ pub fn plain_three(place: u16, first: Id, second: Id, third: Id) -> Option<Lang>
     }
 }
 
-#[tactic(auto, unfolding(crate::specs::LangShapes::is_index_leaf, crate::specs::Lang::place_of, crate::specs::Lang::payload_of, crate::specs::Lang::ids_of, crate::specs::Lang::count_of))]
+#[tactic(auto, unfolding(crate::specs::LangShapes::is_index_leaf, crate::specs::Lang::place_of, crate::specs::Lang::payload_of, crate::specs::Lang::ids_of, crate::specs::Lang::variant_child_count))]
 pub fn index_leaf(place: u16, payload: u32) -> Option<Lang>
     ensures place { IfSome result (λ l. place_of l ≡ place) }
     ensures payload { IfSome result (λ l. payload_of l ≡ P.Index payload) }
     ensures children { IfSome result (λ l. ids_of l ≡ []) }
-    ensures count { IfSome result (λ l. count_of l ≡ 0) }
+    ensures count { IfSome result (λ l. variant_child_count l ≡ 0) }
     ensures complete { is_some result ≡ is_index_leaf place }
 {
     match place {
@@ -83,12 +83,12 @@ pub fn index_leaf(place: u16, payload: u32) -> Option<Lang>
     }
 }
 
-#[tactic(auto, unfolding(crate::specs::LangShapes::is_index_one, crate::specs::Lang::place_of, crate::specs::Lang::payload_of, crate::specs::Lang::ids_of, crate::specs::Lang::count_of))]
+#[tactic(auto, unfolding(crate::specs::LangShapes::is_index_one, crate::specs::Lang::place_of, crate::specs::Lang::payload_of, crate::specs::Lang::ids_of, crate::specs::Lang::variant_child_count))]
 pub fn index_one(place: u16, payload: u32, child: Id) -> Option<Lang>
     ensures place { IfSome result (λ l. place_of l ≡ place) }
     ensures payload { IfSome result (λ l. payload_of l ≡ P.Index payload) }
     ensures children { IfSome result (λ l. ids_of l ≡ child ∷ []) }
-    ensures count { IfSome result (λ l. count_of l ≡ 1) }
+    ensures count { IfSome result (λ l. variant_child_count l ≡ 1) }
     ensures complete { is_some result ≡ is_index_one place }
 {
     match place {
@@ -101,12 +101,12 @@ pub fn index_one(place: u16, payload: u32, child: Id) -> Option<Lang>
     }
 }
 
-#[tactic(auto, unfolding(crate::specs::LangShapes::is_index_two, crate::specs::Lang::place_of, crate::specs::Lang::payload_of, crate::specs::Lang::ids_of, crate::specs::Lang::count_of))]
+#[tactic(auto, unfolding(crate::specs::LangShapes::is_index_two, crate::specs::Lang::place_of, crate::specs::Lang::payload_of, crate::specs::Lang::ids_of, crate::specs::Lang::variant_child_count))]
 pub fn index_two(place: u16, payload: u32, first: Id, second: Id) -> Option<Lang>
     ensures place { IfSome result (λ l. place_of l ≡ place) }
     ensures payload { IfSome result (λ l. payload_of l ≡ P.Index payload) }
     ensures children { IfSome result (λ l. ids_of l ≡ first ∷ second ∷ []) }
-    ensures count { IfSome result (λ l. count_of l ≡ 2) }
+    ensures count { IfSome result (λ l. variant_child_count l ≡ 2) }
     ensures complete { is_some result ≡ is_index_two place }
 {
     match place {
@@ -116,12 +116,12 @@ pub fn index_two(place: u16, payload: u32, first: Id, second: Id) -> Option<Lang
     }
 }
 
-#[tactic(auto, unfolding(crate::specs::LangShapes::is_index_three, crate::specs::Lang::place_of, crate::specs::Lang::payload_of, crate::specs::Lang::ids_of, crate::specs::Lang::count_of))]
+#[tactic(auto, unfolding(crate::specs::LangShapes::is_index_three, crate::specs::Lang::place_of, crate::specs::Lang::payload_of, crate::specs::Lang::ids_of, crate::specs::Lang::variant_child_count))]
 pub fn index_three(place: u16, payload: u32, first: Id, second: Id, third: Id) -> Option<Lang>
     ensures place { IfSome result (λ l. place_of l ≡ place) }
     ensures payload { IfSome result (λ l. payload_of l ≡ P.Index payload) }
     ensures children { IfSome result (λ l. ids_of l ≡ first ∷ second ∷ third ∷ []) }
-    ensures count { IfSome result (λ l. count_of l ≡ 3) }
+    ensures count { IfSome result (λ l. variant_child_count l ≡ 3) }
     ensures complete { is_some result ≡ is_index_three place }
 {
     match place {
@@ -131,12 +131,12 @@ pub fn index_three(place: u16, payload: u32, first: Id, second: Id, third: Id) -
     }
 }
 
-#[tactic(auto, unfolding(crate::specs::LangShapes::is_memory_one, crate::specs::Lang::place_of, crate::specs::Lang::payload_of, crate::specs::Lang::ids_of, crate::specs::Lang::count_of))]
+#[tactic(auto, unfolding(crate::specs::LangShapes::is_memory_one, crate::specs::Lang::place_of, crate::specs::Lang::payload_of, crate::specs::Lang::ids_of, crate::specs::Lang::variant_child_count))]
 pub fn memory_one(place: u16, payload: MemArg, child: Id) -> Option<Lang>
     ensures place { IfSome result (λ l. place_of l ≡ place) }
     ensures payload { IfSome result (λ l. payload_of l ≡ P.Memory payload) }
     ensures children { IfSome result (λ l. ids_of l ≡ child ∷ []) }
-    ensures count { IfSome result (λ l. count_of l ≡ 1) }
+    ensures count { IfSome result (λ l. variant_child_count l ≡ 1) }
     ensures complete { is_some result ≡ is_memory_one place }
 {
     match place {
@@ -158,12 +158,12 @@ pub fn memory_one(place: u16, payload: MemArg, child: Id) -> Option<Lang>
     }
 }
 
-#[tactic(auto, unfolding(crate::specs::LangShapes::is_memory_two, crate::specs::Lang::place_of, crate::specs::Lang::payload_of, crate::specs::Lang::ids_of, crate::specs::Lang::count_of))]
+#[tactic(auto, unfolding(crate::specs::LangShapes::is_memory_two, crate::specs::Lang::place_of, crate::specs::Lang::payload_of, crate::specs::Lang::ids_of, crate::specs::Lang::variant_child_count))]
 pub fn memory_two(place: u16, payload: MemArg, first: Id, second: Id) -> Option<Lang>
     ensures place { IfSome result (λ l. place_of l ≡ place) }
     ensures payload { IfSome result (λ l. payload_of l ≡ P.Memory payload) }
     ensures children { IfSome result (λ l. ids_of l ≡ first ∷ second ∷ []) }
-    ensures count { IfSome result (λ l. count_of l ≡ 2) }
+    ensures count { IfSome result (λ l. variant_child_count l ≡ 2) }
     ensures complete { is_some result ≡ is_memory_two place }
 {
     match place {
@@ -180,12 +180,12 @@ pub fn memory_two(place: u16, payload: MemArg, first: Id, second: Id) -> Option<
     }
 }
 
-#[tactic(auto, unfolding(crate::specs::LangShapes::is_i32_leaf, crate::specs::Lang::place_of, crate::specs::Lang::payload_of, crate::specs::Lang::ids_of, crate::specs::Lang::count_of))]
+#[tactic(auto, unfolding(crate::specs::LangShapes::is_i32_leaf, crate::specs::Lang::place_of, crate::specs::Lang::payload_of, crate::specs::Lang::ids_of, crate::specs::Lang::variant_child_count))]
 pub fn i32_leaf(place: u16, payload: i32) -> Option<Lang>
     ensures place { IfSome result (λ l. place_of l ≡ place) }
     ensures payload { IfSome result (λ l. payload_of l ≡ P.I32 payload) }
     ensures children { IfSome result (λ l. ids_of l ≡ []) }
-    ensures count { IfSome result (λ l. count_of l ≡ 0) }
+    ensures count { IfSome result (λ l. variant_child_count l ≡ 0) }
     ensures complete { is_some result ≡ is_i32_leaf place }
 {
     match place {
@@ -194,12 +194,12 @@ pub fn i32_leaf(place: u16, payload: i32) -> Option<Lang>
     }
 }
 
-#[tactic(auto, unfolding(crate::specs::LangShapes::is_i64_leaf, crate::specs::Lang::place_of, crate::specs::Lang::payload_of, crate::specs::Lang::ids_of, crate::specs::Lang::count_of))]
+#[tactic(auto, unfolding(crate::specs::LangShapes::is_i64_leaf, crate::specs::Lang::place_of, crate::specs::Lang::payload_of, crate::specs::Lang::ids_of, crate::specs::Lang::variant_child_count))]
 pub fn i64_leaf(place: u16, payload: i64) -> Option<Lang>
     ensures place { IfSome result (λ l. place_of l ≡ place) }
     ensures payload { IfSome result (λ l. payload_of l ≡ P.I64 payload) }
     ensures children { IfSome result (λ l. ids_of l ≡ []) }
-    ensures count { IfSome result (λ l. count_of l ≡ 0) }
+    ensures count { IfSome result (λ l. variant_child_count l ≡ 0) }
     ensures complete { is_some result ≡ is_i64_leaf place }
 {
     match place {
@@ -208,12 +208,12 @@ pub fn i64_leaf(place: u16, payload: i64) -> Option<Lang>
     }
 }
 
-#[tactic(auto, unfolding(crate::specs::LangShapes::is_f32_leaf, crate::specs::Lang::place_of, crate::specs::Lang::payload_of, crate::specs::Lang::ids_of, crate::specs::Lang::count_of))]
+#[tactic(auto, unfolding(crate::specs::LangShapes::is_f32_leaf, crate::specs::Lang::place_of, crate::specs::Lang::payload_of, crate::specs::Lang::ids_of, crate::specs::Lang::variant_child_count))]
 pub fn f32_leaf(place: u16, payload: F32) -> Option<Lang>
     ensures place { IfSome result (λ l. place_of l ≡ place) }
     ensures payload { IfSome result (λ l. payload_of l ≡ P.F32 payload) }
     ensures children { IfSome result (λ l. ids_of l ≡ []) }
-    ensures count { IfSome result (λ l. count_of l ≡ 0) }
+    ensures count { IfSome result (λ l. variant_child_count l ≡ 0) }
     ensures complete { is_some result ≡ is_f32_leaf place }
 {
     match place {
@@ -222,12 +222,12 @@ pub fn f32_leaf(place: u16, payload: F32) -> Option<Lang>
     }
 }
 
-#[tactic(auto, unfolding(crate::specs::LangShapes::is_f64_leaf, crate::specs::Lang::place_of, crate::specs::Lang::payload_of, crate::specs::Lang::ids_of, crate::specs::Lang::count_of))]
+#[tactic(auto, unfolding(crate::specs::LangShapes::is_f64_leaf, crate::specs::Lang::place_of, crate::specs::Lang::payload_of, crate::specs::Lang::ids_of, crate::specs::Lang::variant_child_count))]
 pub fn f64_leaf(place: u16, payload: F64) -> Option<Lang>
     ensures place { IfSome result (λ l. place_of l ≡ place) }
     ensures payload { IfSome result (λ l. payload_of l ≡ P.F64 payload) }
     ensures children { IfSome result (λ l. ids_of l ≡ []) }
-    ensures count { IfSome result (λ l. count_of l ≡ 0) }
+    ensures count { IfSome result (λ l. variant_child_count l ≡ 0) }
     ensures complete { is_some result ≡ is_f64_leaf place }
 {
     match place {
@@ -236,12 +236,12 @@ pub fn f64_leaf(place: u16, payload: F64) -> Option<Lang>
     }
 }
 
-#[tactic(auto, unfolding(crate::specs::LangShapes::is_ref_leaf, crate::specs::Lang::place_of, crate::specs::Lang::payload_of, crate::specs::Lang::ids_of, crate::specs::Lang::count_of))]
+#[tactic(auto, unfolding(crate::specs::LangShapes::is_ref_leaf, crate::specs::Lang::place_of, crate::specs::Lang::payload_of, crate::specs::Lang::ids_of, crate::specs::Lang::variant_child_count))]
 pub fn ref_leaf(place: u16, payload: RefType) -> Option<Lang>
     ensures place { IfSome result (λ l. place_of l ≡ place) }
     ensures payload { IfSome result (λ l. payload_of l ≡ P.Ref payload) }
     ensures children { IfSome result (λ l. ids_of l ≡ []) }
-    ensures count { IfSome result (λ l. count_of l ≡ 0) }
+    ensures count { IfSome result (λ l. variant_child_count l ≡ 0) }
     ensures complete { is_some result ≡ is_ref_leaf place }
 {
     match place {
@@ -250,7 +250,7 @@ pub fn ref_leaf(place: u16, payload: RefType) -> Option<Lang>
     }
 }
 
-#[tactic(auto, unfolding(crate::specs::LangShapes::is_memory_init_three, crate::specs::Lang::place_of, crate::specs::Lang::payload_of, crate::specs::Lang::ids_of, crate::specs::Lang::count_of))]
+#[tactic(auto, unfolding(crate::specs::LangShapes::is_memory_init_three, crate::specs::Lang::place_of, crate::specs::Lang::payload_of, crate::specs::Lang::ids_of, crate::specs::Lang::variant_child_count))]
 pub fn memory_init_three(
     place: u16,
     payload: MemoryInit,
@@ -261,7 +261,7 @@ pub fn memory_init_three(
     ensures place { IfSome result (λ l. place_of l ≡ place) }
     ensures payload { IfSome result (λ l. payload_of l ≡ P.MemoryInit payload) }
     ensures children { IfSome result (λ l. ids_of l ≡ first ∷ second ∷ third ∷ []) }
-    ensures count { IfSome result (λ l. count_of l ≡ 3) }
+    ensures count { IfSome result (λ l. variant_child_count l ≡ 3) }
     ensures complete { is_some result ≡ is_memory_init_three place }
 {
     match place {
@@ -270,7 +270,7 @@ pub fn memory_init_three(
     }
 }
 
-#[tactic(auto, unfolding(crate::specs::LangShapes::is_memory_copy_three, crate::specs::Lang::place_of, crate::specs::Lang::payload_of, crate::specs::Lang::ids_of, crate::specs::Lang::count_of))]
+#[tactic(auto, unfolding(crate::specs::LangShapes::is_memory_copy_three, crate::specs::Lang::place_of, crate::specs::Lang::payload_of, crate::specs::Lang::ids_of, crate::specs::Lang::variant_child_count))]
 pub fn memory_copy_three(
     place: u16,
     payload: MemoryCopy,
@@ -281,7 +281,7 @@ pub fn memory_copy_three(
     ensures place { IfSome result (λ l. place_of l ≡ place) }
     ensures payload { IfSome result (λ l. payload_of l ≡ P.MemoryCopy payload) }
     ensures children { IfSome result (λ l. ids_of l ≡ first ∷ second ∷ third ∷ []) }
-    ensures count { IfSome result (λ l. count_of l ≡ 3) }
+    ensures count { IfSome result (λ l. variant_child_count l ≡ 3) }
     ensures complete { is_some result ≡ is_memory_copy_three place }
 {
     match place {
@@ -290,7 +290,7 @@ pub fn memory_copy_three(
     }
 }
 
-#[tactic(auto, unfolding(crate::specs::LangShapes::is_table_init_three, crate::specs::Lang::place_of, crate::specs::Lang::payload_of, crate::specs::Lang::ids_of, crate::specs::Lang::count_of))]
+#[tactic(auto, unfolding(crate::specs::LangShapes::is_table_init_three, crate::specs::Lang::place_of, crate::specs::Lang::payload_of, crate::specs::Lang::ids_of, crate::specs::Lang::variant_child_count))]
 pub fn table_init_three(
     place: u16,
     payload: TableInit,
@@ -301,7 +301,7 @@ pub fn table_init_three(
     ensures place { IfSome result (λ l. place_of l ≡ place) }
     ensures payload { IfSome result (λ l. payload_of l ≡ P.TableInit payload) }
     ensures children { IfSome result (λ l. ids_of l ≡ first ∷ second ∷ third ∷ []) }
-    ensures count { IfSome result (λ l. count_of l ≡ 3) }
+    ensures count { IfSome result (λ l. variant_child_count l ≡ 3) }
     ensures complete { is_some result ≡ is_table_init_three place }
 {
     match place {
@@ -310,7 +310,7 @@ pub fn table_init_three(
     }
 }
 
-#[tactic(auto, unfolding(crate::specs::LangShapes::is_table_copy_three, crate::specs::Lang::place_of, crate::specs::Lang::payload_of, crate::specs::Lang::ids_of, crate::specs::Lang::count_of))]
+#[tactic(auto, unfolding(crate::specs::LangShapes::is_table_copy_three, crate::specs::Lang::place_of, crate::specs::Lang::payload_of, crate::specs::Lang::ids_of, crate::specs::Lang::variant_child_count))]
 pub fn table_copy_three(
     place: u16,
     payload: TableCopy,
@@ -321,7 +321,7 @@ pub fn table_copy_three(
     ensures place { IfSome result (λ l. place_of l ≡ place) }
     ensures payload { IfSome result (λ l. payload_of l ≡ P.TableCopy payload) }
     ensures children { IfSome result (λ l. ids_of l ≡ first ∷ second ∷ third ∷ []) }
-    ensures count { IfSome result (λ l. count_of l ≡ 3) }
+    ensures count { IfSome result (λ l. variant_child_count l ≡ 3) }
     ensures complete { is_some result ≡ is_table_copy_three place }
 {
     match place {
@@ -330,12 +330,12 @@ pub fn table_copy_three(
     }
 }
 
-#[tactic(auto, unfolding(crate::specs::LangShapes::is_value_three, crate::specs::Lang::place_of, crate::specs::Lang::payload_of, crate::specs::Lang::ids_of, crate::specs::Lang::count_of))]
+#[tactic(auto, unfolding(crate::specs::LangShapes::is_value_three, crate::specs::Lang::place_of, crate::specs::Lang::payload_of, crate::specs::Lang::ids_of, crate::specs::Lang::variant_child_count))]
 pub fn value_three(place: u16, payload: ValType, first: Id, second: Id, third: Id) -> Option<Lang>
     ensures place { IfSome result (λ l. place_of l ≡ place) }
     ensures payload { IfSome result (λ l. payload_of l ≡ P.Value payload) }
     ensures children { IfSome result (λ l. ids_of l ≡ first ∷ second ∷ third ∷ []) }
-    ensures count { IfSome result (λ l. count_of l ≡ 3) }
+    ensures count { IfSome result (λ l. variant_child_count l ≡ 3) }
     ensures complete { is_some result ≡ is_value_three place }
 {
     match place {

@@ -3,15 +3,15 @@ ghost use Rattle.std.specs.Prelude.{◌≡◌, ℕ, List, length, Bool, Some, Re
 ghost use Rattle.std.specs.Bool.{Decides};
 ghost use Rattle.std.specs.Borrow.{sem, Lends, Array};
 ghost use Rattle.std.specs.Cmp.{IsEquivalence};
-ghost use Rattle.node_payloads.specs.declared.term_error.TermError.{TermError};
+ghost use Rattle.peephole_payloads.specs.declared.term_error.TermError.{TermError};
 ghost use Rattle.peephole_nodes.specs.contracts.id.Id as id_row;
 ghost use Rattle.peephole_nodes.specs.declared.id.Id.{Id};
 ghost use Rattle.peephole_lang.specs.Term.{numbers_of};
 ghost use Rattle.peephole_lang.specs.Language.{IsSame, IsAlike, ReadsInto};
 
 use mutate_base::Error;
-use node_payloads::TermError;
 use peephole_nodes::Id;
+use peephole_payloads::TermError;
 use std::fmt::Display;
 
 /// A kind of nodes, each of which names its children, and displays as a text that says all but these.

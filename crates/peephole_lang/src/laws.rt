@@ -18,7 +18,7 @@ ghost use Rattle.peephole_lang.specs.Equal.{IsEqual};
 ghost use Rattle.peephole_lang.specs.Language.{IsSame};
 ghost use Rattle.peephole_lang.specs.Making.{is_made};
 ghost use Rattle.peephole_lang.specs.Node.{IsNode, head_of, instr_of, takes_children};
-ghost use Rattle.peephole_nodes.specs.Variants.{fits, Variant, variants};
+ghost use Rattle.peephole_nodes.specs.Variants.{variant_fits, Variant, variants};
 ghost use Rattle.peephole_lang.specs.Text.{text_of, reads};
 
 use crate::language::Language;
@@ -36,14 +36,14 @@ pub fn held_has_its_text()
 
 /// Each node is of a variant of the table: with that place, that kind of payload, and that many children.
 pub fn is_of_its_variant()
-    ensures { (l : Lang) → IsNode l → fits (place_of l) (payload_of l) (length (ids_of l)) ≡ true }
+    ensures { (l : Lang) → IsNode l → variant_fits (place_of l) (payload_of l) (length (ids_of l)) ≡ true }
 {}
 
 /// Each variant of the table is made: where it has that place, that kind of payload and that many children, the makers of nodes
 /// (`Numeric::make`, `Simd::make`, and that of the others) answer a node.
 pub fn each_variant_is_made()
     ensures { (place count : ℕ) (p : Payload)
-        → fits place p count ≡ true → is_made place p count ≡ true }
+        → variant_fits place p count ≡ true → is_made place p count ≡ true }
 {}
 
 /// At most one variant fits a text: the whole text is its name, or its name and a dot begin the text where it has a payload.

@@ -1,4 +1,6 @@
 //! The nodes of peephole terms: ids, expressions, the trait of languages, the nodes and their texts.
+//!
+//! Tests: `reading_tests::nodes`; another language of nodes in `peephole_tests::languages`.
 #![tactic(auto)]
 
 mod children;
@@ -22,8 +24,8 @@ pub use children::Children;
 pub use expr::RecExpr;
 pub use lang::{Head, Lang};
 pub use language::Language;
-pub use node_payloads::{
+pub use peephole_nodes::{Id, Numeric, Payload, Simd, no_children};
+pub use peephole_payloads::{
     F32, F64, MemArg, MemArgLane, MemoryCopy, MemoryInit, RefType, Shuffle, TableCopy, TableInit,
     TermError,
 };
-pub use peephole_nodes::{Id, Numeric, Payload, Simd, no_children};

@@ -1,15 +1,15 @@
 //! Nodes made of a place, a payload and children.
 ghost use Rattle.std.specs.Prelude.{◌≡◌, ◌==◌, ◌||◌, true, false, IfOk, IfSome, is_some, length, [], ◌∷◌};
-ghost use Rattle.peephole_lang.specs.Lang.{place_of, payload_of, ids_of, count_of};
-ghost use Rattle.peephole_lang.specs.Making.{has_list, is_few, is_plain, is_index, is_memory, is_single, is_made};
+ghost use Rattle.peephole_lang.specs.Lang.{place_of, payload_of, ids_of, variant_child_count};
+ghost use Rattle.peephole_lang.specs.Making.{has_list, is_few, is_plain_node, is_index, is_memory_node, is_single, is_made};
 ghost use Rattle.peephole_nodes.specs.Payload.{imm_of};
 ghost use Rattle.peephole_nodes.specs.SimdShapes.{is_simd};
 ghost use Rattle.peephole_nodes.specs.declared.payload.Payload.TheVariants as P;
 
 use crate::lang::Lang;
 use crate::lang_shapes as lang;
-use node_payloads::MemArg;
 use peephole_nodes::{Id, Numeric, Payload, Simd};
+use peephole_payloads::MemArg;
 use std::alloc::{AllocError, Global};
 use wasm_code::Imm;
 
@@ -19,7 +19,7 @@ pub fn make(place: u16, payload: Payload, children: Vec<Id>) -> Option<Lang>
     ensures place { IfSome result (λ l. place_of l ≡ place) }
     ensures payload { IfSome result (λ l. payload_of l ≡ payload) }
     ensures children { IfSome result (λ l. ids_of l ≡ children.items) }
-    ensures count { IfSome result (λ l. count_of l ≡ length children.items) }
+    ensures count { IfSome result (λ l. variant_child_count l ≡ length children.items) }
     ensures complete { is_some result ≡ is_made place payload (length children.items) }
 {
     if has_list(place, &payload) {
@@ -39,7 +39,7 @@ pub fn make_in(
     ensures place { IfOk result (λ made. IfSome made (λ l. place_of l ≡ place)) }
     ensures payload { IfOk result (λ made. IfSome made (λ l. payload_of l ≡ payload)) }
     ensures children { IfOk result (λ made. IfSome made (λ l. ids_of l ≡ children.now)) }
-    ensures count { IfOk result (λ made. IfSome made (λ l. count_of l ≡ length children.now)) }
+    ensures count { IfOk result (λ made. IfSome made (λ l. variant_child_count l ≡ length children.now)) }
     ensures complete { IfOk result (λ made.
         is_some made ≡ is_made place payload (length children.now)) }
 {
@@ -53,12 +53,12 @@ pub fn make_in(
 /// The node of a numeric instruction with operands, or of a vector instruction without immediate, or None where there is none:
 /// the places of the former are 52 to 190, those of the latter from 201 on.
 #[inline(always)]
-#[tactic(auto, unfolding(crate::specs::Lang::place_of, crate::specs::Lang::payload_of, crate::specs::Lang::ids_of, crate::specs::Lang::count_of))]
+#[tactic(auto, unfolding(crate::specs::Lang::place_of, crate::specs::Lang::payload_of, crate::specs::Lang::ids_of, crate::specs::Lang::variant_child_count))]
 pub fn make_operation(place: u16, children: &[Id]) -> Option<Lang>
     ensures place { IfSome result (λ l. place_of l ≡ place) }
     ensures payload { IfSome result (λ l. payload_of l ≡ P.Nothing) }
     ensures children { IfSome result (λ l. ids_of l ≡ children.now) }
-    ensures count { IfSome result (λ l. count_of l ≡ length children.now) }
+    ensures count { IfSome result (λ l. variant_child_count l ≡ length children.now) }
 {
     if place < 52 {
         None
@@ -76,7 +76,7 @@ pub fn make_of_imm(place: u16, imm: Imm, children: &[Id]) -> Option<Lang>
     ensures place { IfSome result (λ l. place_of l ≡ place) }
     ensures imm { IfSome result (λ l. imm_of (payload_of l) ≡ imm) }
     ensures children { IfSome result (λ l. ids_of l ≡ children.now) }
-    ensures count { IfSome result (λ l. count_of l ≡ length children.now) }
+    ensures count { IfSome result (λ l. variant_child_count l ≡ length children.now) }
 {
     match imm {
         Imm::Nothing => make_few(place, children),
@@ -94,7 +94,7 @@ fn make_number(place: u16, imm: Imm) -> Option<Lang>
     ensures place { IfSome result (λ l. place_of l ≡ place) }
     ensures imm { IfSome result (λ l. imm_of (payload_of l) ≡ imm) }
     ensures children { IfSome result (λ l. ids_of l ≡ []) }
-    ensures count { IfSome result (λ l. count_of l ≡ 0) }
+    ensures count { IfSome result (λ l. variant_child_count l ≡ 0) }
 {
     match imm {
         Imm::I32(number) => lang::i32_leaf(place, number),
@@ -115,13 +115,13 @@ fn has_list(place: u16, payload: &Payload) -> bool
 }
 
 // The node whose children are a list.
-#[tactic(auto, unfolding(crate::specs::Lang::place_of, crate::specs::Lang::payload_of, crate::specs::Lang::ids_of, crate::specs::Lang::count_of))]
+#[tactic(auto, unfolding(crate::specs::Lang::place_of, crate::specs::Lang::payload_of, crate::specs::Lang::ids_of, crate::specs::Lang::variant_child_count))]
 fn make_with_list(place: u16, payload: &Payload, children: Vec<Id>) -> Lang
     requires { has_list place payload.now ≡ true }
     ensures place { place_of result ≡ place }
     ensures payload { payload_of result ≡ payload.now }
     ensures children { ids_of result ≡ children.items }
-    ensures count { count_of result ≡ length children.items }
+    ensures count { variant_child_count result ≡ length children.items }
     ensures made { is_made place payload.now (length children.items) ≡ true }
 {
     match payload {
@@ -132,13 +132,13 @@ fn make_with_list(place: u16, payload: &Payload, children: Vec<Id>) -> Lang
 }
 
 // A node whose children are no list.
-#[tactic(auto, unfolding(crate::specs::Lang::place_of, crate::specs::Lang::payload_of, crate::specs::Lang::ids_of, crate::specs::Lang::count_of))]
+#[tactic(auto, unfolding(crate::specs::Lang::place_of, crate::specs::Lang::payload_of, crate::specs::Lang::ids_of, crate::specs::Lang::variant_child_count))]
 fn make_without_list(place: u16, payload: &Payload, children: &[Id]) -> Option<Lang>
     requires { has_list place payload.now ≡ false }
     ensures place { IfSome result (λ l. place_of l ≡ place) }
     ensures payload { IfSome result (λ l. payload_of l ≡ payload.now) }
     ensures children { IfSome result (λ l. ids_of l ≡ children.now) }
-    ensures count { IfSome result (λ l. count_of l ≡ length children.now) }
+    ensures count { IfSome result (λ l. variant_child_count l ≡ length children.now) }
     ensures complete { is_some result ≡ is_made place payload.now (length children.now) }
 {
     match payload {
@@ -153,14 +153,14 @@ fn make_without_list(place: u16, payload: &Payload, children: &[Id]) -> Option<L
 }
 
 // A node without payload but `container`.
-#[tactic(auto, unfolding(crate::specs::Lang::place_of, crate::specs::Lang::payload_of, crate::specs::Lang::ids_of, crate::specs::Lang::count_of))]
+#[tactic(auto, unfolding(crate::specs::Lang::place_of, crate::specs::Lang::payload_of, crate::specs::Lang::ids_of, crate::specs::Lang::variant_child_count))]
 fn make_plain(place: u16, children: &[Id]) -> Option<Lang>
     requires { place == 11 ≡ false }
     ensures place { IfSome result (λ l. place_of l ≡ place) }
     ensures payload { IfSome result (λ l. payload_of l ≡ P.Nothing) }
     ensures children { IfSome result (λ l. ids_of l ≡ children.now) }
-    ensures count { IfSome result (λ l. count_of l ≡ length children.now) }
-    ensures complete { is_some result ≡ is_plain place (length children.now) }
+    ensures count { IfSome result (λ l. variant_child_count l ≡ length children.now) }
+    ensures complete { is_some result ≡ is_plain_node place (length children.now) }
 {
     if let Some(node) = Numeric::make(place, children) {
         return Some(Lang::Numeric(node));
@@ -176,7 +176,7 @@ fn make_few(place: u16, children: &[Id]) -> Option<Lang>
     ensures place { IfSome result (λ l. place_of l ≡ place) }
     ensures payload { IfSome result (λ l. payload_of l ≡ P.Nothing) }
     ensures children { IfSome result (λ l. ids_of l ≡ children.now) }
-    ensures count { IfSome result (λ l. count_of l ≡ length children.now) }
+    ensures count { IfSome result (λ l. variant_child_count l ≡ length children.now) }
     ensures complete { is_some result ≡ is_few place (length children.now) }
 {
     match children {
@@ -194,7 +194,7 @@ fn make_index(place: u16, index: u32, children: &[Id]) -> Option<Lang>
     ensures place { IfSome result (λ l. place_of l ≡ place) }
     ensures payload { IfSome result (λ l. payload_of l ≡ P.Index index) }
     ensures children { IfSome result (λ l. ids_of l ≡ children.now) }
-    ensures count { IfSome result (λ l. count_of l ≡ length children.now) }
+    ensures count { IfSome result (λ l. variant_child_count l ≡ length children.now) }
     ensures complete { is_some result ≡ is_index place (length children.now) }
 {
     match children {
@@ -206,14 +206,14 @@ fn make_index(place: u16, index: u32, children: &[Id]) -> Option<Lang>
     }
 }
 
-#[tactic(auto, unfolding(crate::specs::Lang::place_of, crate::specs::Lang::payload_of, crate::specs::Lang::ids_of, crate::specs::Lang::count_of))]
+#[tactic(auto, unfolding(crate::specs::Lang::place_of, crate::specs::Lang::payload_of, crate::specs::Lang::ids_of, crate::specs::Lang::variant_child_count))]
 fn make_memory(place: u16, memarg: MemArg, children: &[Id]) -> Option<Lang>
     ensures place { IfSome result (λ l. place_of l ≡ place) }
     ensures payload { IfSome result (λ l. payload_of l ≡ P.Memory memarg) }
     ensures children { IfSome result (λ l. ids_of l ≡ children.now) }
-    ensures count { IfSome result (λ l. count_of l ≡ length children.now) }
+    ensures count { IfSome result (λ l. variant_child_count l ≡ length children.now) }
     ensures complete { is_some result ≡ is_simd place (P.Memory memarg)
-        (length children.now) || is_memory place (length children.now) }
+        (length children.now) || is_memory_node place (length children.now) }
 {
     if let Some(node) = Simd::make_memory(place, memarg, children) {
         return Some(Lang::Simd(node));
@@ -230,7 +230,7 @@ fn make_single(place: u16, payload: Payload, children: &[Id]) -> Option<Lang>
     ensures place { IfSome result (λ l. place_of l ≡ place) }
     ensures payload { IfSome result (λ l. payload_of l ≡ payload) }
     ensures children { IfSome result (λ l. ids_of l ≡ children.now) }
-    ensures count { IfSome result (λ l. count_of l ≡ length children.now) }
+    ensures count { IfSome result (λ l. variant_child_count l ≡ length children.now) }
     ensures complete { is_some result ≡ is_single place payload (length children.now) }
 {
     match children {
@@ -244,7 +244,7 @@ fn make_constant(place: u16, payload: Payload) -> Option<Lang>
     ensures place { IfSome result (λ l. place_of l ≡ place) }
     ensures payload { IfSome result (λ l. payload_of l ≡ payload) }
     ensures children { IfSome result (λ l. ids_of l ≡ []) }
-    ensures count { IfSome result (λ l. count_of l ≡ 0) }
+    ensures count { IfSome result (λ l. variant_child_count l ≡ 0) }
     ensures complete { is_some result ≡ is_single place payload 0 }
 {
     match payload {
@@ -261,7 +261,7 @@ fn make_three(place: u16, payload: Payload, first: Id, second: Id, third: Id) ->
     ensures place { IfSome result (λ l. place_of l ≡ place) }
     ensures payload { IfSome result (λ l. payload_of l ≡ payload) }
     ensures children { IfSome result (λ l. ids_of l ≡ first ∷ second ∷ third ∷ []) }
-    ensures count { IfSome result (λ l. count_of l ≡ 3) }
+    ensures count { IfSome result (λ l. variant_child_count l ≡ 3) }
     ensures complete { is_some result ≡ is_single place payload 3 }
 {
     match payload {

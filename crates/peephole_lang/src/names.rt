@@ -3,7 +3,7 @@ ghost use Rattle.std.specs.Prelude.{◌≡◌, slice_get};
 ghost use Rattle.std.specs.Option.{option_map};
 ghost use Rattle.peephole_nodes.specs.Variants.{variants, variant_at};
 ghost use Rattle.peephole_lang.specs.Names.{find_in};
-ghost use Rattle.peephole_lang.specs.VariantRows.{variant_row, given, found, place_found};
+ghost use Rattle.peephole_lang.specs.VariantRows.{variant_row, variant_row_given, found, place_found};
 ghost use Rattle.peephole_lang.specs.Fronts.{front_order};
 ghost use Rattle.peephole_nodes.specs.Fronts.{front_at};
 
@@ -80,7 +80,7 @@ fn place_of(text: &str) -> Option<u16>
 
 // The variant that the text is of, and the text of its payload.
 pub(crate) fn find(text: &str) -> Option<(VariantRow, &str)>
-    ensures { given result ≡ found (find_in variants text.now) }
+    ensures { variant_row_given result ≡ found (find_in variants text.now) }
 {
     let place = place_of(text)?;
     let variant = variant_row_at(place).unwrap();

@@ -15,8 +15,8 @@ ghost use Rattle.peephole_lang.specs.laws.TextLemmas.{reads_back};
 use crate::lang::{Head, Lang};
 use crate::language::Language;
 use mutate_base::Error;
-use node_payloads::TermError;
 use peephole_nodes::Id;
+use peephole_payloads::TermError;
 
 impl Lang {
     /// Whether both are the same variant with the same payload and as many children, whichever these are.

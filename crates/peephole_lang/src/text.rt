@@ -1,14 +1,14 @@
 //! The texts of nodes, written and read.
 ghost use Rattle.std.specs.Prelude.{◌≡◌, Some};
 ghost use Rattle.peephole_nodes.specs.PayloadText.{read_payload};
-ghost use Rattle.peephole_lang.specs.Text.{text_of, wrong_count, checked_reading, ReadsAs};
+ghost use Rattle.peephole_lang.specs.Text.{text_of, wrong_count, checked_reading, NodeReadsAs};
 
 use crate::lang::Lang;
 use crate::making::make;
 use crate::names::find;
 use crate::variants::VariantRow;
-use node_payloads::TermError;
 use peephole_nodes::{Arity, Id, Payload, PayloadText, front_at};
+use peephole_payloads::TermError;
 use std::fmt;
 
 impl Lang {
@@ -21,7 +21,7 @@ impl Lang {
     /// `MissingInfo`, `TooMuchInfo` or `WrongLanes`. `ExpectedOneChild` (with the number given), `ExpectedChildren` (with the
     /// number wanted) and `ExpectedZeroChildren` tell of a wrong number of children.
     pub fn from_op_str(text: &str, children: Vec<Id>) -> Result<Lang, TermError>
-        ensures { ReadsAs text.now children.items result }
+        ensures { NodeReadsAs text.now children.items result }
     {
         match find(text) {
             Some((variant, payload_text)) => {

@@ -1,6 +1,6 @@
 //! Nodes, seen as place, payload and children.
 ghost use Rattle.std.specs.Prelude.{◌≡◌, length};
-ghost use Rattle.peephole_lang.specs.Lang.{place_of, payload_of, ids_of, count_of};
+ghost use Rattle.peephole_lang.specs.Lang.{place_of, payload_of, ids_of, variant_child_count};
 
 use crate::lang::Lang;
 use peephole_nodes::{Id, Payload};
@@ -162,10 +162,10 @@ impl Lang {
     }
 
     /// The ids of the children, the first operand first.
-    #[tactic(auto, unfolding(crate::specs::Lang::ids_of, crate::specs::Lang::count_of))]
+    #[tactic(auto, unfolding(crate::specs::Lang::ids_of, crate::specs::Lang::variant_child_count))]
     pub fn children(&self) -> &[Id]
         ensures value { result.now ≡ ids_of self.now }
-        ensures count { length result.now ≡ count_of self.now }
+        ensures count { length result.now ≡ variant_child_count self.now }
     {
         match self {
             Lang::RandI32

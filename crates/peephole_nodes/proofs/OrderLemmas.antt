@@ -1,7 +1,9 @@
 -- That payloads compare by their kinds, and then by what they hold.
 use Rattle.std.proofs.Common.{◌≡◌, refl}
 use Rattle.wasm_code.specs.laws.OrderLemmas.{val_types_in_order}
-use Rattle.node_payloads.specs.laws.OrderLemmas.{mem_args_in_order, mem_arg_lanes_in_order, shuffles_in_order, ref_types_in_order, memory_inits_in_order, memory_copies_in_order, table_inits_in_order, table_copies_in_order}
+use Rattle.peephole_payloads.specs.laws.OrderLemmas.{mem_args_in_order, mem_arg_lanes_in_order, shuffles_in_order, ref_types_in_order}
+use Rattle.peephole_payloads.specs.laws.OrderLemmas.{memory_inits_in_order, memory_copies_in_order, table_inits_in_order}
+use Rattle.peephole_payloads.specs.laws.OrderLemmas.{table_copies_in_order}
 use Rattle.peephole_nodes.specs.PayloadOrder.{payload_order}
 use Rattle.peephole_nodes.specs.contracts.payload.PayloadOrd.TheImpl as payload_ord
 use Rattle.peephole_nodes.specs.declared.payload.Payload.{Payload}

@@ -7,10 +7,15 @@ use Rattle.peephole_nodes.specs.declared.simd.Simd.TheVariants as vector
 use Rattle.peephole_nodes.specs.Made.{LacksSimd}
 use Rattle.peephole_nodes.specs.Simd.{simd_place_of, simd_payload_of}
 use Rattle.peephole_nodes.specs.SimdChildren.{simd_count_of}
-use Rattle.peephole_nodes.specs.SimdShapes.{is_simd, is_simd_memory_one, is_simd_memory_two, is_simd_v128_leaf, is_simd_shuffle_two, is_simd_plain_one_to_383, is_simd_plain_one_from_384, is_simd_plain_two_to_279, is_simd_plain_two_280_to_370, is_simd_plain_two_371_to_428, is_simd_plain_two_from_429, is_simd_plain_three, is_simd_lane_one, is_simd_lane_two, is_simd_memory_lane_two}
+use Rattle.peephole_nodes.specs.SimdShapes.{is_simd, is_simd_memory_one, is_simd_memory_two, is_simd_v128_leaf, is_simd_shuffle_two}
+use Rattle.peephole_nodes.specs.SimdShapes.{is_simd_plain_one_to_383, is_simd_plain_one_from_384, is_simd_plain_two_to_279}
+use Rattle.peephole_nodes.specs.SimdShapes.{is_simd_plain_two_280_to_370, is_simd_plain_two_371_to_428, is_simd_plain_two_from_429}
+use Rattle.peephole_nodes.specs.SimdShapes.{is_simd_plain_three, is_simd_lane_one, is_simd_lane_two, is_simd_memory_lane_two}
 
 simd_there : (s : Simd) → is_simd (simd_place_of s) (simd_payload_of s) (simd_count_of s) ≡ true
-unfolding simd_place_of simd_payload_of simd_count_of is_simd_memory_one is_simd_memory_two is_simd_v128_leaf is_simd_shuffle_two is_simd_plain_one_to_383 is_simd_plain_one_from_384 is_simd_plain_two_to_279 is_simd_plain_two_280_to_370 is_simd_plain_two_371_to_428 is_simd_plain_two_from_429 is_simd_plain_three is_simd_lane_one is_simd_lane_two is_simd_memory_lane_two
+unfolding simd_place_of simd_payload_of simd_count_of is_simd_memory_one is_simd_memory_two is_simd_v128_leaf is_simd_shuffle_two
+    is_simd_plain_one_to_383 is_simd_plain_one_from_384 is_simd_plain_two_to_279 is_simd_plain_two_280_to_370 is_simd_plain_two_371_to_428
+    is_simd_plain_two_from_429 is_simd_plain_three is_simd_lane_one is_simd_lane_two is_simd_memory_lane_two
 simd_there (vector.V128Load _ _) = refl
 simd_there (vector.V128Load8x8S _ _) = refl
 simd_there (vector.V128Load8x8U _ _) = refl

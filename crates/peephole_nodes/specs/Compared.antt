@@ -2,7 +2,9 @@
 use Rattle.std.specs.Prelude.{◌≡◌, ◌==◌, ◌++◌, ℕ, List, Bool, Some, refl}
 use Rattle.std.specs.Hash.{HashWrites, Alike, and-Alike, on_Alike, same_Alike, items_Alike, u16 as fed_u16, slice as fed_slice}
 use Rattle.std.specs.Ordering.{nat_cmp, on, then_cmp, eq_of_both, as_partial_cmp, eq_by_cmp}
-use Rattle.std.specs.Cmp.{IsEquivalence, IsPartialEquivalence, IsTotalOrder, IsPartialOrder, and_equiv, on_equiv, nat_eq_equiv, on_total, then_total, nat_cmp_total, both_tied, unsigned_ties, unsigned_Decides, partial_equiv_from_equiv, partial_order_from_agreeing_total}
+use Rattle.std.specs.Cmp.{IsEquivalence, IsPartialEquivalence, IsTotalOrder, IsPartialOrder, and_equiv, on_equiv, nat_eq_equiv, on_total}
+use Rattle.std.specs.Cmp.{then_total, nat_cmp_total, both_tied, unsigned_ties, unsigned_Decides, partial_equiv_from_equiv}
+use Rattle.std.specs.Cmp.{partial_order_from_agreeing_total}
 use Rattle.std.specs.Cmp.Lexicographic.{slice_cmp, pointwise, lists_equiv, lists_total, lists_ties}
 use Rattle.std.specs.declared.cmp.Ordering.{Ordering}
 use Rattle.peephole_nodes.specs.contracts.id.IdPartialEq.TheImpl as id_eq

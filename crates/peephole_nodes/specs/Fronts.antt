@@ -10,9 +10,9 @@ dot_of kind.Nothing = []
 dot_of _ = codes "."
 
 -- the variant's name, and a dot where a payload follows
-abbrev pub front_of : Variant → List ℕ
-front_of v = v.name ++ dot_of v.payload
+abbrev pub variant_front_of : Variant → List ℕ
+variant_front_of v = v.name ++ dot_of v.payload
 
 -- what begins the texts of the variant with that place
 abbrev pub front_at : ℕ → List ℕ
-front_at place = unwrap_or (option_map front_of (variant_at place)) []
+front_at place = unwrap_or (option_map variant_front_of (variant_at place)) []

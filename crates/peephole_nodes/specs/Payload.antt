@@ -7,9 +7,9 @@ use Rattle.wasm_code.specs.declared.immediate.AbstractHeapType.{AbstractHeapType
 use Rattle.wasm_code.specs.declared.immediate.HeapType.TheVariants.{Abstract}
 use Rattle.wasm_code.specs.declared.immediate.Imm.{Imm}
 use Rattle.wasm_code.specs.declared.immediate.Imm.TheVariants as imm
-use Rattle.node_payloads.specs.declared.payload.RefType.{RefType}
-use Rattle.node_payloads.specs.declared.payload.RefType.TheVariants as ref
-use Rattle.node_payloads.specs.Payload.{ref_heap_type, payload_of_mem_arg, mem_arg_of_payload}
+use Rattle.peephole_payloads.specs.declared.payload.RefType.{RefType}
+use Rattle.peephole_payloads.specs.declared.payload.RefType.TheVariants as ref
+use Rattle.peephole_payloads.specs.Payload.{ref_heap_type, payload_of_mem_arg, mem_arg_of_payload}
 use Rattle.peephole_nodes.specs.declared.payload.Payload.{Payload}
 use Rattle.peephole_nodes.specs.declared.payload.Payload.TheVariants as payload
 use Rattle.peephole_nodes.specs.declared.payload.PayloadKind.{PayloadKind}
@@ -41,25 +41,25 @@ is_writable (payload.MemoryLane m) = nat_lt m.memarg.align 64
 is_writable _ = true
 
 -- a payload of that kind
-abbrev pub is_of : PayloadKind → Payload → Bool
-is_of kind.Nothing payload.Nothing = true
-is_of kind.Index (payload.Index _) = true
-is_of kind.Lane (payload.Lane _) = true
-is_of kind.I32 (payload.I32 _) = true
-is_of kind.I64 (payload.I64 _) = true
-is_of kind.F32 (payload.F32 _) = true
-is_of kind.F64 (payload.F64 _) = true
-is_of kind.V128 (payload.V128 _) = true
-is_of kind.Memory (payload.Memory _) = true
-is_of kind.MemoryLane (payload.MemoryLane _) = true
-is_of kind.Shuffle (payload.Shuffle _) = true
-is_of kind.Ref (payload.Ref _) = true
-is_of kind.Value (payload.Value _) = true
-is_of kind.MemoryInit (payload.MemoryInit _) = true
-is_of kind.MemoryCopy (payload.MemoryCopy _) = true
-is_of kind.TableInit (payload.TableInit _) = true
-is_of kind.TableCopy (payload.TableCopy _) = true
-is_of _ _ = false
+abbrev pub is_payload_of : PayloadKind → Payload → Bool
+is_payload_of kind.Nothing payload.Nothing = true
+is_payload_of kind.Index (payload.Index _) = true
+is_payload_of kind.Lane (payload.Lane _) = true
+is_payload_of kind.I32 (payload.I32 _) = true
+is_payload_of kind.I64 (payload.I64 _) = true
+is_payload_of kind.F32 (payload.F32 _) = true
+is_payload_of kind.F64 (payload.F64 _) = true
+is_payload_of kind.V128 (payload.V128 _) = true
+is_payload_of kind.Memory (payload.Memory _) = true
+is_payload_of kind.MemoryLane (payload.MemoryLane _) = true
+is_payload_of kind.Shuffle (payload.Shuffle _) = true
+is_payload_of kind.Ref (payload.Ref _) = true
+is_payload_of kind.Value (payload.Value _) = true
+is_payload_of kind.MemoryInit (payload.MemoryInit _) = true
+is_payload_of kind.MemoryCopy (payload.MemoryCopy _) = true
+is_payload_of kind.TableInit (payload.TableInit _) = true
+is_payload_of kind.TableCopy (payload.TableCopy _) = true
+is_payload_of _ _ = false
 
 abbrev pub ref_type_of : AbstractHeapType → RefType
 ref_type_of ty.Func = ref.Func

@@ -4,9 +4,11 @@ use Rattle.std.specs.Ordering.{nat_cmp, int_cmp, ordering_then}
 use Rattle.std.specs.declared.cmp.Ordering.{Ordering}
 use Rattle.std.specs.declared.cmp.Ordering.TheVariants.{Equal}
 use Rattle.wasm_code.specs.Order.{lexicographic, val_type_place}
-use Rattle.node_payloads.specs.Order.{ref_type_numbers, mem_arg_numbers, mem_arg_lane_numbers, shuffle_numbers, table_copy_numbers, memory_copy_numbers, table_init_numbers, memory_init_numbers}
+use Rattle.peephole_payloads.specs.Order.{ref_type_numbers, mem_arg_numbers, mem_arg_lane_numbers, shuffle_numbers, table_copy_numbers}
+use Rattle.peephole_payloads.specs.Order.{memory_copy_numbers, table_init_numbers, memory_init_numbers}
 use Rattle.peephole_nodes.specs.declared.payload.Payload.{Payload}
-use Rattle.peephole_nodes.specs.declared.payload.Payload.TheVariants.{Nothing, Index, Lane, I32, I64, F32, F64, V128, Memory, MemoryLane, Shuffle, Ref, Value, MemoryInit, MemoryCopy, TableInit, TableCopy}
+use Rattle.peephole_nodes.specs.declared.payload.Payload.TheVariants.{Nothing, Index, Lane, I32, I64, F32, F64, V128, Memory, MemoryLane}
+use Rattle.peephole_nodes.specs.declared.payload.Payload.TheVariants.{Shuffle, Ref, Value, MemoryInit, MemoryCopy, TableInit, TableCopy}
 
 -- the place of a payload's kind
 abbrev pub payload_place : Payload → ℕ

@@ -3,13 +3,13 @@ use Rattle.std.specs.Prelude.{ℕ, List, [], ◌∷◌, Result, Ok, Err}
 use Rattle.std.specs.Fmt.{decimal, signed_decimal}
 use Rattle.std.specs.Option.{ok_or}
 use Rattle.wasm_code.specs.ValType.{val_type_name}
-use Rattle.node_payloads.specs.Number.{read_unsigned, read_signed}
-use Rattle.node_payloads.specs.PayloadText.{f32_text, f64_text, mem_arg_text, mem_arg_lane_text, shuffle_text, ref_type_text}
-use Rattle.node_payloads.specs.PayloadText.{memory_init_text, memory_copy_text, table_init_text, table_copy_text}
-use Rattle.node_payloads.specs.PayloadText.{read_f32, read_f64, read_mem_arg, read_mem_arg_lane, read_shuffle, read_ref_type, read_val_type}
-use Rattle.node_payloads.specs.PayloadText.{read_memory_init, read_memory_copy, read_table_init, read_table_copy}
-use Rattle.node_payloads.specs.declared.term_error.TermError.{TermError}
-use Rattle.node_payloads.specs.declared.term_error.TermError.TheVariants.{BadInteger, InvalidToken}
+use Rattle.peephole_payloads.specs.Number.{read_unsigned, read_signed}
+use Rattle.peephole_payloads.specs.PayloadText.{f32_text, f64_text, mem_arg_text, mem_arg_lane_text, shuffle_text, ref_type_text}
+use Rattle.peephole_payloads.specs.PayloadText.{memory_init_text, memory_copy_text, table_init_text, table_copy_text}
+use Rattle.peephole_payloads.specs.PayloadText.{read_f32, read_f64, read_mem_arg, read_mem_arg_lane, read_shuffle, read_ref_type, read_val_type}
+use Rattle.peephole_payloads.specs.PayloadText.{read_memory_init, read_memory_copy, read_table_init, read_table_copy}
+use Rattle.peephole_payloads.specs.declared.term_error.TermError.{TermError}
+use Rattle.peephole_payloads.specs.declared.term_error.TermError.TheVariants.{BadInteger, InvalidToken}
 use Rattle.peephole_nodes.specs.declared.payload.Payload.{Payload}
 use Rattle.peephole_nodes.specs.declared.payload.Payload.TheVariants as payload
 use Rattle.peephole_nodes.specs.declared.payload.PayloadKind.{PayloadKind}

@@ -9,13 +9,13 @@ use Rattle.peephole_nodes.specs.PayloadText.{payload_text}
 use Rattle.peephole_nodes.specs.Simd.{simd_place_of, simd_payload_of}
 use Rattle.peephole_nodes.specs.Variants.{Variant, variant_at}
 
-abbrev pub name_in : Option Variant → List ℕ
-name_in None = []
-name_in (Some v) = v.name
+abbrev pub variant_name_in : Option Variant → List ℕ
+variant_name_in None = []
+variant_name_in (Some v) = v.name
 
 -- the text of a node with that place and that payload
 abbrev pub text_at : ℕ → Payload → List ℕ
-text_at place p = name_in (variant_at place) ++ payload_text p
+text_at place p = variant_name_in (variant_at place) ++ payload_text p
 
 abbrev pub numeric_text : Numeric → List ℕ
 numeric_text n = text_at (numeric_place_of n) payload.Nothing

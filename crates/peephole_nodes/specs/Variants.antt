@@ -6,7 +6,7 @@ use Rattle.peephole_nodes.specs.declared.payload.PayloadKind.{PayloadKind}
 use Rattle.peephole_nodes.specs.declared.payload.PayloadKind.TheVariants as kind
 use Rattle.peephole_nodes.specs.declared.arity.Arity.{Arity}
 use Rattle.peephole_nodes.specs.declared.arity.Arity.TheVariants as arity
-use Rattle.peephole_nodes.specs.Payload.{is_of}
+use Rattle.peephole_nodes.specs.Payload.{is_payload_of}
 
 pub record Variant : Type 0 where
   pub place : ℕ
@@ -494,8 +494,8 @@ is_right arity.Any count = true
 
 abbrev pub is_node_of : Option Variant → Payload → ℕ → Bool
 is_node_of None p count = false
-is_node_of (Some v) p count = is_of v.payload p && is_right v.children count
+is_node_of (Some v) p count = is_payload_of v.payload p && is_right v.children count
 
 -- there is a variant with that place, that kind of payload and that many children
-abbrev pub fits : ℕ → Payload → ℕ → Bool
-fits place p count = is_node_of (variant_at place) p count
+abbrev pub variant_fits : ℕ → Payload → ℕ → Bool
+variant_fits place p count = is_node_of (variant_at place) p count

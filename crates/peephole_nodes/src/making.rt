@@ -1,7 +1,7 @@
 //! Numeric and vector nodes made of a place, a payload and children.
 ghost use Rattle.std.specs.Prelude.{◌≡◌, IfSome, IfNone, is_some, length, [], ◌∷◌};
 ghost use Rattle.peephole_nodes.specs.Numeric.{numeric_place_of, numeric_ids_of, numeric_count_of};
-ghost use Rattle.peephole_nodes.specs.NumericShapes.{is_numeric};
+ghost use Rattle.peephole_nodes.specs.NumericShapes.{is_numeric_node};
 ghost use Rattle.peephole_nodes.specs.Simd.{simd_place_of, simd_payload_of};
 ghost use Rattle.peephole_nodes.specs.SimdChildren.{simd_ids_of, simd_count_of};
 ghost use Rattle.peephole_nodes.specs.SimdShapes.{is_simd_plain_two, is_simd_plain, is_simd};
@@ -13,7 +13,7 @@ use crate::numeric::Numeric;
 use crate::payload::Payload;
 use crate::simd::Simd;
 use crate::{numeric_shapes as numeric, simd_shapes as simd};
-use node_payloads::MemArg;
+use peephole_payloads::MemArg;
 
 impl Numeric {
     /// The numeric node with this place and these children, or None where no numeric node has this place and so many
@@ -24,7 +24,7 @@ impl Numeric {
         ensures children { IfSome result (λ l. numeric_ids_of l ≡ children.now) }
         ensures count { IfSome result (λ l. numeric_count_of l ≡ length children.now) }
         ensures none { IfNone result (LacksNumeric place (length children.now)) }
-        ensures complete { is_some result ≡ is_numeric place (length children.now) }
+        ensures complete { is_some result ≡ is_numeric_node place (length children.now) }
     {
         numeric_of(place, children)
     }
@@ -85,7 +85,7 @@ fn numeric_of(place: u16, children: &[Id]) -> Option<Numeric>
     ensures place { IfSome result (λ l. numeric_place_of l ≡ place) }
     ensures children { IfSome result (λ l. numeric_ids_of l ≡ children.now) }
     ensures count { IfSome result (λ l. numeric_count_of l ≡ length children.now) }
-    ensures complete { is_some result ≡ is_numeric place (length children.now) }
+    ensures complete { is_some result ≡ is_numeric_node place (length children.now) }
 {
     match children {
         [child] => match numeric::numeric_plain_one_to_171(place, *child) {

@@ -4,7 +4,7 @@ ghost use Rattle.wasm_code.specs.Instruction.{InRange};
 ghost use Rattle.wasm_code.specs.declared.immediate.Imm.TheVariants as imm;
 ghost use Rattle.peephole_nodes.specs.Payload.{imm_of, payload_of_imm, is_writable};
 
-use node_payloads::{
+use peephole_payloads::{
     F32, F64, MemArg, MemArgLane, MemoryCopy, MemoryInit, RefType, Shuffle, TableCopy, TableInit,
 };
 use wasm_code::{AbstractHeapType, HeapType, Imm, ValType};

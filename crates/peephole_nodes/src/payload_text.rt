@@ -4,8 +4,8 @@ ghost use Rattle.peephole_nodes.specs.PayloadText.{inner_text, read_payload};
 ghost use Rattle.peephole_nodes.specs.declared.payload.PayloadKind.TheVariants as kind;
 
 use crate::payload::{Payload, PayloadKind};
-use node_payloads::number::{read_i32, read_i64, read_i128, read_u8, read_u32};
-use node_payloads::{TermError, read_val_type};
+use peephole_payloads::number::{read_i32, read_i64, read_i128, read_u8, read_u32};
+use peephole_payloads::{TermError, read_val_type};
 use std::fmt;
 
 /// The text of a payload: what stands behind the name and the dot in a node's text.

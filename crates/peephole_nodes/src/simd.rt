@@ -1,6 +1,6 @@
 //! The nodes of the vector instructions.
 use crate::id::Id;
-use node_payloads::{MemArg, Shuffle};
+use peephole_payloads::{MemArg, Shuffle};
 
 /// A node of a vector instruction: one behind the byte FD. Where it has a lane and a memory argument, these stand side by
 /// side, which takes eight bytes less than a `MemArgLane`.

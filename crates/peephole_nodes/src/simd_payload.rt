@@ -5,7 +5,7 @@ ghost use Rattle.peephole_nodes.specs.declared.payload.Payload.TheVariants as P;
 
 use crate::payload::Payload;
 use crate::simd::Simd;
-use node_payloads::{MemArg, MemArgLane};
+use peephole_payloads::{MemArg, MemArgLane};
 
 // The payload of a lane and a memory argument, which stand side by side in a node.
 #[inline(always)]

@@ -7,7 +7,7 @@ ghost use Rattle.peephole_nodes.specs.declared.payload.Payload.TheVariants as P;
 
 use crate::id::Id;
 use crate::simd::Simd;
-use node_payloads::{MemArg, MemArgLane, Shuffle};
+use peephole_payloads::{MemArg, MemArgLane, Shuffle};
 
 // The vector node of a place, with a memory argument and one child; none at a place without one.
 #[tactic(auto, unfolding(crate::specs::SimdShapes::is_simd_memory_one, crate::specs::Simd::simd_place_of, crate::specs::Simd::simd_payload_of, crate::specs::SimdChildren::simd_ids_of, crate::specs::SimdChildren::simd_count_of))]

@@ -1,5 +1,6 @@
 -- Cutting the input into lines, and reading numbers.
-use Rattle.std.proofs.Common.{◌≡◌, ◌&&◌, ℕ, suc, zero, ◌+◌, ◌<◌, ◌≤◌, ◌^◌, ◌==◌, Bool, true, false, not, cond, List, [], ◌∷◌, length, take, drop, refl, arith, rules, get_or, length-drop, Ok, Err, Some, None}
+use Rattle.std.proofs.Common.{◌≡◌, ◌&&◌, ℕ, suc, zero, ◌+◌, ◌<◌, ◌≤◌, ◌^◌, ◌==◌, Bool, true, false, not, cond, List, [], ◌∷◌, length, take}
+use Rattle.std.proofs.Common.{drop, refl, arith, rules, get_or, length-drop, Ok, Err, Some, None}
 use Rattle.std.proofs.lemmas.Bool.Decides.{nat_tests}
 use Rattle.std.proofs.lemmas.List.Sums.{position_or_len_is}
 use Rattle.std.specs.Prelude.{Option, Result, position}
@@ -35,7 +36,8 @@ is_false false h = refl
 -- what a search for a line feed finds is its place
 pub line_end-found : (bytes : List ℕ) (r : Option ℕ) → IsFirstByte (is_byte 10) bytes r → r ≡ position (is_byte 10) bytes
 line_end-found bytes None h =
-    let e = position_or_len_is (is_byte 10) bytes (length bytes) 0 (omega arith) (λ k below. is_false _ (h k (omega arith) below)) (λ less. absurd (omega arith)) in
+    let e = position_or_len_is (is_byte 10) bytes (length bytes) 0 (omega arith) (λ k below. is_false _ (h k (omega arith) below))
+    (λ less. absurd (omega arith)) in
     grind (arith, nat_tests, e)
 line_end-found bytes (Some at) h =
     let below = h.0.high in
@@ -44,7 +46,8 @@ line_end-found bytes (Some at) h =
 
 pub ruleset places = (position_some, position_none)
 
-onto_cut : (b : ℕ) (xs : List ℕ) (k : ℕ) (ls : List (List ℕ)) → ls ≡ take k xs ∷ lines_of (drop (k + 1) xs) → onto_first b ls ≡ take (1 + k) (b ∷ xs) ∷ lines_of (drop (1 + k + 1) (b ∷ xs))
+onto_cut : (b : ℕ) (xs : List ℕ) (k : ℕ) (ls : List (List ℕ)) → ls ≡ take k xs ∷ lines_of (drop (k + 1) xs) →
+    onto_first b ls ≡ take (1 + k) (b ∷ xs) ∷ lines_of (drop (1 + k + 1) (b ∷ xs))
 onto_cut b xs k ls h =
     let e : 1 + k ≡ suc k = omega arith in
     let f : 1 + k + 1 ≡ suc (k + 1) = omega arith in
@@ -58,13 +61,16 @@ lines_of-cut b [] =
       | false ↦ refl
     ]
 lines_of-cut b (c ∷ cs) =
-    elim (b == 10) as (λ t. cond t ([] ∷ lines_of (c ∷ cs)) (onto_first b (lines_of (c ∷ cs))) ≡ take (cond (not t) (1 + position_or_len (is_byte 10) (c ∷ cs)) 0) (b ∷ c ∷ cs) ∷ lines_of (drop (cond (not t) (1 + position_or_len (is_byte 10) (c ∷ cs)) 0 + 1) (b ∷ c ∷ cs))) [
+    elim (b == 10) as (λ t. cond t ([] ∷ lines_of (c ∷ cs)) (onto_first b (lines_of (c ∷ cs)))
+    ≡ take (cond (not t) (1 + position_or_len (is_byte 10) (c ∷ cs)) 0) (b ∷ c ∷ cs)
+    ∷ lines_of (drop (cond (not t) (1 + position_or_len (is_byte 10) (c ∷ cs)) 0 + 1) (b ∷ c ∷ cs))) [
       | true ↦ refl
       | false ↦ onto_cut b (c ∷ cs) (position_or_len (is_byte 10) (c ∷ cs)) (lines_of (c ∷ cs)) (lines_of-cut c cs)
     ]
 
 -- the same of a line that `cut_line` gave
-pub lines_of-cut_line : (xs line more : List ℕ) → 0 < length xs → line ≡ before_first (is_byte 10) xs → more ≡ after_first (is_byte 10) xs → lines_of xs ≡ line ∷ lines_of more
+pub lines_of-cut_line : (xs line more : List ℕ) → 0 < length xs → line ≡ before_first (is_byte 10) xs → more ≡ after_first (is_byte 10) xs →
+    lines_of xs ≡ line ∷ lines_of more
 lines_of-cut_line [] line more h e f = absurd (omega arith)
 lines_of-cut_line (b ∷ xs) line more h e f = rw (e, f) (lines_of-cut b xs)
 
@@ -77,14 +83,16 @@ digits_test = search rules
 own_numerals : IsNumeralModel (λ ds. list_all is_ascii_digit ds ≡ true) (digits_value 10)
 own_numerals = numerals_by_value _ digits_test
 
-number_some : (word : List ℕ) (x : ℕ) → list_all is_ascii_digit word ≡ true → 0 < length word → digits_value 10 word < 2 ^ 64 → x ≡ digits_value 10 word → Some x ≡ number_of word
+number_some : (word : List ℕ) (x : ℕ) → list_all is_ascii_digit word ≡ true → 0 < length word → digits_value 10 word < 2 ^ 64 →
+    x ≡ digits_value 10 word → Some x ≡ number_of word
 number_some word x a b d e = grind (arith, nat_tests)
 
 number_none : (word : List ℕ) → (list_all is_ascii_digit word ≡ true → 0 < length word → digits_value 10 word < 2 ^ 64 → ⊥) → None ≡ number_of word
 number_none word h = grind (arith, nat_tests)
 
 -- what `parse` gives of digits alone
-pub number_of-parsed : {E : Type 0} (word : List ℕ) (r : Result ℕ E) → ParsesUnsigned 64 10 word r → list_all is_ascii_digit word ≡ true → result_ok r ≡ number_of word
+pub number_of-parsed : {E : Type 0} (word : List ℕ) (r : Result ℕ E) → ParsesUnsigned 64 10 word r → list_all is_ascii_digit word ≡ true →
+    result_ok r ≡ number_of word
 number_of-parsed {E} word (Ok x) h d = let k = parse_digits own_numerals {E = E} 64 word (Ok x) h d in number_some word x d k.0.0 k.0.1 k.1
 number_of-parsed {E} word (Err e) h d = let k = parse_digits own_numerals {E = E} 64 word (Err e) h d in number_none word (λ a b v. k (b, v))
 

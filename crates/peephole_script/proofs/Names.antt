@@ -43,7 +43,8 @@ found_at p xs at h = grind (arith, nat_tests)
 not_found : {X : Type 0} (p : X → Bool) (xs : List X) → position p xs ≡ None → length xs ≤ position_or_len p xs
 not_found p xs h = grind (arith, nat_tests)
 
-split_at : (words : List (List ℕ)) (at : ℕ) → position_or_len is_arrow words ≡ at → at < length words → parts_of words ≡ Some (take at words, drop (at + 1) words)
+split_at : (words : List (List ℕ)) (at : ℕ) → position_or_len is_arrow words ≡ at → at < length words →
+    parts_of words ≡ Some (take at words, drop (at + 1) words)
 split_at words at h k = grind (arith, nat_tests)
 
 split_none : (words : List (List ℕ)) → length words ≤ position_or_len is_arrow words → parts_of words ≡ None
@@ -68,4 +69,9 @@ arrow_found words at h =
 
 pub arrow_none : (words : List (Bor (List ℕ))) → position (λ word. is_arrow word.now) words ≡ None → parts_of (texts words) ≡ None
 arrow_none words h =
-    split_none (texts words) (omega (arith, length-texts words, position_or_len-texts is_arrow words, not_found (λ (word : Bor (List ℕ)). is_arrow word.now) words h))
+    split_none (texts words) (omega (
+      arith,
+      length-texts words,
+      position_or_len-texts is_arrow words,
+      not_found (λ (word : Bor (List ℕ)). is_arrow word.now) words h,
+    ))

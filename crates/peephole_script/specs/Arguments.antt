@@ -22,13 +22,13 @@ all_of f [] = Some []
 all_of f (word ∷ words) = cons_some (f word) (all_of f words)
 
 -- the first of the types that has the name
-abbrev pub type_in : List PrimitiveTypeInfo → List ℕ → Option PrimitiveTypeInfo
-type_in [] word = None
-type_in (t ∷ ts) word = if bytes_eq word (type_name t) then Some t else type_in ts word
+abbrev pub type_named_in : List PrimitiveTypeInfo → List ℕ → Option PrimitiveTypeInfo
+type_named_in [] word = None
+type_named_in (t ∷ ts) word = if bytes_eq word (type_name t) then Some t else type_named_in ts word
 
 -- the type of a name, where it is a value's: `empty` is none
 abbrev pub type_of : List ℕ → Option PrimitiveTypeInfo
-type_of word = type_in (I32 ∷ I64 ∷ F32 ∷ F64 ∷ V128 ∷ FuncRef ∷ ExternRef ∷ []) word
+type_of word = type_named_in (I32 ∷ I64 ∷ F32 ∷ F64 ∷ V128 ∷ FuncRef ∷ ExternRef ∷ []) word
 
 -- `32` or `64`: whether it is 64
 abbrev pub is_64 : List ℕ → Option Bool

@@ -1,7 +1,7 @@
 //! What lines say of the module that the body comes from.
 
 ghost use Rattle.peephole_script.specs.Text.{texts};
-ghost use Rattle.peephole_script.specs.Declarations.{with_global, with_memory, with_table, with_type, with_function, with_declaration, Declares};
+ghost use Rattle.peephole_script.specs.Declarations.{with_global, with_memory, with_table, with_type, with_declared_function, with_declaration, Declares};
 
 use crate::arguments::{element_of, is_64, parts_of, type_of, types_of};
 use crate::fault::Fault;
@@ -103,7 +103,7 @@ fn add_type(alloc: Global, info: &mut ModuleInfo, words: &[&str]) -> Result<(), 
 }
 
 fn add_function(info: &mut ModuleInfo, words: &[&str]) -> Result<(), Fault>
-    ensures { Declares (with_function info.old (texts words.now)) info.old info.new result }
+    ensures { Declares (with_declared_function info.old (texts words.now)) info.old info.new result }
 {
     let [word] = words else {
         return Err(Fault::BadArgument);

@@ -1,9 +1,9 @@
 //! Why a line, or the whole run, gave no answer.
 
 ghost use Rattle.std.specs.Prelude.{◌≡◌};
-ghost use Rattle.peephole_script.specs.Faults.{fault_name, run_error_name};
+ghost use Rattle.peephole_script.specs.Faults.{line_fault_name, run_error_name};
 
-use node_payloads::TermError;
+use peephole_payloads::TermError;
 use std::alloc::{AllocError, AllocFailed};
 use thiserror::Error;
 use wasm_code::ReadKind;
@@ -83,7 +83,7 @@ pub enum Fault {
 impl Fault {
     /// The name that the report of a faulty line gives.
     pub fn name(&self) -> &'static str
-        ensures { result.now ≡ fault_name self.now }
+        ensures { result.now ≡ line_fault_name self.now }
     {
         match self {
             Fault::Text => "Text",

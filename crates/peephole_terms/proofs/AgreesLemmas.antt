@@ -5,15 +5,16 @@ use Rattle.std.specs.List.{All}
 use Rattle.wasm_types.specs.declared.types.PrimitiveTypeInfo.{PrimitiveTypeInfo}
 use Rattle.peephole_lang.specs.declared.lang.Head.{Head}
 use Rattle.peephole_lang.specs.Term.{Term, Terms, absent, node, no_terms, ◌▸◌}
-use Rattle.peephole_machine.specs.Values.{Value, IsValue, types, State, HasTypes, Outcome, Ends, Traps, Stuck, then_run, above, Context}
-use Rattle.peephole_machine.specs.Agreement.{SameOutcome, EndsTyped}
-use Rattle.peephole_machine.specs.RowLemmas.{and_then_some}
-use Rattle.peephole_machine.specs.SameLemmas.{same_is}
+use Rattle.wasm_execution.specs.Values.{Value, IsValue, types, State, HasTypes, Outcome, Ends, Traps, Stuck, then_run, above, Context}
+use Rattle.wasm_execution.specs.Agreement.{SameOutcome, EndsTyped}
+use Rattle.wasm_execution.specs.RowLemmas.{and_then_some}
+use Rattle.wasm_execution.specs.SameLemmas.{same_is}
 use Rattle.peephole_terms.specs.NodeKind.{NumberType, NodeKind, node_kind, Own, Random, Unfold, UseGlobal, Container, Nothing}
 use Rattle.peephole_terms.specs.Expansion.{own_draws, with_own_draws, draws_of, draws}
 use Rattle.peephole_terms.specs.Typing.{own_types, with_own_types, joined_types, types_of, types_in}
 use Rattle.peephole_terms.specs.Meaning.{own_meaning, with_own_meaning, meaning_of, meaning}
-use Rattle.peephole_terms.specs.Agrees.{Agree, Holed, hole, under, HoledTerms, here, next, fill, fill_in, DrawsNothing, StandsFor, StandFor, LeavesItsTypes, IsCongruence}
+use Rattle.peephole_terms.specs.Agrees.{Agree, Holed, hole, under, HoledTerms, here, next, fill, fill_in, DrawsNothing, TermStandsFor}
+use Rattle.peephole_terms.specs.Agrees.{StandFor, LeavesItsTypes, IsCongruence}
 use Rattle.peephole_terms.proofs.MeaningLemmas.{parts_of_types, own_typed, typed_of, typed_in}
 use Rattle.peephole_terms.proofs.WordLemmas.{both_empty, nothing_below, own_free, free_of, free_in}
 
@@ -278,7 +279,7 @@ kids_have context list k kids below None d e = absurd (go k d e)
 kids_have context list k kids below (Some ks) d e = (ks, refl)
 
 stands_childwise : (context : Context) (x : Head) (ts os : Terms Head) → StandFor context ts os →
-    StandsFor context (node x ts) (node x os)
+    TermStandsFor context (node x ts) (node x os)
 stands_childwise context x ts os a list e d us vs =
     let none = (nothing_below (node_kind x) (draws ts) d).0 in
     let (ks, b) = kids_have context list (node_kind x) ts (draws ts) (types_in context ts) d e in

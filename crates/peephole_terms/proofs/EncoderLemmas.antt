@@ -17,14 +17,14 @@ use Rattle.peephole_graphs.specs.Forest.{IsInOrder}
 use Rattle.peephole_graphs.specs.Graph.{roots}
 use Rattle.peephole_graphs.specs.GraphOf.{IsGraphOf}
 use Rattle.peephole_graphs.specs.Layout.{entry_nodes}
-use Rattle.peephole_graphs.specs.Order.{AreInOrder}
+use Rattle.peephole_graphs.specs.Order.{TreesAreInOrder}
 use Rattle.peephole_graphs.specs.Source.{Source}
 use Rattle.peephole_graphs.proofs.graph.GraphLemmas.{children_below, roots_root, roots_child}
 use Rattle.peephole_graphs.proofs.graph.LayoutTrees.{entries_below}
 use Rattle.peephole_graphs.proofs.graph.OrderLemmas.{in_order}
 use Rattle.peephole_terms.specs.declared.encoder.request.ResourceRequest.{ResourceRequest}
 use Rattle.peephole_terms.specs.EncoderSteps.{operator_of_entry, root_term, root_terms, root_steps, IsWalkable, IsInRange, Step, Writing, writing_of}
-use Rattle.peephole_terms.specs.EncoderSteps.{steps_of, steps, take_steps, then_steps, IsRefusal, Does}
+use Rattle.peephole_terms.specs.EncoderSteps.{steps_of, steps, take_steps, then_steps, IsEncoderRefusal, Does}
 use Rattle.peephole_terms.specs.Written.{Site, source_at, block_shapes, KeepsOrder}
 use Rattle.peephole_terms.proofs.WalkLemmas.{take_steps-append, refused_after, kept_more}
 
@@ -69,7 +69,7 @@ done_more {count} {front} {here} {start} {w} {v} before own = record {
 
 -- or they refuse, whatever is behind them
 refused_more : {count : ℕ} {front : List Step} {start w : Writing} (here rest : List Step) (d : Error) → Does count front start w (Ok tt) →
-    IsRefusal d (take_steps count here w) → IsRefusal d (take_steps count ((front ++ here) ++ rest) start)
+    IsEncoderRefusal d (take_steps count here w) → IsEncoderRefusal d (take_steps count ((front ++ here) ++ rest) start)
 refused_more {count} {front} {start} {w} here rest d before own =
     let begun : take_steps count (front ++ here) start ≡ take_steps count here w =
     take_steps-append count front here start ∙ ap (λ (x : Result Writing Error). then_steps x (take_steps count here)) before.ok in
@@ -105,13 +105,13 @@ module _ (at : ℕ) (t : Term Head) (entries : List StackEntry) (parents : List 
 
   -- or its term refuses, and so does the whole
   pub root_refused : {count : ℕ} {start w : Writing} (d : Error) → get_or parents i None ≡ None →
-      Does count (root_steps at t entries (take i parents)) start w (Ok tt) → IsRefusal d (take_steps count (steps_of (root_term at t entries i)) w) →
-      IsRefusal d (take_steps count (root_steps at t entries parents) start)
+      Does count (root_steps at t entries (take i parents)) start w (Ok tt) → IsEncoderRefusal d (take_steps count (steps_of (root_term at t entries i)) w) →
+      IsEncoderRefusal d (take_steps count (root_steps at t entries parents) start)
   root_refused {count} {start} d none before own =
       let more = roots_behind (take (i + 1) parents) (drop (i + 1) parents) in
       let whole = ap (λ x. steps_at (roots_of x)) (sym (take-append-drop (i + 1) parents)) ∙ (ap steps_at more.1
       ∙ (steps-append (roots_of (take (i + 1) parents)) more.0 ∙ ap (λ x. x ++ steps_at more.0) (next_root none))) in
-      subst (λ (x : List Step). IsRefusal d (take_steps count x start)) (sym whole)
+      subst (λ (x : List Step). IsEncoderRefusal d (take_steps count x start)) (sym whole)
       (refused_more (steps_of (root_term at t entries i)) (steps_at more.0) d before own)
 
   -- one more entry is none
@@ -133,7 +133,7 @@ where_written P (Err e) h = tt
 
 -- where the order is to be preserved, a call that isn't refused for its sake has a block in order
 pub order_kept : {T : Type 0} (info : Module) (preserving : Bool) (site : Site) (g : Graph) (r : Result T Error) →
-    IsGraphOf (source_at info preserving site) g → (preserving ≡ true → AreInOrder g.entries g.parents) → (r ≡ Err NoMutationsApplicable → ⊥) →
+    IsGraphOf (source_at info preserving site) g → (preserving ≡ true → TreesAreInOrder g.entries g.parents) → (r ≡ Err NoMutationsApplicable → ⊥) →
     KeepsOrder preserving (block_shapes info site) r
 order_kept info preserving site g r h lies other =
     let ordered = in_order (source_at info preserving site) g h in
@@ -144,7 +144,7 @@ order_kept info preserving site g r h lies other =
 
 -- a block out of order, while preserving, is refused
 pub order_refused : (T : Type 0) (under : Option Module) (preserving : Bool) (site : Site) (g : Graph) → preserving ≡ true →
-    IfSome under (λ info. IsGraphOf (source_at info preserving site) g) → (AreInOrder g.entries g.parents → ⊥) →
+    IfSome under (λ info. IsGraphOf (source_at info preserving site) g) → (TreesAreInOrder g.entries g.parents → ⊥) →
     IfSome under (λ info. KeepsOrder {A = T} preserving (block_shapes info site) (Err NoMutationsApplicable))
 order_refused T None preserving site g on h out = tt
 order_refused T (Some info) preserving site g on h out = record {
@@ -156,8 +156,9 @@ pub wrote : {T : Type 0} (x : T) → Ok x ≡ Err NoMutationsApplicable → ⊥
 wrote x e = cc
 
 -- writing is refused for other causes
-pub other_cause : (d : Error) (r : Result Writing Error) → IsRefusal d r → d ≡ NoMutationsApplicable → ⊥
-other_cause d r q e = subst (λ (x : Error). IsRefusal x r) e q
+pub other_cause : (d : Error) (r : Result Writing Error) → IsEncoderRefusal d r → d ≡ NoMutationsApplicable → ⊥
+other_cause d r q e = subst (λ (x : Error). IsEncoderRefusal x r) e q
 
-pub not_for_order : {T : Type 0} (d : Error) (r : Result Writing Error) → IsRefusal d r → ◌≡◌ {A = Result T Error} (Err d) (Err NoMutationsApplicable) → ⊥
+pub not_for_order : {T : Type 0} (d : Error) (r : Result Writing Error) → IsEncoderRefusal d r →
+    ◌≡◌ {A = Result T Error} (Err d) (Err NoMutationsApplicable) → ⊥
 not_for_order {T} d r q e = other_cause d r q cc

@@ -12,12 +12,13 @@ use Rattle.mutate_base.specs.declared.error.Error.{Error}
 use Rattle.mutate_base.specs.declared.error.Error.TheVariants.{Memory, CannotUnfold, GlobalIndex}
 use Rattle.peephole_lang.specs.declared.lang.Head.{Head}
 use Rattle.peephole_lang.specs.Term.{Term, Terms, absent, node, no_terms, ◌▸◌}
-use Rattle.peephole_terms.specs.NodeKind.{NumberType, IntegerType, NodeKind, node_kind, number_of, is_unfold, Own, Random, Unfold, UseGlobal}
-use Rattle.peephole_terms.specs.EncoderSteps.{Step, Writing, writing_of, own_step, children_to_write, split, steps_of, steps, take_steps, then_steps, with_instruction}
-use Rattle.peephole_terms.specs.EncoderSteps.{with_request, IsRefusal}
+use Rattle.peephole_terms.specs.NodeKind.{NumberType, IntegerType, NodeKind, node_kind, number_type_of, is_unfold, Own, Random, Unfold, UseGlobal}
+use Rattle.peephole_terms.specs.EncoderSteps.{Step, Writing, writing_of, own_step, children_to_write, split, steps_of, steps, take_steps}
+use Rattle.peephole_terms.specs.EncoderSteps.{then_steps, with_instruction}
+use Rattle.peephole_terms.specs.EncoderSteps.{with_request, IsEncoderRefusal}
 use Rattle.peephole_terms.specs.Expansion.{own_requests, with_own_requests, requests_of, requests, request, own_draws, with_own_draws, draws_of, draws}
-use Rattle.peephole_terms.specs.Expansion.{next_word, draw_words, constant_in, set_global, get_global}
-use Rattle.peephole_terms.specs.Expansion.{joined_code, own_code, with_own_code, sum_of, expansion_of, expansion, Refuses}
+use Rattle.peephole_terms.specs.Expansion.{next_word, draw_words, constant_in, global_set_code, global_get_code}
+use Rattle.peephole_terms.specs.Expansion.{joined_code, own_code, with_own_code, unfolded_sum_of, expansion_of, expansion, Refuses}
 use Rattle.peephole_terms.proofs.WalkLemmas.{take_steps-append}
 
 pub codes-append : (is js : List Instruction) → codes (is ++ js) ≡ codes is ++ codes js
@@ -38,7 +39,8 @@ words_front : (ds es : List NumberType) (s : Stream) (rest : List ℕ) →
     (draw_words (ds ++ es) s).0 ++ rest ≡ (draw_words ds s).0 ++ ((draw_words es (draw_words ds s).1).0 ++ rest)
 words_front ds es s rest = ap (λ z. z ++ rest) (draw_words-words ds es s) ∙ append_assoc (draw_words ds s).0 _ rest
 
-words_back : (ds es : List NumberType) (s : Stream) (rest : List ℕ) → drop (length ds) ((draw_words (ds ++ es) s).0 ++ rest) ≡ (draw_words es (draw_words ds s).1).0 ++ rest
+words_back : (ds es : List NumberType) (s : Stream) (rest : List ℕ) →
+    drop (length ds) ((draw_words (ds ++ es) s).0 ++ rest) ≡ (draw_words es (draw_words ds s).1).0 ++ rest
 words_back [] es s rest = refl
 words_back (d ∷ ds) es s rest = words_back ds es (next_word d s).1 rest
 
@@ -63,13 +65,13 @@ two_parts w rs qs ds es (Ok is) (Err e) go h = h is
 two_parts w rs qs ds es (Ok is) (Ok js) go h = h is ∙ simp (codes-append, append_assoc, map-append, draw_words-later)
 
 split_is : (count : ℕ) (t : IntegerType) (w : Writing) (o : Option ℤ) →
-    take_steps count (split t o ∷ []) w ≡ finish w [] (number_of t ∷ []) (sum_of t (next_word (number_of t) w.stream).0 o)
+    take_steps count (split t o ∷ []) w ≡ finish w [] (number_type_of t ∷ []) (unfolded_sum_of t (next_word (number_type_of t) w.stream).0 o)
 split_is count t w (Some z) = simp (append_assoc, append-nil)
 split_is count t w None = refl
 
 store_is : (w : Writing) (t : NumberType) (g : ℕ) (b : Bool) →
-    then_steps (cond b (Ok (with_instruction (get_global g) (with_instruction (set_global g) (with_request t w)))) (Err GlobalIndex)) (λ x. Ok x)
-    ≡ finish w (t ∷ []) [] (cond b (Ok (set_global g ∷ get_global g ∷ [])) (Err GlobalIndex))
+    then_steps (cond b (Ok (with_instruction (global_get_code g) (with_instruction (global_set_code g) (with_request t w)))) (Err GlobalIndex)) (λ x. Ok x)
+    ≡ finish w (t ∷ []) [] (cond b (Ok (global_set_code g ∷ global_get_code g ∷ [])) (Err GlobalIndex))
 store_is w t g true = simp (append_assoc, append-nil)
 store_is w t g false = refl
 
@@ -112,7 +114,8 @@ AreWritten ts = (count : ℕ) (w : Writing) (rest : List ℕ) →
 
 -- an unfold, or a node behind its children
 node_written : (k : NodeKind) (kids : Terms Head) → AreWritten kids → (count : ℕ) (w : Writing) (rest : List ℕ) →
-    take_steps count (children_to_write k (steps kids) ++ own_step k kids ∷ []) w ≡ finish w (with_own_requests k (requests kids)) (with_own_draws k (draws kids))
+    take_steps count (children_to_write k (steps kids) ++ own_step k kids ∷ []) w
+    ≡ finish w (with_own_requests k (requests kids)) (with_own_draws k (draws kids))
     (with_own_code (count + length w.requests) ((draw_words (with_own_draws k (draws kids)) w.stream).0 ++ rest) k kids
     (expansion (count + length w.requests) ((draw_words (with_own_draws k (draws kids)) w.stream).0 ++ rest) kids))
 node_written (Unfold t) kids all count w rest = split_is count t w (constant_in t kids)
@@ -158,7 +161,7 @@ finished old s v rs ds (Ok is) e =
 finished old s v rs ds (Err d) e = absurd cc
 
 -- a refusal of the steps is one of the expansion
-pub refused : (d : Error) (w : Writing) (rs ds : List NumberType) (r : Result (List Instruction) Error) → IsRefusal d (finish w rs ds r) → Refuses r d
+pub refused : (d : Error) (w : Writing) (rs ds : List NumberType) (r : Result (List Instruction) Error) → IsEncoderRefusal d (finish w rs ds r) → Refuses r d
 refused Memory w rs ds r q = tt
 refused CannotUnfold w rs ds (Ok is) q = absurd cc
 refused CannotUnfold w rs ds (Err c) q = cc

@@ -5,9 +5,9 @@ use Rattle.std.proofs.lemmas.List.Elements.{All-nil, All-cons, All-head, All-tai
 use Rattle.wasm_code.specs.Instruction.{Instruction}
 use Rattle.wasm_code.specs.declared.operator.Operator.{Operator}
 use Rattle.wasm_code.specs.declared.operator.Operator.TheVariants.{Instr}
-use Rattle.peephole_machine.specs.Values.{Context, context_in}
-use Rattle.peephole_machine.specs.IntegerRow.{integer_row}
-use Rattle.peephole_machine.specs.Laws.{NamesIn, IsFreeAlone, IsIntegerRow, AskNoWorld}
+use Rattle.wasm_execution.specs.Values.{Context, context_in}
+use Rattle.wasm_execution.specs.IntegerRow.{integer_row}
+use Rattle.wasm_execution.specs.Laws.{NamesIn, IsFreeAlone, IsIntegerRow, AskNoWorld}
 use Rattle.peephole_terms.specs.Written.{block_operators}
 use Rattle.peephole_terms.specs.SameRun.{and_instruction, instructions_in, IsIntegerOperator, IntegerBlocksRunAsBefore, IntegerBlocksAskNoWorld}
 

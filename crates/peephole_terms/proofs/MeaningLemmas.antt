@@ -7,13 +7,13 @@ use Rattle.std.proofs.lemmas.List.Elements.{All-nil}
 use Rattle.wasm_types.specs.declared.types.PrimitiveTypeInfo.{PrimitiveTypeInfo}
 use Rattle.peephole_lang.specs.declared.lang.Head.{Head}
 use Rattle.peephole_lang.specs.Term.{Term, Terms, absent, node, no_terms, ◌▸◌}
-use Rattle.peephole_machine.specs.Values.{Value, IsValue, type_of, width_of, whole, same_types, types, Context, State, HasTypes}
-use Rattle.peephole_machine.specs.IntegerRow.{if_typed, integer_row}
-use Rattle.peephole_machine.specs.Agreement.{EndsTyped}
-use Rattle.peephole_machine.specs.RowLemmas.{some_if, and_then_some, map_some, same_types_is}
-use Rattle.peephole_machine.specs.TypeLemmas.{whole_is, one, act_typed, then_typed, then_above_typed}
+use Rattle.wasm_execution.specs.Values.{Value, IsValue, type_of, width_of, whole, same_types, types, Context, State, HasTypes}
+use Rattle.wasm_execution.specs.IntegerRow.{if_typed, integer_row}
+use Rattle.wasm_execution.specs.Agreement.{EndsTyped}
+use Rattle.wasm_execution.specs.RowLemmas.{some_if, and_then_some, map_some, same_types_is}
+use Rattle.wasm_execution.specs.TypeLemmas.{whole_is, one, act_typed, then_typed, then_above_typed}
 use Rattle.peephole_terms.specs.NodeKind.{IntegerType, NodeKind, node_kind, primitive_of, Own, Random, Unfold, UseGlobal, Container}
-use Rattle.peephole_terms.specs.Expansion.{constant, constant_in, draws_of, draws, first_word}
+use Rattle.peephole_terms.specs.Expansion.{constant, constant_in, draws_of, draws, first_expansion_word}
 use Rattle.peephole_terms.specs.Typing.{own_types, with_own_types, joined_types, types_of, types_in}
 use Rattle.peephole_terms.specs.Meaning.{number_meaning, own_meaning, with_own_meaning, meaning_of, meaning}
 use Rattle.peephole_terms.proofs.MeaningRows.{constant_types}
@@ -40,7 +40,7 @@ module _ (context : Context) where
       All IsValue vs → HasTypes context s → EndsTyped context ts (own_meaning words k vs s)
   own_typed {ts} words (Own i) vs s e hv h = act_typed h (integer_row i) vs ts hv e
   own_typed {ts} words (Random t) [] s e hv h =
-      let word = first_word words in
+      let word = first_expansion_word words in
       act_typed h (integer_row (constant t word)) [] ts hv (constant_types context t word ∙ e)
   own_typed {ts} words (UseGlobal t) vs s e hv h = let p = that_type (primitive_of t) (types vs) ts e in (p.1, hv, h)
   own_typed words Container vs s e hv h = (cc, hv, h)

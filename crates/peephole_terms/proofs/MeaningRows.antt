@@ -12,17 +12,17 @@ use Rattle.wasm_code.specs.Table.{row_at, table}
 use Rattle.wasm_code.specs.declared.immediate.Imm.{Imm}
 use Rattle.wasm_code.specs.declared.immediate.Imm.TheVariants as imm
 use Rattle.wasm_types.specs.declared.types.PrimitiveTypeInfo.{PrimitiveTypeInfo}
-use Rattle.peephole_machine.specs.declared.integer.IntegerType.TheVariants as integer
-use Rattle.peephole_machine.specs.Values.{type_of, width_of, Value, whole, types, Context, State, global, write, Ends}
-use Rattle.peephole_machine.specs.Integer.{binary, add}
-use Rattle.peephole_machine.specs.IntegerRow as rows
-use Rattle.peephole_machine.specs.IntegerRow.{integer_row, row_types}
-use Rattle.peephole_machine.specs.OtherRow.{other_type}
-use Rattle.peephole_machine.specs.Machine.{run}
-use Rattle.peephole_machine.specs.RangeLemmas.{sum_split, run_sum, run_through}
+use Rattle.wasm_execution.specs.declared.integer.IntegerType.TheVariants as integer
+use Rattle.wasm_execution.specs.Values.{type_of, width_of, Value, whole, types, Context, State, global, write, Ends}
+use Rattle.wasm_execution.specs.Integer.{binary, add}
+use Rattle.wasm_execution.specs.IntegerRow as rows
+use Rattle.wasm_execution.specs.IntegerRow.{integer_row, row_types}
+use Rattle.wasm_execution.specs.OtherRow.{other_type}
+use Rattle.wasm_execution.specs.Machine.{run}
+use Rattle.wasm_execution.specs.RangeLemmas.{sum_split, run_sum, run_through}
 use Rattle.peephole_terms.specs.declared.encoder.node_kind.NumberType.TheVariants as number
-use Rattle.peephole_terms.specs.NodeKind.{NumberType, IntegerType, number_of, primitive_of}
-use Rattle.peephole_terms.specs.Expansion.{constant, rest_of, add_of, sum, set_global, get_global}
+use Rattle.peephole_terms.specs.NodeKind.{NumberType, IntegerType, number_type_of, primitive_of}
+use Rattle.peephole_terms.specs.Expansion.{constant, rest_of, add_of, sum, global_set_code, global_get_code}
 use Rattle.peephole_terms.specs.Laws.{AddUpTo, UnfoldsAddUp}
 
 -- ---- rows
@@ -66,7 +66,7 @@ unfolds_add_up = record {
   i64 = λ word z f. adds_up w64 (λ n. imm.I64 n) (constant number.I64 word) (rest_of integer.I64 word z) word z (omega arith) f refl refl;
 }
 
-pub constant_row : (t : IntegerType) (word : ℕ) → integer_row (constant (number_of t) word) ≡ rows.constant t (word % 2 ^ bits (width_of t))
+pub constant_row : (t : IntegerType) (word : ℕ) → integer_row (constant (number_type_of t) word) ≡ rows.constant t (word % 2 ^ bits (width_of t))
 unfolding integer_row row_at table
 constant_row integer.I32 word = ap (rows.constant integer.I32) (small w32 word (omega arith))
 constant_row integer.I64 word = ap (rows.constant integer.I64) (small w64 word (omega arith))
@@ -103,12 +103,12 @@ rest_types context integer.I64 word z = refl
 pub run_sum_of : (t : IntegerType) (word : ℕ) (z : ℤ) (stack : List Value) (s : State) →
     run (sum t word z) stack s ≡ Ends (stack ++ whole t (cast_unsigned (width_of t) z) ∷ []) s
 run_sum_of t word z stack s =
-    run_sum t (cast_unsigned (width_of t) z) word (constant (number_of t) word) (rest_of t word z) (add_of t) stack s (constant_row t word)
+    run_sum t (cast_unsigned (width_of t) z) word (constant (number_type_of t) word) (rest_of t word z) (add_of t) stack s (constant_row t word)
     (rest_row t word z) (add_row t)
 
 -- a value that is put into a global and read from it again
 pub run_through_global : (t : PrimitiveTypeInfo) (g : ℕ) (v : Value) (stack : List Value) (s : State) → v.type ≡ t →
     slice_get (types s.globals) g ≡ Some t →
-    run (set_global g ∷ get_global g ∷ []) (stack ++ v ∷ []) s ≡ Ends (stack ++ v ∷ []) (write (global g) v s)
+    run (global_set_code g ∷ global_get_code g ∷ []) (stack ++ v ∷ []) s ≡ Ends (stack ++ v ∷ []) (write (global g) v s)
 unfolding integer_row row_at table
-run_through_global t g v stack s hv hg = run_through t g v (set_global g) (get_global g) stack s refl refl hv hg
+run_through_global t g v stack s hv hg = run_through t g v (global_set_code g) (global_get_code g) stack s refl refl hv hg

@@ -13,11 +13,12 @@ use Rattle.mutate_base.specs.declared.error.Error.TheVariants.{CannotUnfold, Glo
 use Rattle.peephole_lang.specs.declared.lang.Head.{Head}
 use Rattle.peephole_lang.specs.Term.{Term, Terms, absent, node, no_terms, ◌▸◌}
 use Rattle.peephole_graphs.specs.Tree.{Trees}
-use Rattle.peephole_machine.specs.declared.integer.IntegerType.TheVariants as integer
+use Rattle.wasm_execution.specs.declared.integer.IntegerType.TheVariants as integer
 use Rattle.peephole_terms.specs.declared.encoder.node_kind.NumberType.TheVariants as number
-use Rattle.peephole_terms.specs.NodeKind.{NumberType, IntegerType, NodeKind, node_kind, number_of, Own, Random, Unfold, UseGlobal}
+use Rattle.peephole_terms.specs.NodeKind.{NumberType, IntegerType, NodeKind, node_kind, number_type_of, Own, Random, Unfold, UseGlobal}
 use Rattle.peephole_terms.specs.EncoderSteps.{Step, IsInRange, split, store, own_step, children_to_write, steps_of, steps}
-use Rattle.peephole_terms.specs.Expansion.{constant, rest_of, add_of, set_global, get_global, constant_in, sum_of, first_word, joined_code, own_code}
+use Rattle.peephole_terms.specs.Expansion.{constant, rest_of, add_of, global_set_code, global_get_code, constant_in, unfolded_sum_of}
+use Rattle.peephole_terms.specs.Expansion.{first_expansion_word, joined_code, own_code}
 use Rattle.peephole_terms.specs.Expansion.{with_own_code}
 use Rattle.peephole_terms.specs.Expansion.{requests_of, requests, draws_of, draws, draw_words, expansion_of, expansion}
 use Rattle.peephole_terms.specs.Laws.{RefusesByName}
@@ -57,23 +58,23 @@ IsSound taken (Err e) = (e ≡ CannotUnfold) ⊎ (e ≡ GlobalIndex)
 one_is : (i : Instruction) → IsInstruction i → All IsInstruction (i ∷ [])
 one_is i h = All-cons IsInstruction i [] h (All-nil IsInstruction)
 
-sum_sound : (t : IntegerType) (word : ℕ) (o : Option ℤ) → IsSound (split t o ∷ []) (sum_of t word o)
+sum_sound : (t : IntegerType) (word : ℕ) (o : Option ℤ) → IsSound (split t o ∷ []) (unfolded_sum_of t word o)
 sum_sound t word (Some z) = λ r.
-    All-cons IsInstruction (constant (number_of t) word) (rest_of t word z ∷ add_of t ∷ []) (constant_is (number_of t) word)
+    All-cons IsInstruction (constant (number_type_of t) word) (rest_of t word z ∷ add_of t ∷ []) (constant_is (number_type_of t) word)
     (All-cons IsInstruction (rest_of t word z) (add_of t ∷ []) (rest_is t word z) (one_is (add_of t) (add_is t)))
 sum_sound t word None = inl refl
 
 through_sound : (t : NumberType) (g : ℕ) (b : Bool) → nat_le g 4294967295 ≡ b →
-    IsSound (store t ∷ []) (cond b (Ok (set_global g ∷ get_global g ∷ [])) (Err GlobalIndex))
+    IsSound (store t ∷ []) (cond b (Ok (global_set_code g ∷ global_get_code g ∷ [])) (Err GlobalIndex))
 through_sound t g true e = λ r.
     let small = leb-true g 4294967295 e in
-    All-cons IsInstruction (set_global g) (get_global g ∷ []) (record { kind = global_set_row g; in_range = omega arith })
-    (one_is (get_global g) (record { kind = global_get_row g; in_range = omega arith }))
+    All-cons IsInstruction (global_set_code g) (global_get_code g ∷ []) (record { kind = global_set_row g; in_range = omega arith })
+    (one_is (global_get_code g) (record { kind = global_get_row g; in_range = omega arith }))
 through_sound t g false e = inr refl
 
 own_sound : (k : NodeKind) (kids : Terms Head) (next : ℕ) (words : List ℕ) → IsSound (own_step k kids ∷ []) (own_code next words k)
 own_sound (Own i) kids next words = λ r. one_is i (All-head IsInRange (own_step (Own i) kids) [] r)
-own_sound (Random t) kids next words = λ r. one_is (constant t (first_word words)) (constant_is t (first_word words))
+own_sound (Random t) kids next words = λ r. one_is (constant t (first_expansion_word words)) (constant_is t (first_expansion_word words))
 own_sound (UseGlobal t) kids next words = through_sound t next (nat_le next 4294967295) refl
 own_sound _ kids next words = λ r. All-nil IsInstruction
 
@@ -90,7 +91,7 @@ AreSound ts = (n : ℕ) (words : List ℕ) → IsSound (steps ts) (expansion n w
 
 node_sound : (k : NodeKind) (kids : Terms Head) (n : ℕ) (words : List ℕ) → AreSound kids →
     IsSound (children_to_write k (steps kids) ++ own_step k kids ∷ []) (with_own_code n words k kids (expansion n words kids))
-node_sound (Unfold t) kids n words all = sum_sound t (first_word words) (constant_in t kids)
+node_sound (Unfold t) kids n words all = sum_sound t (first_expansion_word words) (constant_in t kids)
 node_sound k kids n words all =
     joined_sound (steps kids) (own_step k kids ∷ []) (expansion n words kids) (own_code (n + length (requests kids)) (drop (length (draws kids)) words) k)
     (all n words) (own_sound k kids (n + length (requests kids)) (drop (length (draws kids)) words))

@@ -16,10 +16,11 @@ use Rattle.peephole_graphs.specs.Block.{BlockRange, IsBlockIn}
 use Rattle.peephole_terms.specs.OwnBytes.{own_bytes}
 use Rattle.peephole_terms.specs.Written.{Site, site_at, without_offsets, offset_of, before_block, after_block, written_body, IsBodyIn}
 use Rattle.peephole_terms.specs.ReadAgain.{ReadsAgain}
-use Rattle.peephole_terms.specs.Spliced.{coded, piece}
-use Rattle.peephole_terms.specs.EncoderSteps.{IsInside}
+use Rattle.peephole_terms.specs.Spliced.{coded, range_as_block}
+use Rattle.peephole_terms.specs.EncoderSteps.{BlockIsInside}
 use Rattle.peephole_terms.proofs.OwnBytesLemmas.{own_are}
-use Rattle.peephole_terms.proofs.SpellingLemmas.{Spelling, CodesSpell, spelled, spellings_of, all_joined, spelled_append, spelled_take, spelled_drop, bytes_of-append}
+use Rattle.peephole_terms.proofs.SpellingLemmas.{Spelling, CodesSpell, spelled, spellings_of, all_joined, spelled_append, spelled_take}
+use Rattle.peephole_terms.proofs.SpellingLemmas.{spelled_drop, bytes_of-append}
 use Rattle.peephole_terms.proofs.SpellingLemmas.{joined_parts, named_placed, length-with_offsets, offset_placed, coded_spelled, joined_coded, spelled_coded}
 use Rattle.peephole_terms.proofs.SpellingLemmas.{ends_with, ends_named, ends_behind, last_size, StandsIn, stands_in, front_in, back_in}
 
@@ -90,7 +91,8 @@ last_with ps block code l =
 -- what is written is a body by itself
 pub again_of : CodesSpell → (ps : List Spelling) (block : BlockRange) (code : List Instruction) → AreSpelled ps → IsTrue (ends_with (spelled ps)) →
     block.end < length ps → All IsInstruction code →
-    IsBodyOf (bytes_of (with_code ps block code)) 0 (length (bytes_of (with_code ps block code))) (with_code ps block code) (with_offsets 0 (with_code ps block code))
+    IsBodyOf (bytes_of (with_code ps block code)) 0 (length (bytes_of (with_code ps block code))) (with_code ps block code)
+    (with_offsets 0 (with_code ps block code))
 again_of spell ps block code each last l all =
     let qs = with_code ps block code in
     let whole : slice_range (bytes_of qs) 0 (length (bytes_of qs)) ≡ bytes_of qs = take_all (length (bytes_of qs) - 0) (bytes_of qs) (omega arith) in
@@ -130,8 +132,8 @@ pub record IsBeforeLast (operators : List (Operator × ℕ)) (block : BlockRange
   pub inside : block.end < length operators
 
 -- the range of a block
-pub piece_is : (block : BlockRange) {start end : ℕ} → start ≡ block.start → end ≡ block.end → piece start end ≡ block
-piece_is block e f = ap₂ piece e f
+pub piece_is : (block : BlockRange) {start end : ℕ} → start ≡ block.start → end ≡ block.end → range_as_block start end ≡ block
+piece_is block e f = ap₂ range_as_block e f
 
 -- behind a block something stands
 pub block_before_last : {input : List ℕ} (operators : List (Operator × ℕ)) (block : BlockRange) → IsBodyIn input operators → IsBlockIn operators block →
@@ -186,7 +188,7 @@ joined_less ps i j l =
 
 -- so the bytes outside are in the input
 pub inside : (input : List ℕ) (operators : List (Operator × ℕ)) (block : BlockRange) → IsBodyIn input operators → IsBeforeLast operators block →
-    IsInside input operators block
+    BlockIsInside input operators block
 inside input operators block b k =
     let h = spelled_in input operators block b k in
     let last = length h.ps - 1 in
@@ -224,7 +226,8 @@ reads_again spell site code b k all =
     let names = alone_are h.is in
     record {
       again = with_offsets 0 qs;
-      spells = subst (λ (t : List ℕ). SpellsCode 0 t (with_offsets 0 qs)) (sym text) (spells_again (bytes_of qs) (length (bytes_of qs)) qs (with_offsets 0 qs) again refl);
+      spells = subst (λ (t : List ℕ). SpellsCode 0 t (with_offsets 0 qs)) (sym text)
+          (spells_again (bytes_of qs) (length (bytes_of qs)) qs (with_offsets 0 qs) again refl);
       are = named_placed 0 qs ∙ (spelled_with h.ps block code
           ∙ ap₂ (λ (x y : List Operator). x ++ (map (λ (i : Instruction). Instr i) code ++ y))
           (ap (take block.start) (sym names) ∙ take-map (λ (o : Operator × ℕ). o.0) block.start site.operators)

@@ -20,9 +20,9 @@ use Rattle.peephole_graphs.specs.declared.shape.Judged.TheVariants.{Fits}
 use Rattle.peephole_graphs.specs.Shape.{IsFit, AreFit, judge, judge_instruction, and_shape, operator_shapes}
 use Rattle.peephole_graphs.specs.Tree.{Tree, Trees, entry, node, no_trees, ◌▸◌, join, postfix_of, postfix, shapes_of, shapes, instructions_of, instructions}
 use Rattle.peephole_graphs.specs.Tree.{renumber}
-use Rattle.peephole_graphs.specs.Forest.{low, from_height, at_height, operator_tree, trees, is_operand, without, forest, IsInOrder}
+use Rattle.peephole_graphs.specs.Forest.{first_operand_height, from_height, at_height, operator_tree, trees, is_operand, trees_without, forest, IsInOrder}
 use Rattle.peephole_terms.specs.Written.{Site, site_at, without_offsets, block_operators, block_shapes, written_body, IsBodyIn}
-use Rattle.peephole_terms.specs.ReadAgain.{IsReread}
+use Rattle.peephole_terms.specs.ReadAgain.{BlockIsReread}
 use Rattle.peephole_terms.proofs.RootTerms.{All-reverse, All-front, All-back}
 use Rattle.peephole_graphs.proofs.BuilderLemmas.{block_length, operator_fits}
 use Rattle.peephole_graphs.proofs.forest.ForestLemmas.{forest_is}
@@ -31,7 +31,8 @@ use Rattle.peephole_graphs.proofs.forest.TreeOrder.{written_in_order, shapes-ren
 use Rattle.peephole_graphs.proofs.graph.OrderLemmas.{count_all}
 use Rattle.peephole_terms.specs.Spliced.{spelling_of, coded}
 use Rattle.peephole_terms.proofs.SpellingLemmas.{CodesSpell, Spelling, named_placed, length-with_offsets}
-use Rattle.peephole_terms.proofs.ReadAgainLemmas.{alone_are, count_is, with_code, spelled_with, written_is, again_of, spells_again, block_before_last, spelled_in}
+use Rattle.peephole_terms.proofs.ReadAgainLemmas.{alone_are, count_is, with_code, spelled_with, written_is, again_of, spells_again}
+use Rattle.peephole_terms.proofs.ReadAgainLemmas.{block_before_last, spelled_in}
 
 -- ---- the shapes of a forest are its block's
 
@@ -43,13 +44,14 @@ module _ (P : Shape → Type 0) where
 
   own_holds : (s : Shape) (earlier : List Shape) → P s → ((p : ℤ) → All P (shapes_of (at_height earlier p))) → All P (shapes_of (operator_tree s earlier))
   own_holds s earlier h older =
-      All-push P (shapes (from_height (at_height earlier) (low s earlier) s.operands)) s (places_hold (at_height earlier) older (low s earlier) s.operands) h
+      All-push P (shapes (from_height (at_height earlier) (first_operand_height s earlier) s.operands)) s
+      (places_hold (at_height earlier) older (first_operand_height s earlier) s.operands) h
 
   place_holds : (block : List Shape) → All P block → (p : ℤ) → All P (shapes_of (at_height block p))
   place_holds [] all p = All-nil P
   place_holds (s ∷ earlier) all p =
       let older = place_holds earlier (All-tail P s earlier all) in
-      elim (s.has_result && int_eq p (low s earlier)) as (λ b. All P (shapes_of (cond b (operator_tree s earlier) (at_height earlier p)))) [
+      elim (s.has_result && int_eq p (first_operand_height s earlier)) as (λ b. All P (shapes_of (cond b (operator_tree s earlier) (at_height earlier p)))) [
         | true ↦ own_holds s earlier (All-head P s earlier all) older
         | false ↦ older p
       ]
@@ -66,15 +68,15 @@ module _ (P : Shape → Type 0) where
       joined_hold (trees earlier) (operator_tree s earlier ▸ no_trees) (trees_hold earlier rest)
       (rw append-nil (own_holds s earlier (All-head P s earlier all) (place_holds earlier rest)))
 
-  without_hold : (test : ℕ → Bool) (ts : Trees) → All P (shapes ts) → All P (shapes (without test ts))
+  without_hold : (test : ℕ → Bool) (ts : Trees) → All P (shapes ts) → All P (shapes (trees_without test ts))
   without_hold test no_trees h = h
   without_hold test (entry m ▸ ts) h = without_hold test ts h
   without_hold test (node i s kids ▸ ts) h =
       let own = shapes kids ++ s ∷ [] in
       let rest = without_hold test ts (All-back P own (shapes ts) h) in
-      elim (test i) as (λ b. All P (shapes (cond b (without test ts) (node i s kids ▸ without test ts)))) [
+      elim (test i) as (λ b. All P (shapes (cond b (trees_without test ts) (node i s kids ▸ trees_without test ts)))) [
         | true ↦ rest
-        | false ↦ All-append P own (shapes (without test ts)) (All-front P own (shapes ts) h) rest
+        | false ↦ All-append P own (shapes (trees_without test ts)) (All-front P own (shapes ts) h) rest
       ]
 
   forest_holds : (block : List Shape) → All P block → All P (shapes (forest block))
@@ -285,7 +287,7 @@ block_size operators block l m = omega (arith, length-take (block.end - block.st
 
 pub reread : CodesSpell → (info : Module) (site : Site) → IsBodyIn site.input site.operators → IsBlockIn site.operators site.block →
     AreFit info (block_operators site) → All IsInstruction (instructions (forest (block_shapes info site))) →
-    IsReread info site (written_body site (instructions (forest (block_shapes info site))))
+    BlockIsReread info site (written_body site (instructions (forest (block_shapes info site))))
 reread spell info site b k fit all =
     let input = site.input in
     let operators = site.operators in

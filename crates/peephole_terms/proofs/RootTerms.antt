@@ -18,10 +18,10 @@ use Rattle.peephole_lang.specs.Term as term
 use Rattle.peephole_lang.specs.Term.{Term, Terms, absent, ◌▸◌}
 use Rattle.peephole_graphs.specs.declared.dfg.StackEntry.{StackEntry}
 use Rattle.peephole_graphs.specs.declared.shape.Shape.{Shape}
-use Rattle.peephole_graphs.specs.Entries.{Graph, shape_of, entry_tree, roots_of}
+use Rattle.peephole_graphs.specs.Entries.{Graph, instruction_shape_of, entry_tree, roots_of}
 use Rattle.peephole_graphs.specs.Forest.{forest}
 use Rattle.peephole_graphs.specs.Graph.{trees_at, roots}
-use Rattle.peephole_graphs.specs.GraphOf.{IsGraphOf, IsEntryOf}
+use Rattle.peephole_graphs.specs.GraphOf.{IsGraphOf, IsStackEntryOf}
 use Rattle.peephole_graphs.specs.Layout.{entry_nodes}
 use Rattle.peephole_graphs.specs.Source.{Source, shapes_in}
 use Rattle.peephole_graphs.specs.Tree as tree
@@ -99,9 +99,9 @@ record IsOwnOf (s : Source) (g : Graph) (r i : ℕ) : Type 0 where
   own : g.own_entry (s.first + i) ≡ Some r
 
 own_of : (s : Source) (g : Graph) (r i : ℕ) (shape : Shape) (kids : Trees) (e : StackEntry) → IsGraphOf s g → slice_get g.entries r ≡ Some e →
-    operator_of_entry g.entries r ≡ e.operator_idx → entry_tree s g r ≡ node i shape kids → IsEntryOf s e → IsOwnOf s g r i
+    operator_of_entry g.entries r ≡ e.operator_idx → entry_tree s g r ≡ node i shape kids → IsStackEntryOf s e → IsOwnOf s g r i
 own_of s g r i shape kids e h there index is (n, inside, at, inl (instr, place, found, named, color)) =
-    let same : node (e.operator_idx - s.first) (shape_of s.info instr) (trees_at (entry_tree s g) (children_of e.operator)) ≡ node i shape kids =
+    let same : node (e.operator_idx - s.first) (instruction_shape_of s.info instr) (trees_at (entry_tree s g) (children_of e.operator)) ≡ node i shape kids =
     sym (own_tree s g h.forest_is r e instr there named) ∙ is in
     let number : e.operator_idx - s.first ≡ i = cc in
     let whole : s.first + i ≡ e.operator_idx = omega arith in

@@ -23,14 +23,14 @@ use Rattle.peephole_graphs.specs.Source.{Source}
 use Rattle.peephole_graphs.specs.Layout.{entry_nodes}
 use Rattle.peephole_graphs.proofs.BuilderLemmas.{operator_fits}
 use Rattle.peephole_graphs.proofs.forest.TreeOrder.{in_order_code}
-use Rattle.peephole_machine.specs.Values.{Value, IsValue, types, Context, context_in, State, HasTypes, Outcome, Ends, Traps, Stuck, then_run, above}
-use Rattle.peephole_machine.specs.Machine.{run}
-use Rattle.peephole_machine.specs.Agreement.{with_globals, SameOutcome}
-use Rattle.peephole_machine.specs.Laws.{Keeps}
-use Rattle.peephole_machine.specs.OutcomeLemmas.{run_append, run_three}
-use Rattle.peephole_machine.specs.StateLemmas.{none_of, with_more, Follows}
-use Rattle.peephole_machine.specs.TypeLemmas.{run_keeps}
-use Rattle.peephole_machine.specs.SameLemmas.{then_stuck, then_follows_run, run_follows, more_same, same_is}
+use Rattle.wasm_execution.specs.Values.{Value, IsValue, types, Context, context_in, State, HasTypes, Outcome, Ends, Traps, Stuck, then_run, above}
+use Rattle.wasm_execution.specs.Machine.{run}
+use Rattle.wasm_execution.specs.Agreement.{with_globals, SameOutcome}
+use Rattle.wasm_execution.specs.Laws.{Keeps}
+use Rattle.wasm_execution.specs.OutcomeLemmas.{run_append, run_three}
+use Rattle.wasm_execution.specs.StateLemmas.{none_of, with_more, Follows}
+use Rattle.wasm_execution.specs.TypeLemmas.{run_keeps}
+use Rattle.wasm_execution.specs.SameLemmas.{then_stuck, then_follows_run, run_follows, more_same, same_is}
 use Rattle.peephole_terms.specs.NodeKind.{NumberType, primitive_of}
 use Rattle.peephole_terms.specs.Expansion.{Setting, requests_of, expansion_of, expansion_in}
 use Rattle.peephole_terms.specs.Written.{Site, source_at, block_operators, is_written, term_code, written_block}

@@ -16,7 +16,7 @@ use Rattle.peephole_graphs.specs.Entries.{Graph, roots_of}
 use Rattle.peephole_graphs.specs.Forest.{forest}
 use Rattle.peephole_graphs.specs.GraphOf.{IsGraphOf}
 use Rattle.peephole_terms.specs.declared.encoder.request.ResourceRequest.{ResourceRequest}
-use Rattle.peephole_terms.specs.EncoderSteps.{Writing, Does, around, with_bytes, writing_of, root_terms, root_steps, steps_of, steps}
+use Rattle.peephole_terms.specs.EncoderSteps.{Writing, Does, around, writing_with_bytes, writing_of, root_terms, root_steps, steps_of, steps}
 use Rattle.peephole_terms.specs.Expansion.{Setting, expansion_in, after_term, Refuses, then_code, expansion, requests_of, requests, request, draws_of, draws}
 use Rattle.peephole_terms.specs.Expansion.{draw_words}
 use Rattle.peephole_terms.specs.Written.{Site, source_at, AppendsBody, RefusesBody, block_shapes, is_written, term_requests, after_block_term, before_block}
@@ -156,6 +156,6 @@ module _ (s : Setting) (preserving : Bool) (site : Site) (g : Graph) (t : Term H
   pub body_refused : (old : List ℕ) (v : Writing) (e : Error) → DoesBody s site g t old v (Err e) → RefusesBody s site t e
   body_refused old v e d = λ other.
       let r = around_refused count (front_of site) (back_of site) (steps us) (start_at s old) e d.err in
-      let q = refused e (with_bytes (front_of site) (start_at s old)) (requests us) (draws us) (expansion count (draw_words (draws us) s.stream).0 us)
+      let q = refused e (writing_with_bytes (front_of site) (start_at s old)) (requests us) (draws us) (expansion count (draw_words (draws us) s.stream).0 us)
       (rw (all_from_start us count (old ++ front_of site) s.stream) at r) in
       rw ((written_where (is_written s.info site) s t).0) (followed_err (expansion_in s own) (λ code. written_block s.info site code) e (rw code_is at q))

@@ -16,17 +16,17 @@ use Rattle.wasm_types.specs.declared.types.PrimitiveTypeInfo.{PrimitiveTypeInfo}
 use Rattle.peephole_lang.specs.declared.lang.Head.{Head}
 use Rattle.peephole_lang.specs.Node.{instr_of_head}
 use Rattle.peephole_lang.specs.Term.{Term, Terms, absent, node, no_terms, ◌▸◌}
-use Rattle.peephole_machine.specs.Values.{Context, context_in}
+use Rattle.wasm_execution.specs.Values.{Context, context_in}
 use Rattle.peephole_terms.specs.declared.encoder.request.ResourceRequest.{ResourceRequest}
-use Rattle.peephole_programs.specs.validation.Algorithm.{check_code}
-use Rattle.peephole_programs.specs.validation.StaysValid.{with_types, ChecksAs}
-use Rattle.peephole_programs.specs.control.Wider.{wider}
+use Rattle.wasm_equivalence.specs.validation.Algorithm.{check_code}
+use Rattle.wasm_equivalence.specs.validation.StaysValid.{with_types, ChecksAs}
+use Rattle.wasm_equivalence.specs.control.Wider.{wider}
 use Rattle.peephole_terms.specs.NodeKind.{NumberType, node_kind, primitive_of}
-use Rattle.peephole_terms.specs.EncoderSteps.{Writing, Does, around, with_bytes, writing_of, steps_of}
+use Rattle.peephole_terms.specs.EncoderSteps.{Writing, Does, around, writing_with_bytes, writing_of, steps_of}
 use Rattle.peephole_terms.specs.Expansion.{Setting, draw_words, draws_of, requests_of, request, expansion_in, after_term, Refuses}
 use Rattle.peephole_terms.specs.SameRun.{EvaluatesAs, and_instruction, instructions_in}
-use Rattle.peephole_terms.specs.Spliced.{operator_of_head, tree_operators, operators_of_trees, some_operator, piece}
-use Rattle.peephole_terms.specs.Spliced.{StandsAt, KeepsEveryRun, KeepsItsRun, RunsSpliced, AppendsSpliced}
+use Rattle.peephole_terms.specs.Spliced.{operator_of_head, tree_operators, operators_of_trees, some_operator, range_as_block}
+use Rattle.peephole_terms.specs.Spliced.{StandsAt, KeepsEveryRun, KeepsItsRun, RunsSpliced, AppendsSplicedTerm}
 use Rattle.peephole_terms.specs.StackCode.{words_for}
 use Rattle.peephole_terms.specs.Written.{site_at, IsBodyIn, before_block, after_block}
 use Rattle.peephole_terms.proofs.ExpansionLemmas.{finished, from_start, refused}
@@ -191,7 +191,7 @@ around_given c f b same empty d = rw (c, f, b, same, empty) at d
 -- What a call has done that succeeded.
 pub record HasSpliced (s : Setting) (input : List ℕ) (operators : List (Operator × ℕ)) (start end : ℕ) (t : Term Head) (old : List ℕ) (v : Writing) :
     Type 0 where
-  pub body : AppendsSpliced s input operators start end t old v.bytes
+  pub body : AppendsSplicedTerm s input operators start end t old v.bytes
   pub asks : v.requests ≡ map request (requests_of t)
   pub leaves : setting s.info v.stream ≡ after_term s t
 
@@ -200,10 +200,10 @@ module _ (s : Setting) (input : List ℕ) (operators : List (Operator × ℕ)) (
   count = length s.info.globals
 
   abbrev before : List ℕ
-  before = before_block input operators (piece start end)
+  before = before_block input operators (range_as_block start end)
 
   abbrev after : List ℕ
-  after = after_block input operators (piece start end)
+  after = after_block input operators (range_as_block start end)
 
   pub spliced_done : CodesSpell → TypedRowsCheck → IsBodyIn input operators → start ≤ end → end < length operators → (old : List ℕ) (v : Writing) →
       DoesAround s before after t old v (Ok tt) → HasSpliced s input operators start end t old v
@@ -219,7 +219,7 @@ module _ (s : Setting) (input : List ℕ) (operators : List (Operator × ℕ)) (
           expands = h.expands;
           appended = ap (λ (x : Writing). x.bytes) f ∙ (ap (λ x. x ++ after) h.bytes
               ∙ (append_assoc (old ++ before) (codes code) after ∙ append_assoc old before (codes code ++ after)));
-          reads = reads_again spell (site_at input operators (piece start end) start) code body (record { ordered = l; inside = m }) in_range;
+          reads = reads_again spell (site_at input operators (range_as_block start end) start) code body (record { ordered = l; inside = m }) in_range;
           runs = runs_spliced law s operators start end t code l h.expands;
         };
         asks = ap (λ (x : Writing). x.requests) f ∙ h.asks;
@@ -229,5 +229,5 @@ module _ (s : Setting) (input : List ℕ) (operators : List (Operator × ℕ)) (
   pub spliced_refused : (old : List ℕ) (v : Writing) (e : Error) → DoesAround s before after t old v (Err e) → Refuses (expansion_in s t) e
   spliced_refused old v e d =
       let r = around_refused count before after (steps_of t) (start_at s old) e d.err in
-      refused e (with_bytes before (start_at s old)) (requests_of t) (draws_of t) (expansion_in s t)
+      refused e (writing_with_bytes before (start_at s old)) (requests_of t) (draws_of t) (expansion_in s t)
       (rw (from_start t count (old ++ before) s.stream) at r)

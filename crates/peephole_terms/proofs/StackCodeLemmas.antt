@@ -1,5 +1,6 @@
 -- A typed term's instructions do what the term means.
-use Rattle.std.proofs.Common.{◌≡◌, ℕ, ℤ, zero, suc, ◌+◌, ◌-◌, ◌≤◌, Bool, true, false, cond, List, [], ◌∷◌, ◌++◌, length, map, drop, Option, Some, None, Result, Ok}
+use Rattle.std.proofs.Common.{◌≡◌, ℕ, ℤ, zero, suc, ◌+◌, ◌-◌, ◌≤◌, Bool, true, false, cond, List, [], ◌∷◌, ◌++◌, length, map, drop, Option}
+use Rattle.std.proofs.Common.{Some, None, Result, Ok}
 use Rattle.std.proofs.Common.{Err, refl, sym, ap, ◌∙◌, subst, arith, append_assoc, append-nil}
 use Rattle.std.specs.Prelude.{nat_le, slice_get, set as slice_set, option_map}
 use Rattle.std.specs.List.{All}
@@ -10,16 +11,17 @@ use Rattle.mutate_base.specs.declared.error.Error.{Error}
 use Rattle.mutate_base.specs.declared.error.Error.TheVariants.{GlobalIndex}
 use Rattle.peephole_lang.specs.declared.lang.Head.{Head}
 use Rattle.peephole_lang.specs.Term.{Term, Terms, absent, node, no_terms, ◌▸◌}
-use Rattle.peephole_machine.specs.Values.{type_of, Value, IsValue, types, Context, context_in, State, HasTypes, Outcome, Ends, Traps, Stuck, then_run, above}
-use Rattle.peephole_machine.specs.IntegerRow.{operand_count, integer_row, row_types}
-use Rattle.peephole_machine.specs.Machine.{act, run}
-use Rattle.peephole_machine.specs.Agreement.{with_globals, SameOutcome, EndsTyped}
-use Rattle.peephole_machine.specs.OutcomeLemmas.{above_above, run_append, run_one, types_append, length_types}
-use Rattle.peephole_machine.specs.RowLemmas.{and_then_some, row_types_count, step_at}
-use Rattle.peephole_machine.specs.StateLemmas.{own_is, own_front, with_more, above_more, Follows}
-use Rattle.peephole_machine.specs.SameLemmas.{act_follows}
+use Rattle.wasm_execution.specs.Values.{type_of, Value, IsValue, types, Context, context_in, State, HasTypes, Outcome, Ends, Traps, Stuck, then_run, above}
+use Rattle.wasm_execution.specs.IntegerRow.{operand_count, integer_row, row_types}
+use Rattle.wasm_execution.specs.Machine.{act, run}
+use Rattle.wasm_execution.specs.Agreement.{with_globals, SameOutcome, EndsTyped}
+use Rattle.wasm_execution.specs.OutcomeLemmas.{above_above, run_append, run_one, types_append, length_types}
+use Rattle.wasm_execution.specs.RowLemmas.{and_then_some, row_types_count, step_at}
+use Rattle.wasm_execution.specs.StateLemmas.{own_is, own_front, with_more, above_more, Follows}
+use Rattle.wasm_execution.specs.SameLemmas.{act_follows}
 use Rattle.peephole_terms.specs.NodeKind.{NumberType, IntegerType, NodeKind, node_kind, primitive_of, Own, Random, Unfold, UseGlobal, Container}
-use Rattle.peephole_terms.specs.Expansion.{constant, sum, set_global, get_global, constant_in, sum_of, through_global, joined_code, first_word}
+use Rattle.peephole_terms.specs.Expansion.{constant, sum, global_set_code, global_get_code, constant_in, unfolded_sum_of, through_global}
+use Rattle.peephole_terms.specs.Expansion.{joined_code, first_expansion_word}
 use Rattle.peephole_terms.specs.Expansion.{own_code, with_own_code, own_requests, with_own_requests, requests_of, requests, draws_of, draws, expansion_of}
 use Rattle.peephole_terms.specs.Expansion.{expansion}
 use Rattle.peephole_terms.specs.Typing.{own_types, with_own_types, types_of, types_in}
@@ -101,10 +103,10 @@ joined_ok (Ok front) (Ok back) code e = (front, back, refl, refl, cc)
 joined_ok (Ok front) (Err d) code e = absurd cc
 joined_ok (Err d) b code e = absurd cc
 
-pub through_code : (g : ℕ) (code : List Instruction) → through_global g ≡ Ok code → set_global g ∷ get_global g ∷ [] ≡ code
+pub through_code : (g : ℕ) (code : List Instruction) → through_global g ≡ Ok code → global_set_code g ∷ global_get_code g ∷ [] ≡ code
 through_code g code e = go (nat_le g 4294967295) e
   where
-    go : (b : Bool) → cond b (Ok (set_global g ∷ get_global g ∷ [])) (Err GlobalIndex) ≡ Ok code → set_global g ∷ get_global g ∷ [] ≡ code
+    go : (b : Bool) → cond b (Ok (global_set_code g ∷ global_get_code g ∷ [])) (Err GlobalIndex) ≡ Ok code → global_set_code g ∷ global_get_code g ∷ [] ≡ code
     go true e = cc
     go false e = absurd cc
 
@@ -138,7 +140,7 @@ module _ (context : Context) where
   -- a global that is set and read, behind one value
   through_follows : (t : PrimitiveTypeInfo) (g : ℕ) (stack vs : List Value) (s : State) (more : List Value) → types vs ≡ t ∷ [] →
       slice_get (context.info.globals ++ types more) g ≡ Some t → length context.info.globals ≤ g → HasTypes context s →
-      Follows more (Ends (stack ++ vs) s) (run (set_global g ∷ get_global g ∷ []) (stack ++ vs) (with_globals more s))
+      Follows more (Ends (stack ++ vs) s) (run (global_set_code g ∷ global_get_code g ∷ []) (stack ++ vs) (with_globals more s))
   through_follows t g stack (v ∷ []) s more e there l h =
       let one : v.type ≡ t = cc in
       let count : length s.globals ≡ length context.info.globals = sym (length_types s.globals) ∙ ap length h.globals_are in
@@ -178,7 +180,7 @@ module _ (context : Context) where
       Meet next (own_requests k) s more → Follows more (above stack (own_meaning words k vs s)) (run code (stack ++ vs) (with_globals more s))
   own_follows {ts} {next} {code} {s} {more} (Own i) words stack vs hv e x h = instruction_follows more i stack vs hv e (ok_is (i ∷ []) code x) h.typed
   own_follows {ts} {next} {code} {s} {more} (Random t) words stack [] hv e x h =
-      let word = first_word words in
+      let word = first_expansion_word words in
       instruction_follows more (constant t word) stack [] hv (constant_types context t word ∙ e) (ok_is (constant t word ∷ []) code x) h.typed
   own_follows {next = next} {code = code} {s = s} {more = more} (UseGlobal t) words stack vs hv e x h =
       let p = that_type (primitive_of t) (types vs) _ e in
@@ -190,7 +192,7 @@ module _ (context : Context) where
   own_follows _ words stack vs hv e x h = absurd cc
 
   unfold_follows : {ts : List PrimitiveTypeInfo} {code : List Instruction} (t : IntegerType) (o : Option ℤ) (word : ℕ) (stack : List Value) (s : State)
-      (more : List Value) → option_map (λ z. type_of t ∷ []) o ≡ Some ts → sum_of t word o ≡ Ok code →
+      (more : List Value) → option_map (λ z. type_of t ∷ []) o ≡ Some ts → unfolded_sum_of t word o ≡ Ok code →
       Follows more (above stack (number_meaning t o s)) (run code stack (with_globals more s))
   unfold_follows t None word stack s more e x = absurd cc
   unfold_follows {code = code} t (Some z) word stack s more e x = (
@@ -212,7 +214,7 @@ module _ (context : Context) where
       with_own_code next words k kids (expansion next words kids) ≡ Ok code → Meet next (with_own_requests k (requests kids)) s more →
       Follows more (above stack (with_own_meaning words k kids (meaning words kids s) s)) (run code stack (with_globals more s))
   node_follows {s = s} {more = more} (Unfold t) kids words stack below e x h =
-      unfold_follows t (constant_in t kids) (first_word words) stack s more e x
+      unfold_follows t (constant_in t kids) (first_expansion_word words) stack s more e x
   node_follows {list} {next} {code} {s} {more} k kids words stack below e x h =
       let left = drop (length (draws kids)) words in
       let m = with_globals more s in

@@ -7,16 +7,16 @@ use Rattle.wasm_code.specs.Table.{row_at, table}
 use Rattle.wasm_types.specs.declared.types.PrimitiveTypeInfo.{PrimitiveTypeInfo}
 use Rattle.peephole_lang.specs.declared.lang.Head.{Head}
 use Rattle.peephole_lang.specs.Term.{Term, Terms, absent, node, no_terms, ◌▸◌}
-use Rattle.peephole_machine.specs.declared.integer.IntegerType.TheVariants as integer
-use Rattle.peephole_machine.specs.Values.{type_of, same_type, Context, global}
-use Rattle.peephole_machine.specs.Integer.{binary, add}
-use Rattle.peephole_machine.specs.IntegerRow as rows
-use Rattle.peephole_machine.specs.IntegerRow.{IntegerRow, if_typed, row_types, integer_row}
-use Rattle.peephole_machine.specs.RowLemmas.{and_then_some, if_typed_is, same_type_self}
-use Rattle.peephole_programs.specs.validation.Algorithm.{Frame, check_code}
-use Rattle.peephole_programs.specs.validation.StaysValid.{with_types, Pushes, TypedCodePushes, PushesOnFrames, RowTypesStay}
-use Rattle.peephole_terms.specs.NodeKind.{IntegerType, NodeKind, node_kind, number_of, primitive_of, Own, Random, Unfold, UseGlobal, Container}
-use Rattle.peephole_terms.specs.Expansion.{constant, rest_of, add_of, sum, set_global, get_global, constant_in, sum_of, first_word}
+use Rattle.wasm_execution.specs.declared.integer.IntegerType.TheVariants as integer
+use Rattle.wasm_execution.specs.Values.{type_of, same_type, Context, global}
+use Rattle.wasm_execution.specs.Integer.{binary, add}
+use Rattle.wasm_execution.specs.IntegerRow as rows
+use Rattle.wasm_execution.specs.IntegerRow.{IntegerRow, if_typed, row_types, integer_row}
+use Rattle.wasm_execution.specs.RowLemmas.{and_then_some, if_typed_is, same_type_self}
+use Rattle.wasm_equivalence.specs.validation.Algorithm.{Frame, check_code}
+use Rattle.wasm_equivalence.specs.validation.StaysValid.{with_types, Pushes, TypedCodePushes, PushesOnFrames, RowTypesStay}
+use Rattle.peephole_terms.specs.NodeKind.{IntegerType, NodeKind, node_kind, number_type_of, primitive_of, Own, Random, Unfold, UseGlobal, Container}
+use Rattle.peephole_terms.specs.Expansion.{constant, rest_of, add_of, sum, global_set_code, global_get_code, constant_in, unfolded_sum_of, first_expansion_word}
 use Rattle.peephole_terms.specs.Expansion.{own_code, with_own_code, own_requests, with_own_requests, requests_of, requests, draws_of, draws, expansion_of}
 use Rattle.peephole_terms.specs.Expansion.{expansion}
 use Rattle.peephole_terms.specs.Typing.{own_types, with_own_types, types_of, types_in}
@@ -24,11 +24,11 @@ use Rattle.peephole_terms.proofs.MeaningRows.{constant_types, rest_types, add_ro
 use Rattle.peephole_terms.proofs.MeaningLemmas.{parts_of_types, that_type}
 use Rattle.peephole_terms.proofs.StackCodeLemmas.{Provided, provided_left, provided_right, drop_get, ok_is, joined_ok, through_code}
 
-set_row : (g : ℕ) → integer_row (set_global g) ≡ rows.set (global g)
+set_row : (g : ℕ) → integer_row (global_set_code g) ≡ rows.set (global g)
 unfolding integer_row row_at table
 set_row g = refl
 
-get_row : (g : ℕ) → integer_row (get_global g) ≡ rows.get (global g)
+get_row : (g : ℕ) → integer_row (global_get_code g) ≡ rows.get (global g)
 unfolding integer_row row_at table
 get_row g = refl
 
@@ -36,7 +36,7 @@ adds : (context : Context) (t : IntegerType) → row_types context (rows.operati
 adds context integer.I32 = refl
 adds context integer.I64 = refl
 
-number_type : (t : IntegerType) → primitive_of (number_of t) ≡ type_of t
+number_type : (t : IntegerType) → primitive_of (number_type_of t) ≡ type_of t
 number_type integer.I32 = refl
 number_type integer.I64 = refl
 
@@ -63,34 +63,34 @@ module _ (law : TypedRowsCheck) (context all : Context)
   sum_pushes : (t : IntegerType) (word : ℕ) (z : ℤ) → Push (sum t word z) [] (type_of t ∷ [])
   sum_pushes t word z =
       let one = type_of t ∷ [] in
-      let first : Push (constant (number_of t) word ∷ []) [] one =
-      row_pushes (constant (number_of t) word) (integer_row (constant (number_of t) word)) [] one refl
-      (constant_types all (number_of t) word ∙ ap (λ (u : PrimitiveTypeInfo). Some (u ∷ [])) (number_type t)) in
+      let first : Push (constant (number_type_of t) word ∷ []) [] one =
+      row_pushes (constant (number_type_of t) word) (integer_row (constant (number_type_of t) word)) [] one refl
+      (constant_types all (number_type_of t) word ∙ ap (λ (u : PrimitiveTypeInfo). Some (u ∷ [])) (number_type t)) in
       let second : Push (rest_of t word z ∷ []) [] one =
       row_pushes (rest_of t word z) (integer_row (rest_of t word z)) [] one refl (rest_types all t word z) in
       let third : Push (add_of t ∷ []) (type_of t ∷ type_of t ∷ []) one =
       row_pushes (add_of t) (rows.operation (binary t add)) (type_of t ∷ type_of t ∷ []) one (add_row t) (adds all t) in
-      law.push.follow all (constant (number_of t) word ∷ []) (rest_of t word z ∷ add_of t ∷ []) [] one one first
+      law.push.follow all (constant (number_type_of t) word ∷ []) (rest_of t word z ∷ add_of t ∷ []) [] one one first
       (law.push.follow all (rest_of t word z ∷ []) (add_of t ∷ []) one (type_of t ∷ type_of t ∷ []) one
       (law.push.above all (rest_of t word z ∷ []) one [] one second) third)
 
   through_pushes : (g : ℕ) (t : PrimitiveTypeInfo) → slice_get all.info.globals g ≡ Some t →
-      Push (set_global g ∷ get_global g ∷ []) (t ∷ []) (t ∷ [])
+      Push (global_set_code g ∷ global_get_code g ∷ []) (t ∷ []) (t ∷ [])
   through_pushes g t e =
       let sets : row_types all (rows.set (global g)) (t ∷ []) ≡ Some [] =
       ap (option_and_then (λ u. if_typed (same_type t u) [])) e ∙ if_typed_is (same_type t t) [] (same_type_self t) in
       let gets : row_types all (rows.get (global g)) [] ≡ Some (t ∷ []) = ap (option_and_then (λ u. Some (u ∷ []))) e in
-      law.push.follow all (set_global g ∷ []) (get_global g ∷ []) (t ∷ []) [] (t ∷ [])
-      (row_pushes (set_global g) (rows.set (global g)) (t ∷ []) [] (set_row g) sets)
-      (row_pushes (get_global g) (rows.get (global g)) [] (t ∷ []) (get_row g) gets)
+      law.push.follow all (global_set_code g ∷ []) (global_get_code g ∷ []) (t ∷ []) [] (t ∷ [])
+      (row_pushes (global_set_code g) (rows.set (global g)) (t ∷ []) [] (set_row g) sets)
+      (row_pushes (global_get_code g) (rows.get (global g)) [] (t ∷ []) (get_row g) gets)
 
   own_pushes : (k : NodeKind) (words : List ℕ) (ts us : List PrimitiveTypeInfo) (next : ℕ) (code : List Instruction) →
       own_types context k ts ≡ Some us → own_code next words k ≡ Ok code → Provided next (own_requests k) all.info.globals → Push code ts us
   own_pushes (Own i) words ts us next code e x h =
       subst (λ y. Push y ts us) (ok_is (i ∷ []) code x) (row_pushes i (integer_row i) ts us refl (weaker (integer_row i) ts us e))
   own_pushes (Random t) words [] us next code e x h =
-      let i = constant t (first_word words) in
-      subst (λ y. Push y [] us) (ok_is (i ∷ []) code x) (row_pushes i (integer_row i) [] us refl (constant_types all t (first_word words) ∙ e))
+      let i = constant t (first_expansion_word words) in
+      subst (λ y. Push y [] us) (ok_is (i ∷ []) code x) (row_pushes i (integer_row i) [] us refl (constant_types all t (first_expansion_word words) ∙ e))
   own_pushes (Random t) words (v ∷ vs) us next code e x h = absurd cc
   own_pushes (UseGlobal t) words ts us next code e x h =
       let (one, same) = that_type (primitive_of t) ts us e in
@@ -104,7 +104,7 @@ module _ (law : TypedRowsCheck) (context all : Context)
   own_pushes _ words ts us next code e x h = absurd cc
 
   unfold_pushes : {us : List PrimitiveTypeInfo} {code : List Instruction} (t : IntegerType) (o : Option ℤ) (word : ℕ) →
-      option_map (λ z. type_of t ∷ []) o ≡ Some us → sum_of t word o ≡ Ok code → Push code [] us
+      option_map (λ z. type_of t ∷ []) o ≡ Some us → unfolded_sum_of t word o ≡ Ok code → Push code [] us
   unfold_pushes t None word e x = absurd cc
   unfold_pushes {us} {code} t (Some z) word e x =
       subst (λ (y : List Instruction). Push y [] us) (ok_is (sum t word z) code x)
@@ -120,7 +120,7 @@ module _ (law : TypedRowsCheck) (context all : Context)
       PushAll kids → with_own_types context k kids (types_in context kids) ≡ Some list →
       with_own_code next words k kids (expansion next words kids) ≡ Ok code → Provided next (with_own_requests k (requests kids)) all.info.globals →
       Push code [] list
-  node_pushes (Unfold t) kids words list next code below e x h = unfold_pushes t (constant_in t kids) (first_word words) e x
+  node_pushes (Unfold t) kids words list next code below e x h = unfold_pushes t (constant_in t kids) (first_expansion_word words) e x
   node_pushes k kids words list next code below e x h =
       let left = drop (length (draws kids)) words in
       let (us, a, b) = and_then_some (own_types context k) (types_in context kids) list e in
@@ -148,7 +148,8 @@ module _ (law : TypedRowsCheck) (context all : Context)
         (provided_right next (requests_of t) (requests ts) all.info.globals h)) in
         subst (λ (y : List Instruction). Push y [] list) q
         (subst (λ (y : List PrimitiveTypeInfo). Push (front ++ back) [] y) c
-        (law.push.follow all front back [] ks (ks ++ js) (term_pushes t words ks next front a d (provided_left next (requests_of t) (requests ts) all.info.globals h))
+        (law.push.follow all front back [] ks (ks ++ js) (term_pushes t words ks next front a d
+        (provided_left next (requests_of t) (requests ts) all.info.globals h))
         (subst (λ y. Push back y (ks ++ js)) (append-nil ks) later)))
 
   -- On every frame the term's code is valid, and pushes its types.

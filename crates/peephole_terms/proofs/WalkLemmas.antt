@@ -1,5 +1,6 @@
 -- The walk over a tree of nodes: what is left to be written of it. Lists of nodes have the last one first.
-use Rattle.std.proofs.Common.{◌≡◌, ℕ, ◌<◌, ◌≤◌, List, [], ◌∷◌, ◌++◌, length, take, get_or, refl, sym, ap, ap₂, subst, ◌∙◌, arith, append-nil, None, Bool, true, false, cond, Result, Ok, Err}
+use Rattle.std.proofs.Common.{◌≡◌, ℕ, ◌<◌, ◌≤◌, List, [], ◌∷◌, ◌++◌, length, take, get_or, refl, sym, ap, ap₂, subst, ◌∙◌, arith}
+use Rattle.std.proofs.Common.{append-nil, None, Bool, true, false, cond, Result, Ok, Err}
 use Rattle.std.specs.Prelude.{◌==◌, All, map}
 use Rattle.std.specs.List.{flat_map}
 use Rattle.std.proofs.lemmas.Bool.{eqb-true}
@@ -22,7 +23,9 @@ use Rattle.peephole_graphs.specs.Postfix.{turns_of}
 use Rattle.peephole_graphs.specs.PostfixLemmas.{left, IsTreeOf, turns_left, entered, child_comes, own_comes, AllOn, child_on, own_on, entered_on}
 use Rattle.peephole_terms.specs.NodeKind.{IntegerType, node_kind, is_unfold}
 use Rattle.peephole_terms.specs.Expansion.{constant_in, constant_of}
-use Rattle.peephole_terms.specs.EncoderSteps.{Step, nothing, raw, around, Writing, writing_of, with_bytes, IsInRange, own_step, own_step_in, children_to_write, steps_of, steps, take_step, take_steps, then_steps, IsRefusal, Does, nodes_in}
+use Rattle.peephole_terms.specs.EncoderSteps.{Step, nothing, raw, around, Writing, writing_of, writing_with_bytes, IsInRange, own_step}
+use Rattle.peephole_terms.specs.EncoderSteps.{own_step_in, children_to_write, steps_of, steps, take_step, take_steps, then_steps}
+use Rattle.peephole_terms.specs.EncoderSteps.{IsEncoderRefusal, Does, nodes_in}
 use Rattle.peephole_lang.specs.laws.PlaceLemmas.{IsAt, tree_is, children_in, at_place, view}
 
 -- ---- steps one after another
@@ -38,7 +41,7 @@ take_steps-append count (x ∷ xs) ys w = go (take_step count x w) (λ v. take_s
 
 -- what comes behind a refusal doesn't count
 pub refused_after : (d : Error) (r whole : Result Writing Error) (more : Writing → Result Writing Error) → then_steps r more ≡ whole →
-    IsRefusal d r → IsRefusal d whole
+    IsEncoderRefusal d r → IsEncoderRefusal d whole
 refused_after Memory r whole more e q = tt
 refused_after CannotUnfold r whole more e q = sym e ∙ ap (λ (x : Result Writing Error). then_steps x more) q
 refused_after GlobalIndex r whole more e q = sym e ∙ ap (λ (x : Result Writing Error). then_steps x more) q
@@ -84,22 +87,22 @@ written w = Ok w
 
 -- the steps between them, where all were taken
 pub around_ok : (count : ℕ) (before after : List ℕ) (ss : List Step) (w v : Writing) → take_steps count (around before ss after) w ≡ Ok v →
-    (m : Writing) × (take_steps count ss (with_bytes before w) ≡ Ok m) × (v ≡ with_bytes after m)
+    (m : Writing) × (take_steps count ss (writing_with_bytes before w) ≡ Ok m) × (v ≡ writing_with_bytes after m)
 around_ok count before after ss w v e =
-    go (take_steps count ss (with_bytes before w)) (sym (take_steps-append count ss (raw after ∷ []) (with_bytes before w)) ∙ e)
+    go (take_steps count ss (writing_with_bytes before w)) (sym (take_steps-append count ss (raw after ∷ []) (writing_with_bytes before w)) ∙ e)
   where
     go : (r : Result Writing Error) → then_steps r (take_steps count (raw after ∷ [])) ≡ Ok v →
-        (m : Writing) × (r ≡ Ok m) × (v ≡ with_bytes after m)
+        (m : Writing) × (r ≡ Ok m) × (v ≡ writing_with_bytes after m)
     go (Ok m) e = (m, refl, cc)
     go (Err d) e = absurd cc
 
 pub around_refused : (count : ℕ) (before after : List ℕ) (ss : List Step) (w : Writing) (d : Error) →
-    IsRefusal d (take_steps count (around before ss after) w) → IsRefusal d (take_steps count ss (with_bytes before w))
+    IsEncoderRefusal d (take_steps count (around before ss after) w) → IsEncoderRefusal d (take_steps count ss (writing_with_bytes before w))
 around_refused count before after ss w d q =
-    go d (take_steps count ss (with_bytes before w))
-    (subst (IsRefusal d) (take_steps-append count ss (raw after ∷ []) (with_bytes before w)) q)
+    go d (take_steps count ss (writing_with_bytes before w))
+    (subst (IsEncoderRefusal d) (take_steps-append count ss (raw after ∷ []) (writing_with_bytes before w)) q)
   where
-    go : (d : Error) (r : Result Writing Error) → IsRefusal d (then_steps r (take_steps count (raw after ∷ []))) → IsRefusal d r
+    go : (d : Error) (r : Result Writing Error) → IsEncoderRefusal d (then_steps r (take_steps count (raw after ∷ []))) → IsEncoderRefusal d r
     go Memory r q = tt
     go d (Err e) q = q
     go CannotUnfold (Ok m) q = absurd cc
@@ -261,7 +264,7 @@ module _ {A : Type 0} {k : Walk A} {old new : List Turn} {i : ℕ} {w : Writing}
       )
 
   pub own_refused : {x : A} {l : Lang} (d : Error) → old ≡ Own i ∷ new → IsRead k i x l →
-      IsRefusal d (take_steps k.count (own_step_in (nodes k) l ∷ []) w) → IsRefusal d (take_steps k.count (every k) k.start)
+      IsEncoderRefusal d (take_steps k.count (own_step_in (nodes k) l ∷ []) w) → IsEncoderRefusal d (take_steps k.count (every k) k.start)
   own_refused {x} {l} d g r q =
       let own = own_step_in (nodes k) l ∷ [] in
       let rest = steps_left (nodes k) new in
@@ -289,8 +292,8 @@ module _ {A : Type 0} {k : Walk A} {old new : List Turn} {i : ℕ} {w : Writing}
       IsUnderway k new v × (measure (nodes k) new < measure (nodes k) old)
   leaf_done own = let done = own_done at_leaf.0 refl r own in (done.0, omega (arith, at_leaf.1, done.1))
 
-  pub leaf_refused : (d : Error) → IsRefusal d (take_steps k.count (own_step_in (nodes k) l ∷ []) w) →
-      IsRefusal d (take_steps k.count (every k) k.start)
+  pub leaf_refused : (d : Error) → IsEncoderRefusal d (take_steps k.count (own_step_in (nodes k) l ∷ []) w) →
+      IsEncoderRefusal d (take_steps k.count (every k) k.start)
   leaf_refused d q = own_refused at_leaf.0 d refl r q
 
 -- no ids
@@ -300,7 +303,7 @@ no_ids (i ∷ ids) b e is t = let none = eqb-true (length (i ∷ ids)) 0 (sym is
 
 -- a refusal that is passed on
 pub passed_on : {count : ℕ} {taken : List Step} {w v : Writing} (out : Result (Unit {0}) Error) (d : Error) → out ≡ Err d →
-    IsRefusal d (take_steps count taken w) → take (length w.bytes) v.bytes ≡ w.bytes → Does count taken w v out
+    IsEncoderRefusal d (take_steps count taken w) → take (length w.bytes) v.bytes ≡ w.bytes → Does count taken w v out
 passed_on {count} {taken} {w} {v} out d e q k =
     subst (λ (r : Result (Unit {0}) Error). Does count taken w v r) (sym e) (record { ok = tt; err = q; in_range = tt; kept = k })
 

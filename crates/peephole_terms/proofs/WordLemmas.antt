@@ -2,7 +2,7 @@
 use Rattle.std.proofs.Common.{◌≡◌, ℕ, List, [], ◌∷◌, ◌++◌, length, drop, refl, ap, ◌∙◌}
 use Rattle.peephole_lang.specs.declared.lang.Head.{Head}
 use Rattle.peephole_lang.specs.Term.{Term, Terms, absent, node, no_terms, ◌▸◌}
-use Rattle.peephole_machine.specs.Values.{Value, State, Outcome, Ends, Traps, Stuck, then_run, above}
+use Rattle.wasm_execution.specs.Values.{Value, State, Outcome, Ends, Traps, Stuck, then_run, above}
 use Rattle.peephole_terms.specs.NodeKind.{NumberType, NodeKind, node_kind, Own, Random, Unfold, UseGlobal, Container, Nothing}
 use Rattle.peephole_terms.specs.Expansion.{own_draws, with_own_draws, draws_of, draws}
 use Rattle.peephole_terms.specs.Meaning.{own_meaning, with_own_meaning, meaning_of, meaning}

@@ -3,8 +3,8 @@ use Rattle.std.specs.Prelude.{◌≡◌, ℕ, List, [], Some, ⊤}
 use Rattle.wasm_types.specs.declared.types.PrimitiveTypeInfo.{PrimitiveTypeInfo}
 use Rattle.peephole_lang.specs.declared.lang.Head.{Head}
 use Rattle.peephole_lang.specs.Term.{Term, Terms, absent, node, no_terms, ◌▸◌}
-use Rattle.peephole_machine.specs.Values.{Context, State, HasTypes}
-use Rattle.peephole_machine.specs.Agreement.{SameOutcome, EndsTyped}
+use Rattle.wasm_execution.specs.Values.{Context, State, HasTypes}
+use Rattle.wasm_execution.specs.Agreement.{SameOutcome, EndsTyped}
 use Rattle.peephole_terms.specs.Expansion.{draws_of}
 use Rattle.peephole_terms.specs.Typing.{types_of}
 use Rattle.peephole_terms.specs.Meaning.{meaning_of}
@@ -45,14 +45,14 @@ DrawsNothing c = draws_of (fill c absent) ≡ []
 -- ---- whatever words are drawn
 
 -- Where the first has types and draws no word, the second may stand for it: they agree, whatever words the second draws.
-abbrev pub StandsFor : Context → (t u : Term Head) → Type 0
-StandsFor context t u =
+abbrev pub TermStandsFor : Context → (t u : Term Head) → Type 0
+TermStandsFor context t u =
     (list : List PrimitiveTypeInfo) → types_of context t ≡ Some list → draws_of t ≡ [] → (us vs : List ℕ) → Agree context us vs t u
 
 -- and as many terms, one by one
 abbrev pub StandFor : Context → (ts us : Terms Head) → Type 0
 StandFor context no_terms no_terms = ⊤
-StandFor context (t ▸ ts) (u ▸ us) = StandsFor context t u × StandFor context ts us
+StandFor context (t ▸ ts) (u ▸ us) = TermStandsFor context t u × StandFor context ts us
 StandFor context _ _ = ⊥
 
 -- ---- laws
@@ -78,4 +78,4 @@ pub record IsCongruence : Type 0 where
       DrawsNothing c → types_of context (fill c t) ≡ Some list →
       Agree context us vs t u → Agree context us vs (fill c t) (fill c u)
   pub childwise : (context : Context) (h : Head) (ts us : Terms Head) →
-      StandFor context ts us → StandsFor context (node h ts) (node h us)
+      StandFor context ts us → TermStandsFor context (node h ts) (node h us)

@@ -1,6 +1,7 @@
 -- What the encoder's own functions go by: the steps of a term in postfix, what each of them does, and what a function that takes them answers; a graph's
 -- roots one by one, by the nodes of the entries; and the bounds of the bytes outside a block. This project's rule.
-use Rattle.std.specs.Prelude.{ℕ, ℤ, ◌+◌, ◌-◌, ◌<◌, ◌≤◌, ◌==◌, ◌≡◌, List, [], ◌∷◌, ◌++◌, length, map, take, nat_le, if◌then◌else◌, slice_index, Option, Some, None, Result, Ok, Err, OnOk, IfErr, ⊤}
+use Rattle.std.specs.Prelude.{ℕ, ℤ, ◌+◌, ◌-◌, ◌<◌, ◌≤◌, ◌==◌, ◌≡◌, List, [], ◌∷◌, ◌++◌, length, map, take, nat_le, if◌then◌else◌}
+use Rattle.std.specs.Prelude.{slice_index, Option, Some, None, Result, Ok, Err, OnOk, IfErr, ⊤}
 use Rattle.std.specs.List.{All}
 use Rattle.rand_core.specs.Stream.{Stream}
 use Rattle.wasm_code.specs.Code.{code}
@@ -18,8 +19,8 @@ use Rattle.peephole_terms.specs.NodeKind as kind
 use Rattle.peephole_graphs.specs.Block.{BlockRange}
 use Rattle.peephole_graphs.specs.Entries.{roots_of}
 use Rattle.peephole_graphs.specs.Layout.{entry_nodes}
-use Rattle.peephole_terms.specs.NodeKind.{NumberType, IntegerType, NodeKind, node_kind, is_unfold, number_of}
-use Rattle.peephole_terms.specs.Expansion.{next_word, constant, rest_of, add_of, set_global, get_global, constant_in, request}
+use Rattle.peephole_terms.specs.NodeKind.{NumberType, IntegerType, NodeKind, node_kind, is_unfold, number_type_of}
+use Rattle.peephole_terms.specs.Expansion.{next_word, constant, rest_of, add_of, global_set_code, global_get_code, constant_in, request}
 use Rattle.peephole_terms.specs.Written.{offset_of}
 
 -- ---- steps
@@ -74,12 +75,12 @@ abbrev pub writing_of : List ℕ → List ResourceRequest → Stream → Writing
 writing_of bytes requests stream = record { bytes = bytes; requests = requests; stream = stream }
 
 -- with more bytes
-abbrev pub with_bytes : List ℕ → Writing → Writing
-with_bytes more w = record w { bytes = w.bytes ++ more }
+abbrev pub writing_with_bytes : List ℕ → Writing → Writing
+writing_with_bytes more w = record w { bytes = w.bytes ++ more }
 
 -- with another instruction
 abbrev pub with_instruction : Instruction → Writing → Writing
-with_instruction i w = with_bytes (code i) w
+with_instruction i w = writing_with_bytes (code i) w
 
 -- with a drawn word
 abbrev pub with_draw : NumberType → Writing → Writing
@@ -95,7 +96,7 @@ with_word t w = with_instruction (constant t (next_word t w.stream).0) (with_dra
 
 -- the sum of the next word and the rest
 abbrev pub with_sum : IntegerType → ℤ → Writing → Writing
-with_sum t z w = with_instruction (add_of t) (with_instruction (rest_of t (next_word (number_of t) w.stream).0 z) (with_word (number_of t) w))
+with_sum t z w = with_instruction (add_of t) (with_instruction (rest_of t (next_word (number_type_of t) w.stream).0 z) (with_word (number_type_of t) w))
 
 -- `count` is the number of the module's globals
 abbrev pub take_step : ℕ → Step → Writing → Result Writing Error
@@ -105,9 +106,9 @@ take_step count (split t None) w = Err CannotUnfold
 take_step count (split t (Some z)) w = Ok (with_sum t z w)
 take_step count (store t) w =
     let g = count + length w.requests in
-    if nat_le g 4294967295 then Ok (with_instruction (get_global g) (with_instruction (set_global g) (with_request t w))) else Err GlobalIndex
+    if nat_le g 4294967295 then Ok (with_instruction (global_get_code g) (with_instruction (global_set_code g) (with_request t w))) else Err GlobalIndex
 take_step count nothing w = Ok w
-take_step count (raw more) w = Ok (with_bytes more w)
+take_step count (raw more) w = Ok (writing_with_bytes more w)
 
 -- and then the others
 abbrev pub then_steps : Result Writing Error → (Writing → Result Writing Error) → Result Writing Error
@@ -119,17 +120,17 @@ take_steps count [] w = Ok w
 take_steps count (s ∷ ss) w = then_steps (take_step count s w) (take_steps count ss)
 
 -- memory aside, a refusal is the one that is named
-abbrev pub IsRefusal : Error → Result Writing Error → Type 0
-IsRefusal Memory r = ⊤
-IsRefusal CannotUnfold r = r ≡ Err CannotUnfold
-IsRefusal GlobalIndex r = r ≡ Err GlobalIndex
-IsRefusal _ r = ⊥
+abbrev pub IsEncoderRefusal : Error → Result Writing Error → Type 0
+IsEncoderRefusal Memory r = ⊤
+IsEncoderRefusal CannotUnfold r = r ≡ Err CannotUnfold
+IsEncoderRefusal GlobalIndex r = r ≡ Err GlobalIndex
+IsEncoderRefusal _ r = ⊥
 
 -- What a function answers and leaves that takes these steps, `globals` being the number of the module's: after success it has taken them all, and
 -- the instructions are in range; otherwise one of them refuses. The old bytes stay in front.
 pub record Does (globals : ℕ) (taken : List Step) (old new : Writing) (result : Result (Unit {0}) Error) : Type 0 where
   pub ok : OnOk result (take_steps globals taken old ≡ Ok new)
-  pub err : IfErr result (λ e. IsRefusal e (take_steps globals taken old))
+  pub err : IfErr result (λ e. IsEncoderRefusal e (take_steps globals taken old))
   pub in_range : OnOk result (All IsInRange taken)
   pub kept : take (length old.bytes) new.bytes ≡ old.bytes
 
@@ -173,7 +174,7 @@ pub record IsWalkable (entries : List StackEntry) (parents : List (Option ℕ)) 
 -- ---- the bytes outside the block
 
 -- They are in the input.
-pub record IsInside (input : List ℕ) (operators : List (Operator × ℕ)) (block : BlockRange) : Type 0 where
+pub record BlockIsInside (input : List ℕ) (operators : List (Operator × ℕ)) (block : BlockRange) : Type 0 where
   pub start_there : block.start < length operators
   pub end_there : block.end < length operators
   pub before : offset_of operators 0 ≤ offset_of operators block.start

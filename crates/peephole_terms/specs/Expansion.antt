@@ -1,5 +1,6 @@
 -- The expansion of a term: the instructions that it is written as, the words that are drawn for them, and the globals that they ask for. This project's rule.
-use Rattle.std.specs.Prelude.{◌≡◌, ℕ, ℤ, ◌+◌, ◌%◌, ◌^◌, nat_le, List, [], ◌∷◌, ◌++◌, length, drop, Option, Some, None, option_map, Result, Ok, Err, true, false, if◌then◌else◌, ⊤}
+use Rattle.std.specs.Prelude.{◌≡◌, ℕ, ℤ, ◌+◌, ◌%◌, ◌^◌, nat_le, List, [], ◌∷◌, ◌++◌, length, drop, Option, Some, None, option_map, Result}
+use Rattle.std.specs.Prelude.{Ok, Err, true, false, if◌then◌else◌, ⊤}
 use Rattle.std.specs.Int.{w32, w64, cast_signed, int_wrapping_sub}
 use Rattle.rand_core.specs.Stream.{Stream, next_u32, next_u64}
 use Rattle.wasm_code.specs.Instruction.{Instruction}
@@ -18,9 +19,9 @@ use Rattle.peephole_lang.specs.Term.{Term, Terms, absent, node, no_terms, ◌▸
 use Rattle.peephole_terms.specs.declared.encoder.request.ResourceRequest.{ResourceRequest}
 use Rattle.peephole_terms.specs.declared.encoder.request.ResourceRequest.TheVariants.{Global}
 use Rattle.peephole_terms.specs.declared.encoder.node_kind.NumberType.TheVariants as number
-use Rattle.peephole_machine.specs.declared.integer.IntegerType.TheVariants as integer
+use Rattle.wasm_execution.specs.declared.integer.IntegerType.TheVariants as integer
 use Rattle.peephole_terms.specs.NodeKind as kind
-use Rattle.peephole_terms.specs.NodeKind.{NumberType, IntegerType, NodeKind, node_kind, primitive_of, number_of}
+use Rattle.peephole_terms.specs.NodeKind.{NumberType, IntegerType, NodeKind, node_kind, primitive_of, number_type_of}
 
 -- ---- the globals that a term asks for, children first, and none below an unfold
 
@@ -52,7 +53,7 @@ own_draws (kind.Random t) = t ∷ []
 own_draws _ = []
 
 abbrev pub with_own_draws : NodeKind → List NumberType → List NumberType
-with_own_draws (kind.Unfold t) below = number_of t ∷ []
+with_own_draws (kind.Unfold t) below = number_type_of t ∷ []
 with_own_draws k below = below ++ own_draws k
 
 abbrev mutual
@@ -97,13 +98,13 @@ add_of integer.I64 = record { row = 95; imm = imm.Nothing }
 
 -- a number as the sum of a drawn word and the rest
 abbrev pub sum : IntegerType → ℕ → ℤ → List Instruction
-sum t word z = constant (number_of t) word ∷ rest_of t word z ∷ add_of t ∷ []
+sum t word z = constant (number_type_of t) word ∷ rest_of t word z ∷ add_of t ∷ []
 
-abbrev pub set_global : ℕ → Instruction
-set_global g = record { row = 8; imm = imm.Index g }
+abbrev pub global_set_code : ℕ → Instruction
+global_set_code g = record { row = 8; imm = imm.Index g }
 
-abbrev pub get_global : ℕ → Instruction
-get_global g = record { row = 7; imm = imm.Index g }
+abbrev pub global_get_code : ℕ → Instruction
+global_get_code g = record { row = 7; imm = imm.Index g }
 
 -- ---- the expansion
 
@@ -118,13 +119,13 @@ abbrev pub constant_in : IntegerType → Terms Head → Option ℤ
 constant_in t (node h kids ▸ no_terms) = constant_of t h.payload
 constant_in t _ = None
 
-abbrev pub sum_of : IntegerType → ℕ → Option ℤ → Result (List Instruction) Error
-sum_of t word (Some z) = Ok (sum t word z)
-sum_of t word None = Err CannotUnfold
+abbrev pub unfolded_sum_of : IntegerType → ℕ → Option ℤ → Result (List Instruction) Error
+unfolded_sum_of t word (Some z) = Ok (sum t word z)
+unfolded_sum_of t word None = Err CannotUnfold
 
 -- an index has 32 bits
 abbrev pub through_global : ℕ → Result (List Instruction) Error
-through_global g = if nat_le g 4294967295 then Ok (set_global g ∷ get_global g ∷ []) else Err GlobalIndex
+through_global g = if nat_le g 4294967295 then Ok (global_set_code g ∷ global_get_code g ∷ []) else Err GlobalIndex
 
 abbrev pub then_code : Result (List Instruction) Error → (List Instruction → Result (List Instruction) Error) → Result (List Instruction) Error
 then_code (Ok front) more = more front
@@ -134,20 +135,20 @@ then_code (Err e) more = Err e
 abbrev pub joined_code : Result (List Instruction) Error → Result (List Instruction) Error → Result (List Instruction) Error
 joined_code front back = then_code front (λ xs. then_code back (λ ys. Ok (xs ++ ys)))
 
-abbrev pub first_word : List ℕ → ℕ
-first_word [] = 0
-first_word (word ∷ words) = word
+abbrev pub first_expansion_word : List ℕ → ℕ
+first_expansion_word [] = 0
+first_expansion_word (word ∷ words) = word
 
 -- what a node adds behind its children
 abbrev pub own_code : ℕ → List ℕ → NodeKind → Result (List Instruction) Error
 own_code next words (kind.Own i) = Ok (i ∷ [])
-own_code next words (kind.Random t) = Ok (constant t (first_word words) ∷ [])
+own_code next words (kind.Random t) = Ok (constant t (first_expansion_word words) ∷ [])
 own_code next words (kind.UseGlobal t) = through_global next
 own_code next words _ = Ok []
 
 -- an unfold stands for itself and its child; any other node comes behind its children's code
 abbrev pub with_own_code : ℕ → List ℕ → NodeKind → Terms Head → Result (List Instruction) Error → Result (List Instruction) Error
-with_own_code next words (kind.Unfold t) kids below = sum_of t (first_word words) (constant_in t kids)
+with_own_code next words (kind.Unfold t) kids below = unfolded_sum_of t (first_expansion_word words) (constant_in t kids)
 with_own_code next words k kids below = joined_code below (own_code (next + length (requests kids)) (drop (length (draws kids)) words) k)
 
 -- The instructions of a term, or the first refusal. `next` is the index of the first requested global, and `words` is what is drawn from here on.

@@ -17,12 +17,12 @@ use Rattle.peephole_graphs.specs.Entries.{Graph}
 use Rattle.peephole_graphs.specs.Forest.{forest}
 use Rattle.peephole_graphs.specs.GraphOf.{IsGraphOf}
 use Rattle.peephole_graphs.specs.Tree.{Tree, instructions_of, instructions}
-use Rattle.peephole_machine.specs.declared.integer.IntegerType.TheVariants as integer
-use Rattle.peephole_machine.specs.Values.{State, then_run, Context}
-use Rattle.peephole_machine.specs.IntegerRow.{row_types, integer_row}
-use Rattle.peephole_machine.specs.Machine.{act}
+use Rattle.wasm_execution.specs.declared.integer.IntegerType.TheVariants as integer
+use Rattle.wasm_execution.specs.Values.{State, then_run, Context}
+use Rattle.wasm_execution.specs.IntegerRow.{row_types, integer_row}
+use Rattle.wasm_execution.specs.Machine.{act}
 use Rattle.peephole_terms.specs.declared.encoder.node_kind.NumberType.TheVariants as number
-use Rattle.peephole_terms.specs.Expansion.{Setting, constant, rest_of, add_of, set_global, get_global, expansion_in, requests_of, draws_of, draws}
+use Rattle.peephole_terms.specs.Expansion.{Setting, constant, rest_of, add_of, global_set_code, global_get_code, expansion_in, requests_of, draws_of, draws}
 use Rattle.peephole_terms.specs.Typing.{types_of, types_in}
 use Rattle.peephole_terms.specs.Meaning.{meaning_of, meaning}
 use Rattle.peephole_terms.specs.ReadAgain.{KeepsTheTrees}
@@ -38,7 +38,7 @@ pub record HaveTheirOpcodes : Type 0 where
   pub f32_const : (word : ℕ) → HasOpcode (constant number.F32 word).row (Byte 0x43)
   pub f64_const : (word : ℕ) → HasOpcode (constant number.F64 word).row (Byte 0x44)
   pub adds : HasOpcode (add_of integer.I32).row (Byte 0x6a) × HasOpcode (add_of integer.I64).row (Byte 0x7c)
-  pub globals : (g : ℕ) → HasOpcode (set_global g).row (Byte 0x24) × HasOpcode (get_global g).row (Byte 0x23)
+  pub globals : (g : ℕ) → HasOpcode (global_set_code g).row (Byte 0x24) × HasOpcode (global_get_code g).row (Byte 0x23)
 
 -- Two constants, numbers of the width, whose wrapping sum is `z`. `number` is the immediate of a constant of that width.
 pub record AddUpTo (w : Width) (number : ℤ → Imm) (z : ℤ) (one other : Instruction) : Type 0 where

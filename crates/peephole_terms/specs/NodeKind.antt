@@ -7,9 +7,9 @@ use Rattle.peephole_lang.specs.declared.lang.Head.{Head}
 use Rattle.peephole_lang.specs.Node.{instr_of_head}
 -- the types of numbers, and those of whole numbers
 pub use Rattle.peephole_terms.specs.declared.encoder.node_kind.NumberType.{NumberType}
-pub use Rattle.peephole_machine.specs.declared.integer.IntegerType.{IntegerType}
+pub use Rattle.wasm_execution.specs.declared.integer.IntegerType.{IntegerType}
 use Rattle.peephole_terms.specs.declared.encoder.node_kind.NumberType.TheVariants as number
-use Rattle.peephole_machine.specs.declared.integer.IntegerType.TheVariants as integer
+use Rattle.wasm_execution.specs.declared.integer.IntegerType.TheVariants as integer
 
 -- what a node is to the writer
 pub data NodeKind : Type 0 where
@@ -67,6 +67,6 @@ primitive_of number.F32 = primitive.F32
 primitive_of number.F64 = primitive.F64
 
 -- among the types of numbers
-abbrev pub number_of : IntegerType → NumberType
-number_of integer.I32 = number.I32
-number_of integer.I64 = number.I64
+abbrev pub number_type_of : IntegerType → NumberType
+number_type_of integer.I32 = number.I32
+number_type_of integer.I64 = number.I64

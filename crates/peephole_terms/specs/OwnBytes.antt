@@ -3,7 +3,7 @@ use Rattle.std.specs.Prelude.{◌≡◌, ℕ, ◌+◌, Bool, true, false, List, 
 use Rattle.wasm_code.specs.Body.{SpellsCode}
 use Rattle.wasm_code.specs.declared.operator.Operator.{Operator}
 use Rattle.wasm_code.specs.declared.operator.Operator.TheVariants.{Instr}
-use Rattle.peephole_programs.specs.control.Standard.{asks_beyond}
+use Rattle.wasm_equivalence.specs.control.Standard.{asks_beyond}
 
 -- each operator with its own bytes, from its offset to that of the next one; those of the last, the body's own end, are one
 abbrev pub own_bytes : List ℕ → List (Operator × ℕ) → List (Operator × List ℕ)

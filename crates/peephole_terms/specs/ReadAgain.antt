@@ -38,7 +38,7 @@ abbrev pub site_again : Site → (text : List ℕ) → List (Operator × ℕ) �
 site_again site text again = site_at text again site.block site.at
 
 -- The bytes are those of a body in which the block is read again the same.
-pub record IsReread (info : Module) (site : Site) (text : List ℕ) : Type 0 where
+pub record BlockIsReread (info : Module) (site : Site) (text : List ℕ) : Type 0 where
   pub again : List (Operator × ℕ)
   pub spells : SpellsCode 0 text again
   -- the block has the same range, and is an operator's block again where it was one; its operators fit
@@ -54,4 +54,4 @@ pub record IsReread (info : Module) (site : Site) (text : List ℕ) : Type 0 whe
 -- Where the term changes no tree, the sink has grown by a body in which the block is read again the same.
 abbrev pub RereadsOwnTrees : Module → Site → Graph → Term Head → (old new : List ℕ) → Type 0
 RereadsOwnTrees info site graph t old new =
-    KeepsTheTrees info site graph t → (text : List ℕ) × (new ≡ old ++ text) × IsReread info site text
+    KeepsTheTrees info site graph t → (text : List ℕ) × (new ≡ old ++ text) × BlockIsReread info site text

@@ -10,11 +10,11 @@ use Rattle.peephole_lang.specs.Term.{Term, tree_at}
 use Rattle.peephole_graphs.specs.Entries.{Graph}
 use Rattle.peephole_graphs.specs.Forest.{IsInOrder}
 use Rattle.peephole_graphs.specs.Layout.{entry_nodes}
-use Rattle.peephole_machine.specs.Values.{Value, IsValue, types, Context, context_in, World, State, HasTypes, Stuck}
-use Rattle.peephole_machine.specs.IntegerRow.{integer_row}
-use Rattle.peephole_machine.specs.Machine.{run}
-use Rattle.peephole_machine.specs.Agreement.{with_globals, SameOutcome}
-use Rattle.peephole_machine.specs.Laws.{NamesIn, IsIntegerRow, in_world, ends_in_world}
+use Rattle.wasm_execution.specs.Values.{Value, IsValue, types, Context, context_in, World, State, HasTypes, Stuck}
+use Rattle.wasm_execution.specs.IntegerRow.{integer_row}
+use Rattle.wasm_execution.specs.Machine.{run}
+use Rattle.wasm_execution.specs.Agreement.{with_globals, SameOutcome}
+use Rattle.wasm_execution.specs.Laws.{NamesIn, IsIntegerRow, in_world, ends_in_world}
 use Rattle.peephole_terms.specs.NodeKind.{primitive_of}
 use Rattle.peephole_terms.specs.Expansion.{Setting, requests_of}
 use Rattle.peephole_terms.specs.Written.{Site, block_operators, block_shapes, is_written, term_code, written_block, written_body}

@@ -12,12 +12,12 @@ use Rattle.peephole_lang.specs.declared.lang.Head.{Head}
 use Rattle.peephole_lang.specs.Node.{instr_of_head}
 use Rattle.peephole_lang.specs.Term.{Term, Terms, absent, node, no_terms, ◌▸◌}
 use Rattle.peephole_graphs.specs.Block.{BlockRange}
-use Rattle.peephole_machine.specs.Values.{Value, IsValue, types, Context, context_in, State, HasTypes, Stuck}
-use Rattle.peephole_machine.specs.Machine.{run}
-use Rattle.peephole_machine.specs.Agreement.{with_globals, SameOutcome}
-use Rattle.peephole_programs.specs.control.Function.{RunsAs}
-use Rattle.peephole_programs.specs.validation.StaysValid.{ChecksAs}
-use Rattle.peephole_programs.specs.control.Wider.{wider}
+use Rattle.wasm_execution.specs.Values.{Value, IsValue, types, Context, context_in, State, HasTypes, Stuck}
+use Rattle.wasm_execution.specs.Machine.{run}
+use Rattle.wasm_execution.specs.Agreement.{with_globals, SameOutcome}
+use Rattle.wasm_equivalence.specs.control.Function.{RunsAs}
+use Rattle.wasm_equivalence.specs.validation.StaysValid.{ChecksAs}
+use Rattle.wasm_equivalence.specs.control.Wider.{wider}
 use Rattle.peephole_terms.specs.NodeKind.{primitive_of}
 use Rattle.peephole_terms.specs.Expansion.{Setting, requests_of, expansion_in}
 use Rattle.peephole_terms.specs.StackCode.{words_for}
@@ -52,13 +52,13 @@ StandsAt operators start end t = map some_operator (slice_range operators start 
 -- ---- the spliced body
 
 -- the operators from `start` to before `end`, as a block's
-abbrev pub piece : (start end : ℕ) → BlockRange
-piece start end = record { start = start; end = end }
+abbrev pub range_as_block : (start end : ℕ) → BlockRange
+range_as_block start end = record { start = start; end = end }
 
 -- the body with these instructions in the place of the operators from `start` to before `end`; the bytes outside stay
 abbrev pub spliced : List ℕ → List (Operator × ℕ) → (start end : ℕ) → List Instruction → List ℕ
 spliced input operators start end code =
-    before_block input operators (piece start end) ++ (codes code ++ after_block input operators (piece start end))
+    before_block input operators (range_as_block start end) ++ (codes code ++ after_block input operators (range_as_block start end))
 
 -- the instruction as an operator, with its code
 abbrev pub spelling_of : Instruction → Operator × List ℕ
@@ -115,7 +115,7 @@ pub record RunsSpliced (s : Setting) (operators : List (Operator × ℕ)) (start
 
 -- The sink has grown by the body with the term's code in the place of those operators: it is read again as the operators before, the code and the
 -- operators behind; and where the operators were a tree that the term evaluates as, whatever the locals' types, it runs as before.
-pub record AppendsSpliced (s : Setting) (input : List ℕ) (operators : List (Operator × ℕ)) (start end : ℕ) (t : Term Head) (old new : List ℕ) :
+pub record AppendsSplicedTerm (s : Setting) (input : List ℕ) (operators : List (Operator × ℕ)) (start end : ℕ) (t : Term Head) (old new : List ℕ) :
     Type 0 where
   pub code : List Instruction
   pub expands : expansion_in s t ≡ Ok code

@@ -6,9 +6,9 @@ use Rattle.wasm_types.specs.Module.{Module}
 use Rattle.wasm_types.specs.declared.types.PrimitiveTypeInfo.{PrimitiveTypeInfo}
 use Rattle.peephole_lang.specs.declared.lang.Head.{Head}
 use Rattle.peephole_lang.specs.Term.{Term}
-use Rattle.peephole_machine.specs.Values.{Value, types, context_in, State, HasTypes, above}
-use Rattle.peephole_machine.specs.Machine.{run}
-use Rattle.peephole_machine.specs.Agreement.{with_globals, SameOutcome}
+use Rattle.wasm_execution.specs.Values.{Value, types, context_in, State, HasTypes, above}
+use Rattle.wasm_execution.specs.Machine.{run}
+use Rattle.wasm_execution.specs.Agreement.{with_globals, SameOutcome}
 use Rattle.peephole_terms.specs.NodeKind.{primitive_of}
 use Rattle.peephole_terms.specs.Expansion.{Setting, draw_words, draws_of, requests_of, expansion_of, expansion_in}
 use Rattle.peephole_terms.specs.Typing.{types_of}

@@ -4,8 +4,8 @@ use Rattle.std.specs.Prelude.{List, [], ◌∷◌, ◌++◌, Option, Some, None,
 use Rattle.wasm_types.specs.declared.types.PrimitiveTypeInfo.{PrimitiveTypeInfo}
 use Rattle.peephole_lang.specs.declared.lang.Head.{Head}
 use Rattle.peephole_lang.specs.Term.{Term, Terms, absent, node, no_terms, ◌▸◌}
-use Rattle.peephole_machine.specs.Values.{type_of, same_types, Context}
-use Rattle.peephole_machine.specs.IntegerRow.{if_typed, row_types, integer_row}
+use Rattle.wasm_execution.specs.Values.{type_of, same_types, Context}
+use Rattle.wasm_execution.specs.IntegerRow.{if_typed, row_types, integer_row}
 use Rattle.peephole_terms.specs.NodeKind as kind
 use Rattle.peephole_terms.specs.NodeKind.{NodeKind, node_kind, primitive_of}
 use Rattle.peephole_terms.specs.Expansion.{constant_in}

@@ -1,6 +1,7 @@
 -- The written body: the bytes outside a block as they stood, and between them the code of the block's forest in postfix, in which a term stands for the
 -- tree of the operator at the insertion point. This project's rule.
-use Rattle.std.specs.Prelude.{◌≡◌, ◌≢◌, ℕ, ◌+◌, ◌-◌, ◌≤◌, ◌==◌, ◌||◌, ◌↔◌, Bool, true, false, List, [], ◌++◌, length, map, Option, Some, Result, Ok, Err, IfOk, if◌then◌else◌, slice_index, slice_range}
+use Rattle.std.specs.Prelude.{◌≡◌, ◌≢◌, ℕ, ◌+◌, ◌-◌, ◌≤◌, ◌==◌, ◌||◌, ◌↔◌, Bool, true, false, List, [], ◌++◌, length, map, Option, Some}
+use Rattle.std.specs.Prelude.{Result, Ok, Err, IfOk, if◌then◌else◌, slice_index, slice_range}
 use Rattle.wasm_code.specs.Instruction.{Instruction}
 use Rattle.wasm_code.specs.Code.{codes}
 use Rattle.wasm_code.specs.Body.{SpellsCode}
@@ -24,7 +25,8 @@ use Rattle.peephole_terms.specs.Expansion.{Setting, Refuses, expansion_in, after
 abbrev pub with_tree_replaced : (first at : ℕ) → List Instruction → Trees → List Instruction
 with_tree_replaced first at code no_trees = []
 with_tree_replaced first at code (entry m ▸ ts) = with_tree_replaced first at code ts
-with_tree_replaced first at code (node i s kids ▸ ts) = (if first + i == at then code else instructions_of (node i s kids)) ++ with_tree_replaced first at code ts
+with_tree_replaced first at code (node i s kids ▸ ts) = (if first + i == at then code else instructions_of (node i s kids))
+    ++ with_tree_replaced first at code ts
 
 -- What a body is written at: the input, the operators of a body in it with their offsets, one of its blocks, and the insertion point, by its operator's
 -- index in the body.

@@ -12,10 +12,10 @@ pub use peephole_graphs::laws::{
     blocks_are_found, entries_have_trees, faults_are_found, graph_shows_the_forest,
     laws_of_forests, layout_keeps_the_term, order_is_decided, terms_stand_for_trees,
 };
-pub use peephole_machine::laws::{
+use wasm_code::laws::one_list;
+pub use wasm_execution::laws::{
     following_code_keeps_runs_the_same, integer_rows_ask_no_world, requested_globals_free_nothing,
 };
-use wasm_code::laws::one_list;
 
 /// The instructions that are written for nodes without a row are those of the opcodes that belong to their names.
 pub fn written_instructions()

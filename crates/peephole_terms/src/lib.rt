@@ -1,4 +1,6 @@
 //! Bodies written with a term in the place of a tree; and all that the crates below show, under one roof.
+//!
+//! Tests: `peephole_tests` (`terms`, `writing`, `expansions`, `running`, `rereading`).
 #![tactic(auto)]
 
 mod encoder;
@@ -13,11 +15,6 @@ pub use given_words;
 pub use given_words::Words;
 pub use mutate_base;
 pub use mutate_base::{Error, WasmMutate};
-pub use node_payloads;
-pub use node_payloads::{
-    F32, F64, MemArg, MemArgLane, MemoryCopy, MemoryInit, RefType, Shuffle, TableCopy, TableInit,
-    TermError, read_val_type,
-};
 pub use peephole_analysis;
 pub use peephole_analysis::{ClassData, OperandTypes, PeepholeMutationAnalysis};
 pub use peephole_graphs;
@@ -26,14 +23,19 @@ pub use peephole_lang;
 pub use peephole_lang::{
     Children, Head, Id, Lang, Language, Numeric, Payload, RecExpr, Simd, no_children,
 };
-pub use peephole_machine;
 pub use peephole_nodes;
+pub use peephole_payloads;
+pub use peephole_payloads::{
+    F32, F64, MemArg, MemArgLane, MemoryCopy, MemoryInit, RefType, Shuffle, TableCopy, TableInit,
+    TermError, read_val_type,
+};
 pub use wasm_code;
 pub use wasm_code::{
     AbstractHeapType, BlockType, Function, HeapType, Imm, Instr, MemArg as MemoryArgument, Opcode,
     Operator, OperatorAndByteOffset, Other, ReadError, ReadKind, ResultKind, RowInfo, SinkError,
     ValType, read_body, read_code, row_info, row_of,
 };
+pub use wasm_execution;
 pub use wasm_types;
 pub use wasm_types::{
     ElementType, FuncInfo, MemoryType, ModuleInfo, PrimitiveTypeInfo, TableType, TypeInfo,

@@ -13,9 +13,9 @@ use Rattle.wasm_code.specs.declared.immediate.MemArg.{MemArg}
 use Rattle.wasm_code.specs.declared.table.Kind.{Kind}
 use Rattle.wasm_code.specs.declared.table.Kind.TheVariants as kind
 use Rattle.wasm_code.specs.declared.table.Row as instruction
-use Rattle.peephole_machine.specs.ExactRow.{find}
-use Rattle.peephole_machine.specs.declared.integer.IntegerType.{IntegerType}
-use Rattle.peephole_machine.specs.declared.integer.IntegerType.TheVariants.{I32, I64}
+use Rattle.wasm_execution.specs.ExactRow.{find}
+use Rattle.wasm_execution.specs.declared.integer.IntegerType.{IntegerType}
+use Rattle.wasm_execution.specs.declared.integer.IntegerType.TheVariants.{I32, I64}
 use Rattle.rewrite_rules.specs.declared.pattern.Operator.{Operator}
 use Rattle.rewrite_rules.specs.declared.pattern.Operator.TheVariants.{Whole, Select, Exact}
 use Rattle.rewrite_rules.specs.declared.access.AccessKind.{AccessKind}

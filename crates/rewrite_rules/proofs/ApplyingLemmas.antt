@@ -4,7 +4,7 @@ use Rattle.std.specs.Prelude.{◌&&◌, ◌||◌, not}
 use Rattle.std.proofs.lemmas.Bool.{and_parts}
 use Rattle.wasm_code.specs.Instruction.{Instruction}
 use Rattle.wasm_types.specs.declared.types.PrimitiveTypeInfo.{PrimitiveTypeInfo}
-use Rattle.peephole_machine.specs.declared.integer.IntegerType.{IntegerType}
+use Rattle.wasm_execution.specs.declared.integer.IntegerType.{IntegerType}
 use Rattle.rewrite_rules.specs.declared.order.Effects.{Effects}
 use Rattle.rewrite_rules.specs.declared.table.Row.{Row}
 use Rattle.rewrite_rules.specs.Pattern.{holes}
@@ -69,6 +69,7 @@ module _ (types_are : TypesAreTold) (holes_are : HolesAreTold) (row : Row) (t : 
     only = λ context x found applies.
         let have : HaveTypes context x (is_in (holes (line_of row t).left)) (kinds_for row.widths t) =
         record { type = applies.type; numeric = applies.numeric; leave = applies.leave } in
-        is ∙ all (or_not exact (needs_exact row) (λ n. found.exact_is ∙ applies.exact (exact_is_told row t formed ∙ n))) applies.as_asked (types_are.only context x (is_in (holes (line_of row t).left)) (kinds_for row.widths t) types found.types_are have)
+        is ∙ all (or_not exact (needs_exact row) (λ n. found.exact_is ∙ applies.exact (exact_is_told row t formed ∙ n))) applies.as_asked
+        (types_are.only context x (is_in (holes (line_of row t).left)) (kinds_for row.widths t) types found.types_are have)
         (moves_are x found.effects_are ∙ applies.moves);
   }

@@ -7,13 +7,13 @@ use Rattle.std.proofs.lemmas.List.Elements.{All-nil, All-take, All-drop}
 use Rattle.wasm_code.specs.Instruction.{Instruction}
 use Rattle.wasm_types.specs.Module.{Module}
 use Rattle.wasm_types.specs.declared.types.PrimitiveTypeInfo.{PrimitiveTypeInfo}
-use Rattle.peephole_machine.specs.Values.{Value, IsValue, types, Context, State, HasTypes, Outcome, Ends, Traps, Stuck, then_run, above}
-use Rattle.peephole_machine.specs.IntegerRow.{operand_count, row_types, integer_row}
-use Rattle.peephole_machine.specs.Machine.{act, step, run}
-use Rattle.peephole_machine.specs.Agreement.{EndsTyped}
-use Rattle.peephole_machine.specs.OutcomeLemmas.{above_above, length_types}
-use Rattle.peephole_machine.specs.RowLemmas.{and_then_some, map_some, row_types_count, step_at}
-use Rattle.peephole_machine.specs.TypeLemmas.{act_typed, above_typed, then_typed}
+use Rattle.wasm_execution.specs.Values.{Value, IsValue, types, Context, State, HasTypes, Outcome, Ends, Traps, Stuck, then_run, above}
+use Rattle.wasm_execution.specs.IntegerRow.{operand_count, row_types, integer_row}
+use Rattle.wasm_execution.specs.Machine.{act, step, run}
+use Rattle.wasm_execution.specs.Agreement.{EndsTyped}
+use Rattle.wasm_execution.specs.OutcomeLemmas.{above_above, length_types}
+use Rattle.wasm_execution.specs.RowLemmas.{and_then_some, map_some, row_types_count, step_at}
+use Rattle.wasm_execution.specs.TypeLemmas.{act_typed, above_typed, then_typed}
 use Rattle.rewrite_rules.specs.Code.{types_behind, types_after, Leaves}
 
 pub both_all : {X : Type 0} (P : X → Type 0) (xs ys : List X) → All P (xs ++ ys) → All P xs × All P ys

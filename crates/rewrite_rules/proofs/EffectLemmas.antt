@@ -14,27 +14,30 @@ use Rattle.wasm_code.specs.declared.immediate.ValType.TheVariants as val
 use Rattle.wasm_code.specs.declared.table.Opcode.{Opcode}
 use Rattle.wasm_code.specs.declared.table.Opcode.TheVariants.{Byte, Fc, Fd}
 use Rattle.wasm_types.specs.declared.types.PrimitiveTypeInfo.{PrimitiveTypeInfo}
-use Rattle.peephole_machine.specs.declared.integer.IntegerType.{IntegerType}
-use Rattle.peephole_machine.specs.declared.integer.IntegerType.TheVariants as integer
-use Rattle.peephole_machine.specs.declared.operation.Binary.{Binary}
-use Rattle.peephole_machine.specs.declared.operation.Binary.TheVariants.{Add, Sub, Mul, DivS, DivU, RemS, RemU, And, Or, Xor, Shl, ShrS, ShrU, Rotl, Rotr}
-use Rattle.peephole_machine.specs.declared.operation.Operation.{Operation}
-use Rattle.peephole_machine.specs.declared.operation.Operation.TheVariants as operation
-use Rattle.peephole_machine.specs.Opcode.{operation_of}
-use Rattle.peephole_machine.specs.Operation.{binary_of, operator_of}
-use Rattle.peephole_machine.specs.OperationLemmas.{bare_operator_is}
-use Rattle.peephole_machine.specs.OtherRow.{changes}
-use Rattle.peephole_machine.specs.Row.{byte_of, instruction_byte}
-use Rattle.peephole_machine.specs.Values.{width_of, Value, IsValue, types, Context, Answer, Gives, Fails, IsAnswer, State, HasTypes, own_globals, further_globals, local, global, read, Outcome, Ends, Traps, Stuck, then_run, above}
-use Rattle.peephole_machine.specs.Integer.{IntegerOperator, binary_value, select_operator}
-use Rattle.peephole_machine.specs.IntegerRow as row
-use Rattle.peephole_machine.specs.IntegerRow.{IntegerRow, bare_row, bare_operator, byte_row, variable_row, typed_select, opcode_row, row_or_other, row_types, integer_row}
-use Rattle.peephole_machine.specs.Machine.{cause_of, given, read_of, answered, effect, act, step, run}
-use Rattle.peephole_machine.specs.Agreement.{EndsTyped}
-use Rattle.peephole_machine.specs.StateLemmas.{own_is, others_none}
-use Rattle.peephole_machine.specs.RowLemmas.{and_then_some, row_types_count}
-use Rattle.peephole_machine.specs.TypeLemmas.{sound_answer, act_at}
-use Rattle.rewrite_rules.specs.Code.{types_behind, types_after, Leaves, row_writes, writes, binary_traps, operation_traps, any_traps, operation_by, row_traps, instruction_traps, traps}
+use Rattle.wasm_execution.specs.declared.integer.IntegerType.{IntegerType}
+use Rattle.wasm_execution.specs.declared.integer.IntegerType.TheVariants as integer
+use Rattle.wasm_execution.specs.declared.operation.Binary.{Binary}
+use Rattle.wasm_execution.specs.declared.operation.Binary.TheVariants.{Add, Sub, Mul, DivS, DivU, RemS, RemU, And, Or, Xor, Shl, ShrS, ShrU, Rotl, Rotr}
+use Rattle.wasm_execution.specs.declared.operation.Operation.{Operation}
+use Rattle.wasm_execution.specs.declared.operation.Operation.TheVariants as operation
+use Rattle.wasm_execution.specs.Opcode.{operation_of}
+use Rattle.wasm_execution.specs.Operation.{binary_of, operator_of}
+use Rattle.wasm_execution.specs.OperationLemmas.{bare_operator_is}
+use Rattle.wasm_execution.specs.OtherRow.{changes}
+use Rattle.wasm_execution.specs.Row.{byte_of, instruction_byte}
+use Rattle.wasm_execution.specs.Values.{width_of, Value, IsValue, types, Context, Answer, Gives, Fails, IsAnswer, State, HasTypes}
+use Rattle.wasm_execution.specs.Values.{own_globals, further_globals, local, global, read, Outcome, Ends, Traps, Stuck, then_run, above}
+use Rattle.wasm_execution.specs.Integer.{IntegerOperator, binary_value, select_operator}
+use Rattle.wasm_execution.specs.IntegerRow as row
+use Rattle.wasm_execution.specs.IntegerRow.{IntegerRow, bare_row, bare_operator, byte_row, variable_row, typed_select, opcode_row}
+use Rattle.wasm_execution.specs.IntegerRow.{row_or_other, row_types, integer_row}
+use Rattle.wasm_execution.specs.Machine.{division_trap_cause, number_or_trap, read_of, answered, effect, act, step, run}
+use Rattle.wasm_execution.specs.Agreement.{EndsTyped}
+use Rattle.wasm_execution.specs.StateLemmas.{own_is, others_none}
+use Rattle.wasm_execution.specs.RowLemmas.{and_then_some, row_types_count}
+use Rattle.wasm_execution.specs.TypeLemmas.{sound_answer, act_at}
+use Rattle.rewrite_rules.specs.Code.{types_behind, types_after, Leaves, row_writes, writes, binary_traps, operation_traps, any_traps}
+use Rattle.rewrite_rules.specs.Code.{operation_by, row_traps, instruction_traps, traps}
 use Rattle.rewrite_rules.proofs.CodeLemmas.{above_none, behind, found, step_typed, leaves_typed}
 
 -- ---- code that writes nothing
@@ -58,7 +61,7 @@ module _ {context : Context} {s : State} (h : HasTypes context s) where
   effect_still (row.constant t n) vs rs hv e w = refl
   effect_still (row.operation f) vs rs hv e w = go (f.value (map (λ v. v.number) vs))
     where
-      go : (o : Option ℕ) → IsStill s (given f.result o (cause_of (map (λ v. v.number) vs)) s)
+      go : (o : Option ℕ) → IsStill s (number_or_trap f.result o (division_trap_cause (map (λ v. v.number) vs)) s)
       go (Some n) = refl
       go None = (refl, refl)
   effect_still (row.get x) vs rs hv e w = go (read x s)
@@ -271,7 +274,7 @@ module _ {context : Context} {s : State} (h : HasTypes context s) where
       let count : length (map (λ (v : Value). v.number) vs) ≡ length f.operands =
       length-map vs (λ v. v.number) ∙ (sym (length-map vs (λ v. v.type)) ∙ sym (row_types_count context (row.operation f) (types vs) rs e)) in
       let (m, is) = operation_has i f n k (map (λ v. v.number) vs) count in
-      subst (λ (o : Option ℕ). NoTrap (given f.result o (cause_of (map (λ v. v.number) vs)) s)) (sym is) tt
+      subst (λ (o : Option ℕ). NoTrap (number_or_trap f.result o (division_trap_cause (map (λ v. v.number) vs)) s)) (sym is) tt
   effect_ends i (row.get x) vs rs k hv e n w = go (read x s)
     where
       go : (o : Option Value) → NoTrap (read_of o s)

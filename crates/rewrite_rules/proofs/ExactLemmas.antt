@@ -17,18 +17,20 @@ use Rattle.wasm_code.specs.declared.table.ResultKind.TheVariants as by
 use Rattle.wasm_code.specs.declared.table.Row.{Row}
 use Rattle.wasm_types.specs.Module.{Module, merged}
 use Rattle.wasm_types.specs.declared.types.PrimitiveTypeInfo.{PrimitiveTypeInfo}
-use Rattle.peephole_machine.specs.declared.operand.OperandKind.TheVariants as kind
-use Rattle.peephole_machine.specs.declared.operand.OperandColumn.{OperandColumn}
-use Rattle.peephole_machine.specs.declared.operand.OperandColumn.TheVariants as column
-use Rattle.peephole_machine.specs.OtherRow.{Operand, typed, Named, names_in, operands_in, results_by, both_of, value_type, type_by_row, column_by, other_type}
-use Rattle.peephole_machine.specs.ExactRow.{ExactRow, computes, loads, stores, exact_row}
-use Rattle.peephole_machine.specs.Integer.{IntegerOperator}
-use Rattle.peephole_machine.specs.Values.{of_bits, accept, results_on, other_types, Value, IsValue, types, Context, State, own_globals, Answer, HasTypes, Ends, IsExact}
-use Rattle.peephole_machine.specs.IntegerRow.{IntegerRow, operation, other, is_other, operator_row, bare_operator, typed_select, byte_row, opcode_row, row_or_other, integer_row, row_types}
-use Rattle.peephole_machine.specs.Machine.{answered, act}
-use Rattle.peephole_machine.specs.RowLemmas.{if_typed_is, same_type_self}
-use Rattle.peephole_machine.specs.StateLemmas.{own_types_are, own_is, others_none}
-use Rattle.peephole_machine.specs.TypeLemmas.{act_at}
+use Rattle.wasm_execution.specs.declared.operand.OperandKind.TheVariants as kind
+use Rattle.wasm_execution.specs.declared.operand.OperandColumn.{OperandColumn}
+use Rattle.wasm_execution.specs.declared.operand.OperandColumn.TheVariants as column
+use Rattle.wasm_execution.specs.OtherRow.{Operand, typed, Named, names_in, operands_in, results_by, both_of, value_type, type_by_row, column_by, other_type}
+use Rattle.wasm_execution.specs.ExactRow.{ExactRow, computes, loads, stores, exact_row}
+use Rattle.wasm_execution.specs.Integer.{IntegerOperator}
+use Rattle.wasm_execution.specs.Values.{of_bits, accept, results_on, other_types, Value, IsValue, types, Context, State, own_globals}
+use Rattle.wasm_execution.specs.Values.{Answer, HasTypes, Ends, IsExact}
+use Rattle.wasm_execution.specs.IntegerRow.{IntegerRow, operation, other, is_other, operator_row, bare_operator, typed_select, byte_row}
+use Rattle.wasm_execution.specs.IntegerRow.{opcode_row, row_or_other, integer_row, row_types}
+use Rattle.wasm_execution.specs.Machine.{answered, act}
+use Rattle.wasm_execution.specs.RowLemmas.{if_typed_is, same_type_self}
+use Rattle.wasm_execution.specs.StateLemmas.{own_types_are, own_is, others_none}
+use Rattle.wasm_execution.specs.TypeLemmas.{act_at}
 use Rattle.rewrite_rules.specs.Exact.{ExactOperator, written_operands, number_type, written_result, operands_by, result_by, with_value, exact_operator}
 
 -- ---- instructions of which the machine says nothing itself

@@ -2,11 +2,11 @@
 use Rattle.std.proofs.Common.{◌≡◌, true, Some, None, [], ◌∷◌, refl}
 use Rattle.wasm_code.specs.Table.{table, row_at}
 use Rattle.wasm_types.specs.declared.types.PrimitiveTypeInfo.TheVariants as primitive
-use Rattle.peephole_machine.specs.ExactRow.{exact_row}
-use Rattle.peephole_machine.specs.IntegerRow.{integer_row}
+use Rattle.wasm_execution.specs.ExactRow.{exact_row}
+use Rattle.wasm_execution.specs.IntegerRow.{integer_row}
 use Rattle.rewrite_rules.specs.declared.pattern.Operator.TheVariants.{Exact}
 use Rattle.rewrite_rules.specs.Exact.{exact_operator, exact_at}
-use Rattle.rewrite_rules.specs.Pattern.{fixed, hole, apply, none, ◌▹◌, is_known}
+use Rattle.rewrite_rules.specs.Pattern.{fixed, hole, apply, none, ◌▹◌, is_operator_known}
 use Rattle.rewrite_rules.specs.Line.{Line, is_formed, is_exact_line}
 
 -- f32.neg of f32.neg of an operand is the operand
@@ -38,6 +38,6 @@ lane_is_none : exact_at 210 None ≡ None
 unfolding exact_operator exact_row integer_row row_at table
 lane_is_none = refl
 
-lane_is_one : is_known (Exact 210 (Some 3)) ≡ true
+lane_is_one : is_operator_known (Exact 210 (Some 3)) ≡ true
 unfolding exact_operator exact_row integer_row row_at table
 lane_is_one = refl

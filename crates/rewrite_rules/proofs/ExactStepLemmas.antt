@@ -2,13 +2,13 @@
 use Rattle.std.proofs.Common.{◌≡◌, Bool, true, false, List, [], ◌∷◌, ◌++◌, refl, sym, ap, ap₂, ◌∙◌}
 use Rattle.std.specs.Prelude.{◌||◌}
 use Rattle.std.proofs.lemmas.Bool.{and_parts}
-use Rattle.peephole_machine.specs.declared.integer.IntegerType.{IntegerType}
+use Rattle.wasm_execution.specs.declared.integer.IntegerType.{IntegerType}
 use Rattle.rewrite_rules.specs.declared.pattern.Part.{Part}
 use Rattle.rewrite_rules.specs.declared.pattern.Part.TheVariants.{Hole, Constant, Drawn, Apply}
 use Rattle.rewrite_rules.specs.declared.table.Row.{Row}
 use Rattle.rewrite_rules.specs.declared.table.Step.{Step}
 use Rattle.rewrite_rules.specs.declared.table.Step.TheVariants as step
-use Rattle.rewrite_rules.specs.Pattern.{Pattern, Patterns, hole, constant, drawn, apply, none, ◌▹◌, is_exact, uses_exact, some_exact}
+use Rattle.rewrite_rules.specs.Pattern.{Pattern, Patterns, hole, constant, drawn, apply, none, ◌▹◌, is_exact_operator, uses_exact, some_exact}
 use Rattle.rewrite_rules.specs.Line.{is_exact_line}
 use Rattle.rewrite_rules.specs.Parts.{parts_of, parts_in}
 use Rattle.rewrite_rules.specs.Table.{parts_for, line_of, has_exact, needs_exact}
@@ -19,7 +19,7 @@ abbrev in_part : Part → Bool
 in_part (Hole n) = false
 in_part (Constant t e) = false
 in_part (Drawn t) = false
-in_part (Apply o) = is_exact o
+in_part (Apply o) = is_exact_operator o
 
 abbrev in_parts : List Part → Bool
 in_parts [] = false
@@ -45,7 +45,8 @@ mutual
   by_parts (constant t e) = refl
   by_parts (drawn t) = refl
   by_parts (apply o ps) =
-      ap (λ b. is_exact o || b) (all_by_parts ps) ∙ (turned (is_exact o) (in_parts (parts_in ps)) ∙ sym (in_both (parts_in ps) (Apply o ∷ [])))
+      ap (λ b. is_exact_operator o || b) (all_by_parts ps) ∙ (turned (is_exact_operator o) (in_parts (parts_in ps))
+      ∙ sym (in_both (parts_in ps) (Apply o ∷ [])))
 
   all_by_parts : (ps : Patterns) → some_exact ps ≡ in_parts (parts_in ps)
   all_by_parts none = refl

@@ -7,18 +7,19 @@ use Rattle.wasm_code.specs.declared.immediate.ValType.{ValType}
 use Rattle.wasm_code.specs.declared.operator.Operator.TheVariants as op
 use Rattle.wasm_types.specs.declared.types.PrimitiveTypeInfo.{PrimitiveTypeInfo}
 use Rattle.wasm_types.specs.declared.types.PrimitiveTypeInfo.TheVariants as primitive
-use Rattle.peephole_machine.specs.declared.integer.IntegerType.TheVariants as integer
-use Rattle.peephole_machine.specs.declared.operation.Comparison.TheVariants.{Ne, LtU}
-use Rattle.peephole_machine.specs.declared.operation.Operation.TheVariants as operation
-use Rattle.peephole_machine.specs.Integer.{compare, eqz, ne, lt_u}
-use Rattle.peephole_machine.specs.Values.{type_of, Context}
-use Rattle.peephole_machine.specs.IntegerRow as row
-use Rattle.peephole_machine.specs.IntegerRow.{IntegerRow, is_numeric, variable_type, operand_count, row_types, integer_row}
-use Rattle.peephole_programs.specs.control.Blocks.{arity_of}
-use Rattle.peephole_programs.specs.control.Wider.{wider}
-use Rattle.peephole_programs.specs.validation.StaysValid.{Pushes, TypedCodePushes, RowTypesStay}
+use Rattle.wasm_execution.specs.declared.integer.IntegerType.TheVariants as integer
+use Rattle.wasm_execution.specs.declared.operation.Comparison.TheVariants.{Ne, LtU}
+use Rattle.wasm_execution.specs.declared.operation.Operation.TheVariants as operation
+use Rattle.wasm_execution.specs.Integer.{compare, eqz, ne, lt_u}
+use Rattle.wasm_execution.specs.Values.{type_of, Context}
+use Rattle.wasm_execution.specs.IntegerRow as row
+use Rattle.wasm_execution.specs.IntegerRow.{IntegerRow, is_numeric, variable_type, operand_count, row_types, integer_row}
+use Rattle.wasm_equivalence.specs.control.Blocks.{arity_of}
+use Rattle.wasm_equivalence.specs.control.Wider.{wider}
+use Rattle.wasm_equivalence.specs.validation.StaysValid.{Pushes, TypedCodePushes, RowTypesStay}
 use Rattle.wrapped_code.specs.Wrapped.{Wrapped, plain, both, choice}
-use Rattle.wrapped_code.specs.Ways.{WrappedPushes, WrappedCodePushes, PushedCodeChecksAs, IsPure, IsAlone, LeavesValue, PureCode, row_changes, code_changes, CodeIsAlone, WrappedCodeRuns}
+use Rattle.wrapped_code.specs.Ways.{WrappedPushes, WrappedCodePushes, PushedCodeChecksAs, IsPure, IsAlone, LeavesValue, PureCode}
+use Rattle.wrapped_code.specs.Ways.{row_changes, code_changes, CodeIsAlone, WrappedCodeRuns}
 use Rattle.wrapped_code.specs.Alike.{SameAs}
 use Rattle.wrapped_code.specs.Conditions.{SameTruth, ConditionsAsTrue}
 use Rattle.wrapped_code.specs.Indices.{LabelAlike, IndicesAreBounded}
@@ -27,7 +28,7 @@ use Rattle.rewrite_rules.specs.Code.{types_after, Leaves, row_writes, writes}
 use Rattle.rewrite_rules.specs.Instance.{constant_code}
 use Rattle.rewrite_rules.specs.Beside.{drop_code}
 use Rattle.rewrite_rules.specs.Wrap.{value_of}
-use Rattle.rewrite_rules.specs.Flow.{is_leaf_row, is_leaf, zero_code, ne_code, eqz_code, below_code, select_code, bounded_code, MayBranch}
+use Rattle.rewrite_rules.specs.Flow.{is_told_by_state, is_leaf, zero_code, ne_code, eqz_code, below_code, select_code, bounded_code, MayBranch}
 use Rattle.rewrite_rules.specs.Flow.{SelectsAreConditionals, TestsAreConditions, BoundsAreIndices, DroppedCodePushesNothing, DroppedConstantsPushNothing}
 use Rattle.rewrite_rules.proofs.LineLemmas.{after_wider, pushes}
 use Rattle.rewrite_rules.proofs.MeaningLemmas.{constant_types}
@@ -111,7 +112,7 @@ leaf_is_pure : PureCode → (context : Context) (i : Instruction) (t : Primitive
     IsPure context t (i ∷ [])
 leaf_is_pure pure context i t e l = go (integer_row i) refl e
   where
-    go : (r : IntegerRow) → integer_row i ≡ r → is_leaf_row r ≡ true → IsPure context t (i ∷ [])
+    go : (r : IntegerRow) → integer_row i ≡ r → is_told_by_state r ≡ true → IsPure context t (i ∷ [])
     go (row.constant k n) is e =
         let same : Some (type_of k ∷ []) ≡ Some (t ∷ []) = sym (ap (given_by context) is) ∙ l in
         subst (λ (u : PrimitiveTypeInfo). IsPure context u (i ∷ [])) (one_type t (type_of k) same) (pure.of_constant context i k n is)

@@ -4,7 +4,7 @@ use Rattle.std.specs.Prelude.{if◌then◌else◌, option_map, get_or}
 use Rattle.std.specs.List.{remove}
 use Rattle.std.proofs.Math.Seq.{drop-cons}
 use Rattle.std.proofs.lemmas.Bool.{and_parts, eq-eqb}
-use Rattle.peephole_machine.specs.declared.integer.IntegerType.{IntegerType}
+use Rattle.wasm_execution.specs.declared.integer.IntegerType.{IntegerType}
 use Rattle.rewrite_rules.specs.declared.pattern.Part.{Part}
 use Rattle.rewrite_rules.specs.declared.pattern.Part.TheVariants.{Hole, Constant, Drawn, Apply}
 use Rattle.rewrite_rules.specs.declared.table.Row.{Row}
@@ -15,7 +15,7 @@ use Rattle.rewrite_rules.specs.Parts.{parts_of, parts_in}
 use Rattle.rewrite_rules.specs.Table.{parts_for, line_of}
 use Rattle.rewrite_rules.specs.Holes.{holes_for, HolesAreTold}
 use Rattle.rewrite_rules.specs.Applying.{IsFormed}
-use Rattle.rewrite_rules.specs.Growth.{own_size, own_sizes, without, growth_by, growth_of, left_over}
+use Rattle.rewrite_rules.specs.Growth.{own_size, own_sizes, without, growth_by, line_growth_of, left_over}
 use Rattle.rewrite_rules.specs.Growing.{own_steps}
 use Rattle.rewrite_rules.proofs.SideLemmas.{side_parts}
 
@@ -63,7 +63,7 @@ of_steps t (step.Exact n i ∷ steps) = ap (λ k. k + 1) (of_steps t steps)
 
 -- The growth of a row's line that is well formed is told by its steps.
 pub by_steps : HolesAreTold → (row : Row) (t : IntegerType) → IsFormed row t →
-    growth_of (line_of row t) ≡ growth_by (own_steps row.left) (own_steps row.right) (left_over (holes_for row.right) (holes_for row.left))
+    line_growth_of (line_of row t) ≡ growth_by (own_steps row.left) (own_steps row.right) (left_over (holes_for row.right) (holes_for row.left))
 by_steps told row t formed =
     let l = line_of row t in
     let sides = (and_parts _ _ (and_parts _ _ formed).0) in

@@ -2,12 +2,12 @@
 use Rattle.std.proofs.Common.{◌≡◌, ℕ, Bool, true, false, List, [], ◌∷◌, Some, None, refl}
 use Rattle.std.specs.Prelude.{◌&&◌, if◌then◌else◌, codes}
 use Rattle.wasm_code.specs.Table.{table, row_at}
-use Rattle.peephole_machine.specs.ExactRow.{exact_row}
-use Rattle.peephole_machine.specs.IntegerRow.{integer_row}
+use Rattle.wasm_execution.specs.ExactRow.{exact_row}
+use Rattle.wasm_execution.specs.IntegerRow.{integer_row}
 use Rattle.rewrite_rules.specs.Exact.{exact_operator}
 use Rattle.rewrite_rules.specs.Line.{Line}
-use Rattle.rewrite_rules.specs.Table.{Entry, entries, row_in, parts, lines_of}
-use Rattle.rewrite_rules.specs.Growth.{Growth, shrinks, keeps, grows, growth_of}
+use Rattle.rewrite_rules.specs.Table.{Entry, entries, row_in, parts, row_lines_of}
+use Rattle.rewrite_rules.specs.Growth.{Growth, shrinks, keeps, grows, line_growth_of}
 use Rattle.rewrite_rules.proofs.NameLemmas.{is_among}
 
 same : Growth → Growth → Bool
@@ -18,7 +18,7 @@ same a b = false
 
 all_have : Growth → List Line → Bool
 all_have g [] = true
-all_have g (l ∷ ls) = same (growth_of l) g && all_have g ls
+all_have g (l ∷ ls) = same (line_growth_of l) g && all_have g ls
 
 shrinking : List (List ℕ)
 shrinking =
@@ -84,9 +84,9 @@ growth name = if is_among shrinking name then shrinks else (if is_among keeping 
 -- the lines are as said above, where the rule above them is of that growth
 as_said : Growth → List Entry → Bool
 as_said g [] = true
-as_said g ((None, w, k, l, r) ∷ es) = all_have g (lines_of (row_in (None, w, k, l, r))) && as_said g es
+as_said g ((None, w, k, l, r) ∷ es) = all_have g (row_lines_of (row_in (None, w, k, l, r))) && as_said g es
 as_said g ((Some name, w, k, l, r) ∷ es) =
-    all_have (growth name.now) (lines_of (row_in (Some name, w, k, l, r))) && as_said (growth name.now) es
+    all_have (growth name.now) (row_lines_of (row_in (Some name, w, k, l, r))) && as_said (growth name.now) es
 
 as_computed : as_said grows entries ≡ true
 unfolding growth all_have same as_said shrinking keeping parts exact_operator exact_row integer_row row_at table

@@ -3,7 +3,7 @@ use Rattle.std.proofs.Common.{◌≡◌, ℕ, Bool, true, false, List, [], ◌�
 use Rattle.std.specs.Prelude.{◌==◌, ◌||◌, not, if◌then◌else◌}
 use Rattle.std.proofs.lemmas.Bool.{eqb-true, eq-eqb, and_parts, false≢true}
 use Rattle.std.proofs.lemmas.List.{append-nil}
-use Rattle.rewrite_rules.specs.Order.{is_in, every, at_most_one, back}
+use Rattle.rewrite_rules.specs.Order.{is_in, every, at_most_one_passes, back}
 use Rattle.rewrite_rules.proofs.RunLemmas.{Each, each_append}
 
 pub every_in : (f : ℕ → Bool) (ns : List ℕ) (n : ℕ) → every f ns ≡ true → is_in ns n ≡ true → f n ≡ true
@@ -14,7 +14,7 @@ every_in f (m ∷ ms) n e i = go (n == m) refl i (every_in f ms n (and_parts (f 
     go true k i rest = ap f (eqb-true n m k) ∙ (and_parts (f m) (every f ms) e).0
     go false k i rest = rest i
 
-pub one_of : (f : ℕ → Bool) (ns : List ℕ) (n k : ℕ) → at_most_one f ns ≡ true → is_in ns n ≡ true → is_in ns k ≡ true → f n ≡ true → f k ≡ true → n ≡ k
+pub one_of : (f : ℕ → Bool) (ns : List ℕ) (n k : ℕ) → at_most_one_passes f ns ≡ true → is_in ns n ≡ true → is_in ns k ≡ true → f n ≡ true → f k ≡ true → n ≡ k
 one_of f [] n k e i j p q = absurd cc
 one_of f (m ∷ ms) n k e i j p q = go (f m) refl e (one_of f ms n k)
   where
@@ -37,8 +37,8 @@ one_of f (m ∷ ms) n k e i j p q = go (f m) refl e (one_of f ms n k)
         at true k i = absurd (false≢true (sym h ∙ (ap f (sym (eqb-true n m k)) ∙ p)))
         at false k i = i
 
-    go : (b : Bool) → f m ≡ b → (if b then every (λ j. j == m || not (f j)) ms else at_most_one f ms) ≡ true →
-        (at_most_one f ms ≡ true → is_in ms n ≡ true → is_in ms k ≡ true → f n ≡ true → f k ≡ true → n ≡ k) → n ≡ k
+    go : (b : Bool) → f m ≡ b → (if b then every (λ j. j == m || not (f j)) ms else at_most_one_passes f ms) ≡ true →
+        (at_most_one_passes f ms ≡ true → is_in ms n ≡ true → is_in ms k ≡ true → f n ≡ true → f k ≡ true → n ≡ k) → n ≡ k
     go true h e rest = is_first e n i p ∙ sym (is_first e k j q)
     go false h e rest = rest e (in_rest h n i p) (in_rest h k j q) p q
 

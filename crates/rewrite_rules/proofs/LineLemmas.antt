@@ -4,17 +4,17 @@ use Rattle.std.specs.Prelude.{◌==◌, ◌&&◌, ◌||◌, option_and_then}
 use Rattle.std.proofs.lemmas.Bool.{and_parts, or_right}
 use Rattle.wasm_code.specs.Instruction.{Instruction}
 use Rattle.wasm_types.specs.declared.types.PrimitiveTypeInfo.{PrimitiveTypeInfo}
-use Rattle.peephole_machine.specs.Values.{Value, IsOfType, Context, State, HasTypes, above}
-use Rattle.peephole_machine.specs.IntegerRow.{integer_row}
-use Rattle.peephole_machine.specs.Machine.{run}
-use Rattle.peephole_machine.specs.Agreement.{with_globals}
-use Rattle.peephole_machine.specs.RowLemmas.{and_then_some}
-use Rattle.peephole_machine.specs.StateLemmas.{Follows}
-use Rattle.peephole_machine.specs.SameLemmas.{run_follows}
-use Rattle.peephole_programs.specs.control.Wider.{wider}
-use Rattle.peephole_programs.specs.validation.StaysValid.{Pushes, TypedCodePushes, PushesOnFrames, RowTypesStay}
+use Rattle.wasm_execution.specs.Values.{Value, IsOfType, Context, State, HasTypes, above}
+use Rattle.wasm_execution.specs.IntegerRow.{integer_row}
+use Rattle.wasm_execution.specs.Machine.{run}
+use Rattle.wasm_execution.specs.Agreement.{with_globals}
+use Rattle.wasm_execution.specs.RowLemmas.{and_then_some}
+use Rattle.wasm_execution.specs.StateLemmas.{Follows}
+use Rattle.wasm_execution.specs.SameLemmas.{run_follows}
+use Rattle.wasm_equivalence.specs.control.Wider.{wider}
+use Rattle.wasm_equivalence.specs.validation.StaysValid.{Pushes, TypedCodePushes, PushesOnFrames, RowTypesStay}
 use Rattle.rewrite_rules.specs.Code.{types_behind, types_after, Leaves}
-use Rattle.rewrite_rules.specs.Pattern.{Kind, fixed, any, kind_at, holes, draws_by, kind_of, kind_in, same_kind, fits, uses_exact, traps_at_root}
+use Rattle.rewrite_rules.specs.Pattern.{Kind, fixed, any, kind_at, holes, draws_by, hole_kind_of, kind_in, same_kind, fits, uses_exact, traps_at_root}
 use Rattle.rewrite_rules.specs.Order.{is_in, every}
 use Rattle.rewrite_rules.specs.Line.{Line, is_formed, IsOfKind, IsRight}
 use Rattle.rewrite_rules.specs.Instance.{code_of, doing, Applies, StandsFor}
@@ -99,16 +99,17 @@ module _ (push : TypedCodePushes) (frames : PushesOnFrames) (stay : RowTypesStay
   within n i = every_in (is_in (holes l.left)) (holes l.right) n parts.within i
 
   left_good : AreLeft context u a.numeric l.kinds x c (holes l.left)
-  left_good = each_from (λ n. Leaves context (x n) (kind_at u (kind_of l.kinds n))) (holes l.left) a.leave
+  left_good = each_from (λ n. Leaves context (x n) (kind_at u (hole_kind_of l.kinds n))) (holes l.left) a.leave
 
   right_good : AreLeft context u a.numeric l.kinds x c (holes l.right)
-  right_good = each_from (λ n. Leaves context (x n) (kind_at u (kind_of l.kinds n))) (holes l.right) (λ n i. a.leave n (within n i))
+  right_good = each_from (λ n. Leaves context (x n) (kind_at u (hole_kind_of l.kinds n))) (holes l.right) (λ n i. a.leave n (within n i))
 
   -- both do the same
   same_run : (stack : List Value) (s : State) → HasTypes context s → run old stack s ≡ run new stack s
   same_run stack s h =
       let τ = hole_type u l.kinds c in
-      pattern_runs context u a.numeric l.kinds x c l.left (λ e. a.exact (ap (λ b. b || uses_exact l.right) e)) parts.left_root parts.left_fits left_good [] stack s h
+      pattern_runs context u a.numeric l.kinds x c l.left (λ e. a.exact (ap (λ b. b || uses_exact l.right) e)) parts.left_root parts.left_fits
+      left_good [] stack s h
       ∙ (moved context (does context u a.numeric l.kinds x c) (doing x) τ (holes l.left) (holes l.right) a.moves within
       (all_good context u a.numeric l.kinds x c (holes l.left) left_good)
       (λ vs m. above stack (ends u l.kinds c [] l.left vs m)) (λ vs m. above stack (ends u l.kinds c words l.right vs m)) alike s h
@@ -121,7 +122,7 @@ module _ (push : TypedCodePushes) (frames : PushesOnFrames) (stay : RowTypesStay
       alike h fit m hm = ap (above stack)
           (ends_at u l.kinds c h [] l.left m
           ∙ (ap₂ (λ k y. finished (kind_at u k) y m) parts.same
-          (right h c [] words (λ n. of_kind u (kind_of l.kinds n) (h n) (fit n)) a.as_asked)
+          (right h c [] words (λ n. of_kind u (hole_kind_of l.kinds n) (h n) (fit n)) a.as_asked)
           ∙ sym (ends_at u l.kinds c h words l.right m)))
 
   -- both have one type

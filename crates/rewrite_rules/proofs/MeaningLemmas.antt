@@ -13,18 +13,20 @@ use Rattle.wasm_code.specs.Instruction.{Instruction}
 use Rattle.wasm_code.specs.Table.{table, row_at}
 use Rattle.wasm_types.specs.Module.{Module}
 use Rattle.wasm_types.specs.declared.types.PrimitiveTypeInfo.{PrimitiveTypeInfo}
-use Rattle.peephole_machine.specs.declared.integer.IntegerType.{IntegerType}
-use Rattle.peephole_machine.specs.declared.integer.IntegerType.TheVariants as integer
-use Rattle.peephole_machine.specs.Values.{type_of, width_of, Value, IsValue, types, Context, State, HasTypes, Outcome, Ends, then_run, above}
-use Rattle.peephole_machine.specs.IntegerRow as row
-use Rattle.peephole_machine.specs.IntegerRow.{is_numeric, operand_count, row_types, integer_row}
-use Rattle.peephole_machine.specs.Machine.{step, run}
-use Rattle.peephole_machine.specs.Agreement.{EndsTyped}
-use Rattle.peephole_machine.specs.OutcomeLemmas.{run_append, run_one}
-use Rattle.peephole_machine.specs.RowLemmas.{row_types_count, step_at}
+use Rattle.wasm_execution.specs.declared.integer.IntegerType.{IntegerType}
+use Rattle.wasm_execution.specs.declared.integer.IntegerType.TheVariants as integer
+use Rattle.wasm_execution.specs.Values.{type_of, width_of, Value, IsValue, types, Context, State, HasTypes, Outcome, Ends, then_run, above}
+use Rattle.wasm_execution.specs.IntegerRow as row
+use Rattle.wasm_execution.specs.IntegerRow.{is_numeric, operand_count, row_types, integer_row}
+use Rattle.wasm_execution.specs.Machine.{step, run}
+use Rattle.wasm_execution.specs.Agreement.{EndsTyped}
+use Rattle.wasm_execution.specs.OutcomeLemmas.{run_append, run_one}
+use Rattle.wasm_execution.specs.RowLemmas.{row_types_count, step_at}
 use Rattle.rewrite_rules.specs.declared.pattern.Operator.{Operator}
 use Rattle.rewrite_rules.specs.Code.{types_after, Leaves}
-use Rattle.rewrite_rules.specs.Pattern.{is_total, is_known, is_exact, uses_exact, some_exact, Kind, kind_at, operands_of, result_of, Pattern, Patterns, hole, constant, drawn, apply, none, ◌▹◌, holes, holes_in, draws_by, kind_in, kinds_in, fits, fit, never_traps, none_traps, traps_at_root}
+use Rattle.rewrite_rules.specs.Pattern.{is_total, is_operator_known, is_exact_operator, uses_exact, some_exact, Kind, kind_at, operands_of}
+use Rattle.rewrite_rules.specs.Pattern.{result_of, Pattern, Patterns, hole, constant, drawn, apply, none, ◌▹◌, holes, holes_in, draws_by}
+use Rattle.rewrite_rules.specs.Pattern.{kind_in, kinds_in, fits, fit, never_traps, none_traps, traps_at_root}
 use Rattle.rewrite_rules.specs.Numbers.{value_on, number_of, low, or_zero, first_word}
 use Rattle.rewrite_rules.specs.Instance.{constant_code, operator_code, code_of, codes_of, doing}
 use Rattle.rewrite_rules.proofs.CodeLemmas.{leaves_typed, leaves_above}
@@ -40,7 +42,8 @@ use Rattle.rewrite_rules.proofs.TypesLemmas.{behind_is, after_append, after_abov
 cast_back : (w : Width) (n : ℕ) → cast_unsigned w (cast_signed w (n % 2 ^ bits w)) % 2 ^ bits w ≡ n % 2 ^ bits w
 cast_back w n = ap (λ x. x % 2 ^ bits w) (of_z-to_z w (n % 2 ^ bits w) (mod-lt n (pow_pos (bits w)))) ∙ mod-mod n (2 ^ bits w)
 
-pub constant_row : (t : IntegerType) (n : ℕ) → integer_row (constant_code t n) ≡ row.constant t (cast_unsigned (width_of t) (cast_signed (width_of t) (low t n)))
+pub constant_row : (t : IntegerType) (n : ℕ) → integer_row (constant_code t n)
+    ≡ row.constant t (cast_unsigned (width_of t) (cast_signed (width_of t) (low t n)))
 unfolding integer_row table row_at
 constant_row integer.I32 n = refl
 constant_row integer.I64 n = refl
@@ -137,7 +140,7 @@ module _ (context : Context) (u : PrimitiveTypeInfo) (numeric : is_numeric u ≡
   root_ready o ps y e = y (ap (λ b. b || some_exact ps) e)
 
   rest_ready : (o : Operator) (ps : Patterns) → AllReady (apply o ps) → EachReady ps
-  rest_ready o ps y e = y (or_right (is_exact o) (some_exact ps) e)
+  rest_ready o ps y e = y (or_right (is_exact_operator o) (some_exact ps) e)
 
   first_ready : (p : Pattern) (ps : Patterns) → EachReady (p ▹ ps) → AllReady p
   first_ready p ps y e = y (ap (λ b. b || some_exact ps) e)
@@ -148,7 +151,7 @@ module _ (context : Context) (u : PrimitiveTypeInfo) (numeric : is_numeric u ≡
   -- ---- runs
 
   -- an operator on values of its operands' types
-  operator_runs : (o : Operator) → is_known o ≡ true → IsReady context o → (stack vs : List Value) (s : State) → HasTypes context s →
+  operator_runs : (o : Operator) → is_operator_known o ≡ true → IsReady context o → (stack vs : List Value) (s : State) → HasTypes context s →
       types vs ≡ types_at u (operands_of o) → All IsValue vs →
       run (operator_code o ∷ []) (stack ++ vs) s ≡ above stack (finished (kind_at u (result_of o)) (value_on o (map (λ v. v.number) vs)) s)
   operator_runs o k r stack vs s h t hv =
@@ -163,7 +166,8 @@ module _ (context : Context) (u : PrimitiveTypeInfo) (numeric : is_numeric u ≡
   length_types vs ns e = sym (length-map vs (λ v. v.type)) ∙ (ap length e ∙ length-map ns hole_at)
 
   -- behind the operands of an operator
-  behind_operands : (o : Operator) (ps : Patterns) → IsReady context o → fits kinds (apply o ps) ≡ true → AreLeft (holes_in ps) → (words : List ℕ) (stack : List Value)
+  behind_operands : (o : Operator) (ps : Patterns) → IsReady context o → fits kinds (apply o ps) ≡ true → AreLeft (holes_in ps) →
+      (words : List ℕ) (stack : List Value)
       (s : State) → HasTypes context s →
       run (codes_of x c words ps) stack s ≡ then_run (run_all does (holes_in ps) s) (λ vs m. Ends (stack ++ vals u kinds c words ps vs) m) →
       run (code_of x c words (apply o ps)) stack s ≡ then_run (run_all does (holes_in ps) s) (λ vs m. above stack (ends u kinds c words (apply o ps) vs m))
@@ -180,7 +184,8 @@ module _ (context : Context) (u : PrimitiveTypeInfo) (numeric : is_numeric u ≡
       (vals_values u kinds c words ps p.rest vs typed hv))))
 
   mutual
-    pub code_runs : (p : Pattern) → AllReady p → never_traps p ≡ true → fits kinds p ≡ true → AreLeft (holes p) → (words : List ℕ) (stack : List Value) (s : State) →
+    pub code_runs : (p : Pattern) → AllReady p → never_traps p ≡ true → fits kinds p ≡ true → AreLeft (holes p) →
+        (words : List ℕ) (stack : List Value) (s : State) →
         HasTypes context s →
         run (code_of x c words p) stack s ≡ then_run (run_all does (holes p) s) (λ vs m. Ends (stack ++ val u kinds c words p vs ∷ []) m)
     code_runs (hole n) y q f g words stack s hs =
@@ -211,12 +216,13 @@ module _ (context : Context) (u : PrimitiveTypeInfo) (numeric : is_numeric u ≡
             above stack (finished (kind_at u (result_of o)) r m) ≡ Ends (stack ++ record { type = kind_at u (result_of o); number = or_zero r } ∷ []) m
         number m r (n, e) = rw e refl
 
-        left : (vs : List Value) (m : State) → is_known o ≡ true → is_total o ≡ true → length (map (λ v. v.number) vs) ≡ length (operands_of o) →
+        left : (vs : List Value) (m : State) → is_operator_known o ≡ true → is_total o ≡ true → length (map (λ v. v.number) vs) ≡ length (operands_of o) →
             above stack (finished (kind_at u (result_of o)) (value_on o (map (λ v. v.number) vs)) m)
             ≡ Ends (stack ++ record { type = kind_at u (result_of o); number = or_zero (value_on o (map (λ v. v.number) vs)) } ∷ []) m
         left vs m j k l = number m (value_on o (map (λ v. v.number) vs)) (total_on o j (map (λ v. v.number) vs) k l)
 
-    pub codes_run : (ps : Patterns) → EachReady ps → none_traps ps ≡ true → fit kinds ps ≡ true → AreLeft (holes_in ps) → (words : List ℕ) (stack : List Value) (s : State) →
+    pub codes_run : (ps : Patterns) → EachReady ps → none_traps ps ≡ true → fit kinds ps ≡ true → AreLeft (holes_in ps) →
+        (words : List ℕ) (stack : List Value) (s : State) →
         HasTypes context s →
         run (codes_of x c words ps) stack s ≡ then_run (run_all does (holes_in ps) s) (λ vs m. Ends (stack ++ vals u kinds c words ps vs) m)
     codes_run none y q f g words stack s hs = ap (λ l. Ends l s) (sym (append-nil stack))
@@ -246,7 +252,8 @@ module _ (context : Context) (u : PrimitiveTypeInfo) (numeric : is_numeric u ≡
 
   -- ---- the whole
 
-  pub pattern_runs : (p : Pattern) → AllReady p → traps_at_root p ≡ true → fits kinds p ≡ true → AreLeft (holes p) → (words : List ℕ) (stack : List Value) (s : State) →
+  pub pattern_runs : (p : Pattern) → AllReady p → traps_at_root p ≡ true → fits kinds p ≡ true → AreLeft (holes p) →
+      (words : List ℕ) (stack : List Value) (s : State) →
       HasTypes context s → run (code_of x c words p) stack s ≡ then_run (run_all does (holes p) s) (λ vs m. above stack (ends u kinds c words p vs m))
   pattern_runs (hole n) y q f g words stack s hs = code_runs (hole n) y refl f g words stack s hs
   pattern_runs (constant t e) y q f g words stack s hs = code_runs (constant t e) y refl f g words stack s hs

@@ -2,7 +2,7 @@
 use Rattle.std.proofs.Common.{◌≡◌, ℕ, zero, suc, ◌-◌, ◌<◌, Bool, true, false, List, [], ◌∷◌, ◌++◌, length, take, refl, sym, ap, ap₂, ◌∙◌, arith}
 use Rattle.std.specs.Prelude.{◌==◌, ◌&&◌, ◌||◌, not, if◌then◌else◌, slice_index_or}
 use Rattle.rewrite_rules.specs.declared.order.Effects.{Effects}
-use Rattle.rewrite_rules.specs.Order.{Doing, effect_at, is_in, is_twice, every, at_most_one, is_free, in_neither, are_free, back, before_end, may_move}
+use Rattle.rewrite_rules.specs.Order.{Doing, effect_at, is_in, is_twice, every, at_most_one_passes, is_free, in_neither, are_free, back, before_end, may_move}
 use Rattle.rewrite_rules.proofs.IndexLemmas.{in_back, back_append, back_back}
 
 -- it is the index, or may not trap
@@ -38,11 +38,11 @@ module _ (may : Doing) where
       ∙ six (still n) (stays right n) (once left right n) (every still ns) (every (stays right) ns) (every (once left right) ns)
 
   pub free_where_each_is : (left right : List ℕ) (one : Bool) → every (is_free may left right) left ≡ one →
-      are_free may left right ≡ (one && at_most_one may.trap left)
+      are_free may left right ≡ (one && at_most_one_passes may.trap left)
   unfolding still stays once
   free_where_each_is left right one e =
-      four (every still left) (at_most_one may.trap left) (every (stays right) left) (every (once left right) left)
-      ∙ ap (λ b. b && at_most_one may.trap left) (sym (free_all left right left) ∙ e)
+      four (every still left) (at_most_one_passes may.trap left) (every (stays right) left) (every (once left right) left)
+      ∙ ap (λ b. b && at_most_one_passes may.trap left) (sym (free_all left right left) ∙ e)
     where
       four : (a b c d : Bool) → (a && (b && (c && d))) ≡ ((a && (c && d)) && b)
       four false b c d = refl

@@ -4,7 +4,7 @@ use Rattle.std.specs.Prelude.{◌==◌, ◌&&◌, ◌||◌, not, if◌then◌els
 use Rattle.rewrite_rules.specs.Order.{is_in}
 use Rattle.rewrite_rules.specs.Pattern.{holes}
 use Rattle.rewrite_rules.specs.Order as order
-use Rattle.rewrite_rules.specs.Order.{Doing, every, at_most_one, is_twice, are_free, in_neither, back, may_move}
+use Rattle.rewrite_rules.specs.Order.{Doing, every, at_most_one_passes, is_twice, are_free, in_neither, back, may_move}
 use Rattle.rewrite_rules.specs.Needs.{Middle, before_end, middle_of, those, NeedsAreEnough}
 
 module _ (may : Doing) where
@@ -48,7 +48,7 @@ unfolding free_in
 needs_are_enough may r =
     let m = middle_of (holes r.left) (holes r.right) in
     middle_is may (holes r.left) (holes r.right)
-    ∙ ap (λ b. every (λ n. not (may.write n)) m.left && (at_most_one may.trap m.left && b))
+    ∙ ap (λ b. every (λ n. not (may.write n)) m.left && (at_most_one_passes may.trap m.left && b))
     (ap₂ (λ a b. a && b)
     (each_of (λ n. not (may.trap n)) (λ n. not (is_in m.right n)) (λ n. is_in m.right n || not (may.trap n)) (λ n. twice (is_in m.right n) (may.trap n)) m.left)
     (each_of (λ n. not (may.ask n)) (λ n. is_twice m.left n || is_twice m.right n)

@@ -1,8 +1,8 @@
 -- What some lines ask of the operands in their holes, as it is computed: which may write nothing (and of which at most one may trap), which may not trap,
 -- and which may not ask the world.
 use Rattle.std.proofs.Common.{◌≡◌, [], ◌∷◌, refl}
-use Rattle.peephole_machine.specs.declared.integer.IntegerType.TheVariants as integer
-use Rattle.peephole_machine.specs.declared.operation.Binary.TheVariants.{Add, Mul, And, Or}
+use Rattle.wasm_execution.specs.declared.integer.IntegerType.TheVariants as integer
+use Rattle.wasm_execution.specs.declared.operation.Binary.TheVariants.{Add, Mul, And, Or}
 use Rattle.rewrite_rules.specs.declared.pattern.Number.TheVariants.{Literal}
 use Rattle.rewrite_rules.specs.Needs.{needs_of}
 use Rattle.rewrite_rules.proofs.identities.Words.{back, swap, group_left, double, alone, drop_number, parted, select_turned, select_same, sum_back, again}

@@ -1,5 +1,6 @@
 -- The operators that patterns name: their rows, and what these do with values.
-use Rattle.std.proofs.Common.{◌≡◌, ℕ, suc, ◌%◌, ◌^◌, arith, Bool, true, false, List, [], ◌∷◌, length, map, Option, Some, None, refl, sym, ap, ◌∙◌, subst, true≢false}
+use Rattle.std.proofs.Common.{◌≡◌, ℕ, suc, ◌%◌, ◌^◌, arith, Bool, true, false, List, [], ◌∷◌, length, map, Option, Some, None, refl, sym}
+use Rattle.std.proofs.Common.{ap, ◌∙◌, subst, true≢false}
 use Rattle.std.specs.Prelude.{not, ◌==◌, is_some, if◌then◌else◌, Result, Ok, Err}
 use Rattle.std.specs.List.{All}
 use Rattle.std.proofs.lemmas.Bool.{false≢true}
@@ -9,28 +10,30 @@ use Rattle.std.proofs.Math.Nat.{mod-lt}
 use mir.Val.{bits}
 use Rattle.wasm_code.specs.Table.{table, row_at}
 use Rattle.wasm_types.specs.declared.types.PrimitiveTypeInfo.{PrimitiveTypeInfo}
-use Rattle.peephole_machine.specs.declared.integer.IntegerType.{IntegerType}
-use Rattle.peephole_machine.specs.declared.integer.IntegerType.TheVariants as integer
-use Rattle.peephole_machine.specs.declared.operation.Unary.{Unary}
-use Rattle.peephole_machine.specs.declared.operation.Unary.TheVariants.{Clz, Ctz, Popcnt}
-use Rattle.peephole_machine.specs.declared.operation.Binary.{Binary}
-use Rattle.peephole_machine.specs.declared.operation.Binary.TheVariants.{Add, Sub, Mul, DivS, DivU, RemS, RemU, And, Or, Xor, Shl, ShrS, ShrU, Rotl, Rotr}
-use Rattle.peephole_machine.specs.declared.operation.Comparison.{Comparison}
-use Rattle.peephole_machine.specs.declared.operation.Comparison.TheVariants.{Eq, Ne, LtS, LtU, GtS, GtU, LeS, LeU, GeS, GeU}
-use Rattle.peephole_machine.specs.declared.operation.Operation.TheVariants as operation
-use Rattle.peephole_machine.specs.Values.{type_of, width_of, same_types, Value, IsValue, IsOfType, types, Context, Cause, State, HasTypes, own_globals, Outcome, Ends, Traps}
-use Rattle.peephole_machine.specs.IntegerRow as row
-use Rattle.peephole_machine.specs.IntegerRow.{IntegerRow, row_types, integer_row, is_numeric}
-use Rattle.peephole_machine.specs.Machine.{cause_of, given, effect, context_of, act}
-use Rattle.peephole_machine.specs.Computed.{kept}
-use Rattle.peephole_machine.specs.Operation.{operator_of}
-use Rattle.peephole_machine.specs.RowLemmas.{if_typed_is, same_type_self, act_is}
-use Rattle.peephole_machine.specs.ExactLemmas.{of_bits_fits}
+use Rattle.wasm_execution.specs.declared.integer.IntegerType.{IntegerType}
+use Rattle.wasm_execution.specs.declared.integer.IntegerType.TheVariants as integer
+use Rattle.wasm_execution.specs.declared.operation.Unary.{Unary}
+use Rattle.wasm_execution.specs.declared.operation.Unary.TheVariants.{Clz, Ctz, Popcnt}
+use Rattle.wasm_execution.specs.declared.operation.Binary.{Binary}
+use Rattle.wasm_execution.specs.declared.operation.Binary.TheVariants.{Add, Sub, Mul, DivS, DivU, RemS, RemU, And, Or, Xor, Shl, ShrS, ShrU, Rotl, Rotr}
+use Rattle.wasm_execution.specs.declared.operation.Comparison.{Comparison}
+use Rattle.wasm_execution.specs.declared.operation.Comparison.TheVariants.{Eq, Ne, LtS, LtU, GtS, GtU, LeS, LeU, GeS, GeU}
+use Rattle.wasm_execution.specs.declared.operation.Operation.TheVariants as operation
+use Rattle.wasm_execution.specs.Values.{type_of, width_of, same_types, Value, IsValue, IsOfType, types, Context, Cause, State, HasTypes}
+use Rattle.wasm_execution.specs.Values.{own_globals, Outcome, Ends, Traps}
+use Rattle.wasm_execution.specs.IntegerRow as row
+use Rattle.wasm_execution.specs.IntegerRow.{IntegerRow, row_types, integer_row, is_numeric}
+use Rattle.wasm_execution.specs.Machine.{division_trap_cause, number_or_trap, effect, state_context, act}
+use Rattle.wasm_execution.specs.Computed.{kept}
+use Rattle.wasm_execution.specs.Operation.{operator_of}
+use Rattle.wasm_execution.specs.RowLemmas.{if_typed_is, same_type_self, act_is}
+use Rattle.wasm_execution.specs.ExactLemmas.{of_bits_fits}
 use Rattle.rewrite_rules.specs.declared.pattern.Operator.{Operator}
 use Rattle.rewrite_rules.specs.declared.pattern.Operator.TheVariants.{Whole, Select, Exact}
 use Rattle.rewrite_rules.specs.Code.{operation_traps}
 use Rattle.rewrite_rules.specs.Exact.{ExactOperator, exact_code, exact_at}
-use Rattle.rewrite_rules.specs.Pattern.{is_total, is_known, is_exact, Kind, fixed, kind_at, operands_told, result_told, operands_of, result_of}
+use Rattle.rewrite_rules.specs.Pattern.{is_total, is_operator_known, is_exact_operator, Kind, fixed, kind_at, operands_told, result_told}
+use Rattle.rewrite_rules.specs.Pattern.{operands_of, result_of}
 use Rattle.rewrite_rules.specs.Numbers.{or_cause, or_zero, exact_value, value_on}
 use Rattle.rewrite_rules.specs.Instance.{operator_code}
 use Rattle.rewrite_rules.proofs.EffectLemmas.{has_value}
@@ -45,7 +48,7 @@ row_for Select = row.select
 row_for (Exact n i) = row.other (exact_code n i)
 
 -- the exact row that is known
-pub known : (n : ℕ) (i : Option ℕ) → is_known (Exact n i) ≡ true → (o : ExactOperator) × (exact_at n i ≡ Some o)
+pub known : (n : ℕ) (i : Option ℕ) → is_operator_known (Exact n i) ≡ true → (o : ExactOperator) × (exact_at n i ≡ Some o)
 known n i e = there (exact_at n i) e
   where
     there : (m : Option ExactOperator) → is_some m ≡ true → (o : ExactOperator) × (m ≡ Some o)
@@ -107,10 +110,10 @@ unfolding integer_row table row_at
 extend_row integer.I32 = (refl, refl)
 extend_row integer.I64 = (refl, refl)
 
-exact_row : (n : ℕ) (i : Option ℕ) → is_known (Exact n i) ≡ true → IsRow (Exact n i)
+exact_row : (n : ℕ) (i : Option ℕ) → is_operator_known (Exact n i) ≡ true → IsRow (Exact n i)
 exact_row n i e = let (o, told) = known n i e in (exact_is (exact_code n i) o told).other_is
 
-pub row_is : (o : Operator) → is_known o ≡ true → integer_row (operator_code o) ≡ row_for o
+pub row_is : (o : Operator) → is_operator_known o ≡ true → integer_row (operator_code o) ≡ row_for o
 unfolding integer_row table row_at
 row_is (Whole (operation.Eqz t)) e = eqz_row t
 row_is (Whole (operation.Compare t c)) e = compare_row c t
@@ -137,7 +140,7 @@ same_at u (t ∷ ts) = ap (λ xs. t ∷ xs) (same_at u ts)
 
 module _ (u : PrimitiveTypeInfo) (numeric : is_numeric u ≡ true) where
   -- the row on operands of its types
-  pub types_on : (context : Context) (o : Operator) → is_known o ≡ true →
+  pub types_on : (context : Context) (o : Operator) → is_operator_known o ≡ true →
       row_types context (row_for o) (types_at u (operands_of o)) ≡ Some (kind_at u (result_of o) ∷ [])
   types_on context (Whole f) e =
       ap (row_types context (row.operation (operator_of f))) (same_at u (operator_of f).operands)
@@ -163,16 +166,16 @@ finished t (Err cause) s = Traps cause (own_globals s) s.rest
 
 -- what runs the module is exact, where the operator is an exact row
 abbrev pub IsReady : Context → Operator → Type 0
-IsReady context o = is_exact o ≡ true → context.info.exact ≡ true
+IsReady context o = is_exact_operator o ≡ true → context.info.exact ≡ true
 
 module _ (context : Context) (u : PrimitiveTypeInfo) (numeric : is_numeric u ≡ true) where
   -- one that the machine says itself, on values of its operands' types
-  acts : (o : Operator) → is_known o ≡ true → is_exact o ≡ false → (vs : List Value) (s : State) → types vs ≡ types_at u (operands_of o) →
+  acts : (o : Operator) → is_operator_known o ≡ true → is_exact_operator o ≡ false → (vs : List Value) (s : State) → types vs ≡ types_at u (operands_of o) →
       act (row_for o) vs s ≡ finished (kind_at u (result_of o)) (value_on o (map (λ v. v.number) vs)) s
   acts o k x vs s typed = act_is (row_for o) vs (kind_at u (result_of o) ∷ []) s
-      (ap (row_types (context_of s) (row_for o)) typed ∙ types_on u numeric (context_of s) o k) ∙ effect_on o x vs typed
+      (ap (row_types (state_context s) (row_for o)) typed ∙ types_on u numeric (state_context s) o k) ∙ effect_on o x vs typed
     where
-      value : (t : IntegerType) (cause : Cause) (n : Option ℕ) → given t n cause s ≡ finished (type_of t) (or_cause (kept (width_of t) n) cause) s
+      value : (t : IntegerType) (cause : Cause) (n : Option ℕ) → number_or_trap t n cause s ≡ finished (type_of t) (or_cause (kept (width_of t) n) cause) s
       value t cause (Some n) = refl
       value t cause None = refl
 
@@ -181,11 +184,11 @@ module _ (context : Context) (u : PrimitiveTypeInfo) (numeric : is_numeric u ≡
       chosen true v w e f = ap (λ (t : PrimitiveTypeInfo). Ends (record { type = t; number = w.number } ∷ []) s) f
       chosen false v w e f = ap (λ (t : PrimitiveTypeInfo). Ends (record { type = t; number = v.number } ∷ []) s) e
 
-      effect_on : (o : Operator) → is_exact o ≡ false → (vs : List Value) → types vs ≡ types_at u (operands_of o) →
+      effect_on : (o : Operator) → is_exact_operator o ≡ false → (vs : List Value) → types vs ≡ types_at u (operands_of o) →
           effect (row_for o) vs s ≡ finished (kind_at u (result_of o)) (value_on o (map (λ v. v.number) vs)) s
       effect_on (Exact n i) x vs e = absurd (true≢false x)
       effect_on (Whole f) x vs e =
-          value (operator_of f).result (cause_of (map (λ v. v.number) vs)) ((operator_of f).value (map (λ v. v.number) vs))
+          value (operator_of f).result (division_trap_cause (map (λ v. v.number) vs)) ((operator_of f).value (map (λ v. v.number) vs))
       effect_on Select x [] e = absurd cc
       effect_on Select x (v ∷ []) e = absurd cc
       effect_on Select x (v ∷ w ∷ []) e = absurd cc
@@ -193,7 +196,7 @@ module _ (context : Context) (u : PrimitiveTypeInfo) (numeric : is_numeric u ≡
       effect_on Select x (v ∷ w ∷ c ∷ d ∷ vs) e = absurd cc
 
   -- any of them
-  pub act_on : (o : Operator) → is_known o ≡ true → IsReady context o → (vs : List Value) (s : State) → HasTypes context s →
+  pub act_on : (o : Operator) → is_operator_known o ≡ true → IsReady context o → (vs : List Value) (s : State) → HasTypes context s →
       types vs ≡ types_at u (operands_of o) → All IsValue vs →
       act (row_for o) vs s ≡ finished (kind_at u (result_of o)) (value_on o (map (λ v. v.number) vs)) s
   act_on (Whole f) k r vs s h t hv = acts (Whole f) k refl vs s t
@@ -216,12 +219,12 @@ zero_fits integer.I32 = pow_pos 32
 zero_fits integer.I64 = pow_pos 64
 
 -- an operator's value on values of its operands' types, or 0 where it traps
-pub value_fits : (u : PrimitiveTypeInfo) (o : Operator) → is_known o ≡ true → (vs : List Value) → types vs ≡ types_at u (operands_of o) →
+pub value_fits : (u : PrimitiveTypeInfo) (o : Operator) → is_operator_known o ≡ true → (vs : List Value) → types vs ≡ types_at u (operands_of o) →
     All IsValue vs → IsOfType (kind_at u (result_of o)) (or_zero (value_on o (map (λ v. v.number) vs)))
 value_fits u (Whole f) k vs e h = go ((operator_of f).value (map (λ v. v.number) vs))
   where
     go : (m : Option ℕ) → IsOfType (type_of (operator_of f).result)
-        (or_zero (or_cause (kept (width_of (operator_of f).result) m) (cause_of (map (λ v. v.number) vs))))
+        (or_zero (or_cause (kept (width_of (operator_of f).result) m) (division_trap_cause (map (λ v. v.number) vs))))
     go (Some n) = low_fits (operator_of f).result n
     go None = zero_fits (operator_of f).result
 value_fits u Select k [] e h = absurd cc
@@ -250,13 +253,13 @@ abbrev pub HasNumber : Result ℕ Cause → Type 0
 HasNumber r = (n : ℕ) × (r ≡ Ok n)
 
 -- an operator that doesn't trap
-pub total_on : (o : Operator) → is_known o ≡ true → (ns : List ℕ) → is_total o ≡ true → length ns ≡ length (operands_of o) → HasNumber (value_on o ns)
+pub total_on : (o : Operator) → is_operator_known o ≡ true → (ns : List ℕ) → is_total o ≡ true → length ns ≡ length (operands_of o) → HasNumber (value_on o ns)
 total_on (Exact n i) k ns e l =
     let (o, told) = known n i k in
     (o.value ns, ap (λ m. exact_value m ns) told)
 total_on (Whole f) k ns e l =
     let (n, a) = has_value f ns (is_not (operation_traps f) e) (l ∙ same (operator_of f).operands) in
-    (n % 2 ^ bits (width_of (operator_of f).result), ap (λ m. or_cause (kept (width_of (operator_of f).result) m) (cause_of ns)) a)
+    (n % 2 ^ bits (width_of (operator_of f).result), ap (λ m. or_cause (kept (width_of (operator_of f).result) m) (division_trap_cause ns)) a)
   where
     is_not : (b : Bool) → not b ≡ true → b ≡ false
     is_not true e = absurd (false≢true e)

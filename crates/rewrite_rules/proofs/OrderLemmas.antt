@@ -6,9 +6,10 @@ use Rattle.std.proofs.lemmas.Bool.{eqb-true, eq-eqb, and_parts, or_parts, false�
 use Rattle.std.proofs.lemmas.List.Elements.{All-head}
 use Rattle.wasm_types.specs.declared.types.PrimitiveTypeInfo.{PrimitiveTypeInfo}
 use Rattle.wasm_types.specs.declared.types.PrimitiveTypeInfo.TheVariants as primitive
-use Rattle.peephole_machine.specs.Values.{Value, IsValue, IsOfType, types, Context, Cause, State, HasTypes, own_globals, Outcome, Ends, Traps, Stuck, then_run, above}
-use Rattle.rewrite_rules.specs.Order.{is_in, Doing, every, at_most_one, is_twice, are_free, in_neither, back, before_end, may_move}
-use Rattle.peephole_machine.specs.Agreement.{EndsTyped}
+use Rattle.wasm_execution.specs.Values.{Value, IsValue, IsOfType, types, Context, Cause, State, HasTypes, own_globals, Outcome, Ends, Traps}
+use Rattle.wasm_execution.specs.Values.{Stuck, then_run, above}
+use Rattle.rewrite_rules.specs.Order.{is_in, Doing, every, at_most_one_passes, is_twice, are_free, in_neither, back, before_end, may_move}
+use Rattle.wasm_execution.specs.Agreement.{EndsTyped}
 use Rattle.rewrite_rules.proofs.EffectLemmas.{IsStill, HasEnded}
 use Rattle.rewrite_rules.proofs.RunLemmas.{Each, each_in, then_same, run_all, run_append, run_first, IsGood, run_all_typed}
 use Rattle.rewrite_rules.proofs.IndexLemmas.{every_in, one_of, each_from, in_back, back_back, each_back}
@@ -85,7 +86,7 @@ module _ (context : Context) (x : ℕ → State → Outcome) (may : Doing) (τ :
   free_of ns ms e w =
       let last = every (λ n. not (may.ask n) || (not (is_twice ns n) && not (is_twice ms n))) ns in
       let left = every (λ n. is_in ms n || not (may.trap n)) ns in
-      let one = at_most_one may.trap ns in
+      let one = at_most_one_passes may.trap ns in
       let a = and_parts (every (λ n. not (may.write n)) ns) (one && (left && last)) e in
       let b = and_parts one (left && last) a.1 in
       let d = and_parts left last b.1 in

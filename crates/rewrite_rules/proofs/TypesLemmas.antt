@@ -5,9 +5,9 @@ use Rattle.std.proofs.lemmas.Bool.{le-leb}
 use Rattle.std.proofs.lemmas.List.{take_at, drop_at}
 use Rattle.wasm_code.specs.Instruction.{Instruction}
 use Rattle.wasm_types.specs.declared.types.PrimitiveTypeInfo.{PrimitiveTypeInfo}
-use Rattle.peephole_machine.specs.Values.{Context}
-use Rattle.peephole_machine.specs.IntegerRow.{operand_count, row_types, integer_row}
-use Rattle.peephole_machine.specs.RowLemmas.{and_then_some, row_types_count}
+use Rattle.wasm_execution.specs.Values.{Context}
+use Rattle.wasm_execution.specs.IntegerRow.{operand_count, row_types, integer_row}
+use Rattle.wasm_execution.specs.RowLemmas.{and_then_some, row_types_count}
 use Rattle.rewrite_rules.specs.Code.{types_behind, types_after}
 use Rattle.rewrite_rules.proofs.CodeLemmas.{behind}
 

@@ -7,9 +7,11 @@ use Rattle.std.proofs.lemmas.List.Elements.{All-nil, All-cons, All-head, All-tak
 use Rattle.rewrite_rules.specs.declared.pattern.Operator.{Operator}
 use Rattle.wasm_types.specs.declared.types.PrimitiveTypeInfo.{PrimitiveTypeInfo}
 use Rattle.wasm_types.specs.declared.types.PrimitiveTypeInfo.TheVariants as primitive
-use Rattle.peephole_machine.specs.Values.{type_of, Value, IsValue, types, State, Outcome, Ends}
-use Rattle.peephole_machine.specs.RowLemmas.{same_type_is}
-use Rattle.rewrite_rules.specs.Pattern.{Kind, fixed, any, kind_at, is_known, operands_of, result_of, Pattern, Patterns, hole, constant, drawn, apply, none, ◌▹◌, holes, holes_in, draws_by, kind_of, kind_in, kinds_in, same_kind, same_kinds, fits, fit}
+use Rattle.wasm_execution.specs.Values.{type_of, Value, IsValue, types, State, Outcome, Ends}
+use Rattle.wasm_execution.specs.RowLemmas.{same_type_is}
+use Rattle.rewrite_rules.specs.Pattern.{Kind, fixed, any, kind_at, is_operator_known, operands_of, result_of, Pattern, Patterns, hole}
+use Rattle.rewrite_rules.specs.Pattern.{constant, drawn, apply, none, ◌▹◌, holes, holes_in, draws_by, hole_kind_of, kind_in, kinds_in}
+use Rattle.rewrite_rules.specs.Pattern.{same_kind, same_kinds, fits, fit}
 use Rattle.rewrite_rules.specs.Numbers.{first_word, value_on, number_of, low, or_zero, number_in, numbers_in, value_of}
 use Rattle.rewrite_rules.proofs.OperatorLemmas.{types_at, finished, low_fits, value_fits}
 
@@ -52,13 +54,13 @@ cut_types τ (n ∷ ns) ms (v ∷ vs) e =
 
 -- it is known, and has operands of its types, which are well formed
 pub record HasOperands (kinds : List Kind) (o : Operator) (ps : Patterns) : Type 0 where
-  pub known : is_known o ≡ true
+  pub known : is_operator_known o ≡ true
   pub kinds_are : same_kinds (kinds_in kinds ps) (operands_of o) ≡ true
   pub rest : fit kinds ps ≡ true
 
 pub operator_parts : (kinds : List Kind) (o : Operator) (ps : Patterns) → fits kinds (apply o ps) ≡ true → HasOperands kinds o ps
 operator_parts kinds o ps f =
-    let k = and_parts (is_known o) (same_kinds (kinds_in kinds ps) (operands_of o) && fit kinds ps) f in
+    let k = and_parts (is_operator_known o) (same_kinds (kinds_in kinds ps) (operands_of o) && fit kinds ps) f in
     let j = and_parts (same_kinds (kinds_in kinds ps) (operands_of o)) (fit kinds ps) k.1 in
     record { known = k.0; kinds_are = j.0; rest = j.1 }
 
@@ -71,7 +73,7 @@ first (v ∷ vs) = v
 module _ (u : PrimitiveTypeInfo) (kinds : List Kind) (c : ℕ → ℕ) where
   -- the type of a hole
   abbrev pub hole_type : ℕ → PrimitiveTypeInfo
-  hole_type n = kind_at u (kind_of kinds n)
+  hole_type n = kind_at u (hole_kind_of kinds n)
 
   abbrev mutual
     pub val : (words : List ℕ) → Pattern → List Value → Value

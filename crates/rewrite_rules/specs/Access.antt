@@ -2,14 +2,15 @@
 -- constants of floats by their bits, and of vectors by their complements
 -- (WebAssembly Core Specification 3.0, Validation, Memory Instructions, and Execution, Memory Instructions and Numeric Instructions; which these are: this
 -- project).
-use Rattle.std.specs.Prelude.{◌≡◌, ◌==◌, ℕ, ◌≤◌, nat_lt, bit_xor, Bool, true, false, List, [], ◌∷◌, ◌++◌, ⊤, Option, Some, None, option_map, slice_get, if◌then◌else◌}
+use Rattle.std.specs.Prelude.{◌≡◌, ◌==◌, ℕ, ◌≤◌, nat_lt, bit_xor, Bool, true, false, List, [], ◌∷◌, ◌++◌, ⊤, Option, Some, None, option_map}
+use Rattle.std.specs.Prelude.{slice_get, if◌then◌else◌}
 use Rattle.std.specs.Int.{w32, w64, w128, cast_signed, cast_unsigned}
 use Rattle.std.specs.List.{All}
 use Rattle.wasm_code.specs.Instruction.{Instruction, fits_row}
 use Rattle.wasm_code.specs.Table.{row_at}
 use Rattle.wasm_code.specs.declared.immediate.Imm.{Imm}
 use Rattle.wasm_code.specs.declared.immediate.Imm.TheVariants as imm
-use Rattle.peephole_machine.specs.ExactRow.{find, ones}
+use Rattle.wasm_execution.specs.ExactRow.{find, ones}
 use Rattle.rewrite_rules.specs.declared.access.AccessKind.{AccessKind}
 use Rattle.rewrite_rules.specs.declared.access.AccessKind.TheVariants.{Load, Store, Constant}
 use Rattle.rewrite_rules.specs.declared.access.AccessSide.{AccessSide}

@@ -2,8 +2,8 @@
 use Rattle.std.specs.Prelude.{◌≡◌, ℕ, Bool, true, Option, List}
 use Rattle.wasm_code.specs.Instruction.{Instruction}
 use Rattle.wasm_types.specs.declared.types.PrimitiveTypeInfo.{PrimitiveTypeInfo}
-use Rattle.peephole_machine.specs.declared.integer.IntegerType.{IntegerType}
-use Rattle.peephole_machine.specs.Values.{Context}
+use Rattle.wasm_execution.specs.declared.integer.IntegerType.{IntegerType}
+use Rattle.wasm_execution.specs.Values.{Context}
 use Rattle.rewrite_rules.specs.declared.order.Effects.{Effects}
 use Rattle.rewrite_rules.specs.declared.table.Row.{Row}
 use Rattle.rewrite_rules.specs.Code.{writes, traps, asks}
@@ -25,7 +25,7 @@ effects_of code = record { writes = writes code; traps = traps code; asks = asks
 
 -- The lists have of what stands in each hole of the row's left side the type that it leaves, and what it may do; and it is told whether what runs the module is
 -- exact.
-pub record AreFound (context : Context) (x : ℕ → List Instruction) (row : Row) (t : IntegerType) (types : List (Option PrimitiveTypeInfo))
+pub record AreFoundInHoles (context : Context) (x : ℕ → List Instruction) (row : Row) (t : IntegerType) (types : List (Option PrimitiveTypeInfo))
     (effects : List Effects) (exact : Bool) : Type 0 where
   pub types_are : AreTypes context x (is_in (holes (line_of row t).left)) types
   pub effects_are : (n : ℕ) → effect_at effects n ≡ effects_of (x n)
@@ -34,9 +34,9 @@ pub record AreFound (context : Context) (x : ℕ → List Instruction) (row : Ro
 -- What is answered is whether the row's line applies to what these are told of, and constants of these numbers.
 pub record IsTold (row : Row) (t : IntegerType) (types : List (Option PrimitiveTypeInfo)) (effects : List Effects) (exact : Bool) (numbers : List ℕ)
     (answer : Bool) : Type 0 where
-  pub same : answer ≡ true → (context : Context) (x : ℕ → List Instruction) → AreFound context x row t types effects exact →
+  pub same : answer ≡ true → (context : Context) (x : ℕ → List Instruction) → AreFoundInHoles context x row t types effects exact →
       Applies context (line_of row t) x (constant_at numbers)
-  pub only : (context : Context) (x : ℕ → List Instruction) → AreFound context x row t types effects exact →
+  pub only : (context : Context) (x : ℕ → List Instruction) → AreFoundInHoles context x row t types effects exact →
       Applies context (line_of row t) x (constant_at numbers) → answer ≡ true
 
 -- A line that is well formed has an exact row exactly where its row has the step.

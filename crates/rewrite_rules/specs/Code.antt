@@ -1,19 +1,20 @@
 -- Code that stands together: its types, by those of the values that it finds on top, and what it may do besides leaving values
 -- (WebAssembly Core Specification 3.0, Validation, Instructions, Instruction Sequences; Execution, Instructions).
-use Rattle.std.specs.Prelude.{◌≡◌, ℕ, ◌-◌, ◌||◌, nat_le, Bool, true, false, if◌then◌else◌, List, [], ◌∷◌, ◌++◌, length, take, drop, Option, Some, None, option_map, option_and_then}
+use Rattle.std.specs.Prelude.{◌≡◌, ℕ, ◌-◌, ◌||◌, nat_le, Bool, true, false, if◌then◌else◌, List, [], ◌∷◌, ◌++◌, length, take, drop, Option}
+use Rattle.std.specs.Prelude.{Some, None, option_map, option_and_then}
 use Rattle.wasm_code.specs.Instruction.{Instruction}
 use Rattle.wasm_code.specs.declared.immediate.Imm.{Imm}
 use Rattle.wasm_code.specs.declared.immediate.Imm.TheVariants as imm
 use Rattle.wasm_types.specs.declared.types.PrimitiveTypeInfo.{PrimitiveTypeInfo}
-use Rattle.peephole_machine.specs.declared.operation.Binary.{Binary}
-use Rattle.peephole_machine.specs.declared.operation.Binary.TheVariants.{DivS, DivU, RemS, RemU}
-use Rattle.peephole_machine.specs.declared.operation.Operation.{Operation}
-use Rattle.peephole_machine.specs.declared.operation.Operation.TheVariants as operation
-use Rattle.peephole_machine.specs.Opcode.{operation_of}
-use Rattle.peephole_machine.specs.OtherRow.{changes, may_trap}
-use Rattle.peephole_machine.specs.Row.{instruction_byte}
-use Rattle.peephole_machine.specs.Values.{Context}
-use Rattle.peephole_machine.specs.IntegerRow.{IntegerRow, set, tee, other, operand_count, row_types, integer_row, is_other}
+use Rattle.wasm_execution.specs.declared.operation.Binary.{Binary}
+use Rattle.wasm_execution.specs.declared.operation.Binary.TheVariants.{DivS, DivU, RemS, RemU}
+use Rattle.wasm_execution.specs.declared.operation.Operation.{Operation}
+use Rattle.wasm_execution.specs.declared.operation.Operation.TheVariants as operation
+use Rattle.wasm_execution.specs.Opcode.{operation_of}
+use Rattle.wasm_execution.specs.OtherRow.{changes, may_trap}
+use Rattle.wasm_execution.specs.Row.{instruction_byte}
+use Rattle.wasm_execution.specs.Values.{Context}
+use Rattle.wasm_execution.specs.IntegerRow.{IntegerRow, set, tee, other, operand_count, row_types, integer_row, is_other}
 
 -- ---- types
 

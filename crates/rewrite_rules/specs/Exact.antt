@@ -12,13 +12,13 @@ use Rattle.wasm_code.specs.declared.table.ResultKind.TheVariants as by
 use Rattle.wasm_code.specs.declared.table.Row.{Row}
 use Rattle.wasm_types.specs.declared.types.PrimitiveTypeInfo.{PrimitiveTypeInfo}
 use Rattle.wasm_types.specs.declared.types.PrimitiveTypeInfo.TheVariants.{I32, I64, F32, F64, V128}
-use Rattle.peephole_machine.specs.declared.operand.OperandKind.TheVariants as kind
-use Rattle.peephole_machine.specs.declared.operand.OperandColumn.{OperandColumn}
-use Rattle.peephole_machine.specs.declared.operand.OperandColumn.TheVariants as column
-use Rattle.peephole_machine.specs.OtherRow.{column_by}
-use Rattle.peephole_machine.specs.ExactRow.{ExactRow, computes, exact_row}
-use Rattle.peephole_machine.specs.IntegerRow.{is_other, integer_row}
-use Rattle.peephole_machine.specs.Values.{of_bits}
+use Rattle.wasm_execution.specs.declared.operand.OperandKind.TheVariants as kind
+use Rattle.wasm_execution.specs.declared.operand.OperandColumn.{OperandColumn}
+use Rattle.wasm_execution.specs.declared.operand.OperandColumn.TheVariants as column
+use Rattle.wasm_execution.specs.OtherRow.{column_by}
+use Rattle.wasm_execution.specs.ExactRow.{ExactRow, computes, exact_row}
+use Rattle.wasm_execution.specs.IntegerRow.{is_other, integer_row}
+use Rattle.wasm_execution.specs.Values.{of_bits}
 
 -- what an operator takes, what it gives, and its value on the numbers of its operands
 pub record ExactOperator : Type 0 where

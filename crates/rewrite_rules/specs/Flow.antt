@@ -8,14 +8,14 @@ use Rattle.wasm_code.specs.declared.operator.Operator.{Operator}
 use Rattle.wasm_code.specs.declared.operator.Operator.TheVariants as op
 use Rattle.wasm_types.specs.declared.types.PrimitiveTypeInfo.{PrimitiveTypeInfo}
 use Rattle.wasm_types.specs.declared.types.PrimitiveTypeInfo.TheVariants as primitive
-use Rattle.peephole_machine.specs.declared.integer.IntegerType.{IntegerType}
-use Rattle.peephole_machine.specs.declared.integer.IntegerType.TheVariants as integer
-use Rattle.peephole_machine.specs.declared.operation.Comparison.TheVariants.{Ne, LtU}
-use Rattle.peephole_machine.specs.declared.operation.Operation.TheVariants as operation
-use Rattle.peephole_machine.specs.Values.{Context}
-use Rattle.peephole_machine.specs.IntegerRow.{IntegerRow, constant, get, integer_row}
-use Rattle.peephole_programs.specs.control.Wider.{wider}
-use Rattle.peephole_programs.specs.validation.StaysValid.{Pushes}
+use Rattle.wasm_execution.specs.declared.integer.IntegerType.{IntegerType}
+use Rattle.wasm_execution.specs.declared.integer.IntegerType.TheVariants as integer
+use Rattle.wasm_execution.specs.declared.operation.Comparison.TheVariants.{Ne, LtU}
+use Rattle.wasm_execution.specs.declared.operation.Operation.TheVariants as operation
+use Rattle.wasm_execution.specs.Values.{Context}
+use Rattle.wasm_execution.specs.IntegerRow.{IntegerRow, constant, get, integer_row}
+use Rattle.wasm_equivalence.specs.control.Wider.{wider}
+use Rattle.wasm_equivalence.specs.validation.StaysValid.{Pushes}
 use Rattle.wrapped_code.specs.Wrapped.{Wrapped, written, WrappedRunsAs, WrappedChecksAs}
 use Rattle.wrapped_code.specs.Ways.{WrappedPushes}
 use Rattle.wrapped_code.specs.Alike.{SameAs}
@@ -30,14 +30,14 @@ use Rattle.rewrite_rules.specs.Wrap.{value_of}
 -- ---- instructions
 
 -- the row's value is told by the state alone: an integer constant's, or a variable's
-abbrev pub is_leaf_row : IntegerRow → Bool
-is_leaf_row (constant t n) = true
-is_leaf_row (get x) = true
-is_leaf_row row = false
+abbrev pub is_told_by_state : IntegerRow → Bool
+is_told_by_state (constant t n) = true
+is_told_by_state (get x) = true
+is_told_by_state row = false
 
 -- so is the instruction's
 abbrev pub is_leaf : Instruction → Bool
-is_leaf i = is_leaf_row (integer_row i)
+is_leaf i = is_told_by_state (integer_row i)
 
 -- i32.const 0
 abbrev pub zero_code : Instruction

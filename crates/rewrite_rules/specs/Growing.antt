@@ -1,11 +1,12 @@
 -- What a row does to the number of instructions, as the code has it (this project).
 use Rattle.std.specs.Prelude.{◌≡◌, ℕ, ◌+◌, List, [], ◌∷◌, Option, Some, None, slice_get}
-use Rattle.peephole_machine.specs.declared.integer.IntegerType.{IntegerType}
+use Rattle.wasm_execution.specs.declared.integer.IntegerType.{IntegerType}
 use Rattle.rewrite_rules.specs.declared.growth.Growth as code
 use Rattle.rewrite_rules.specs.declared.growth.Growth.TheVariants.{Shrinks, Keeps, Grows}
 use Rattle.rewrite_rules.specs.declared.table.Own as beside
 use Rattle.rewrite_rules.specs.declared.table.Own.TheVariants.{Unfold, ThroughGlobal, WithNop, Fold, Forget, TeeToSet, DropNop, SetToTee, Access, Wrap, Unwrap}
-use Rattle.rewrite_rules.specs.declared.table.Own.TheVariants.{SelectToIf, IfToSelect, TestCondition, DropConditionTest, DoubleCondition, DropDoubleCondition, PutDead, DropDead}
+use Rattle.rewrite_rules.specs.declared.table.Own.TheVariants.{SelectToIf, IfToSelect, TestCondition, DropConditionTest, DoubleCondition}
+use Rattle.rewrite_rules.specs.declared.table.Own.TheVariants.{DropDoubleCondition, PutDead, DropDead}
 use Rattle.rewrite_rules.specs.declared.table.Own.TheVariants.{BoundIndex, DropIndexBound, BrIfToIf, IfToBrIf}
 use Rattle.rewrite_rules.specs.declared.table.Row.{Row}
 use Rattle.rewrite_rules.specs.declared.table.Step.{Step}
@@ -13,7 +14,7 @@ use Rattle.rewrite_rules.specs.declared.table.Step.TheVariants.{Operand, End}
 use Rattle.rewrite_rules.specs.declared.table.Widths.TheVariants.{Own}
 use Rattle.rewrite_rules.specs.declared.access.Access as listed
 use Rattle.rewrite_rules.specs.Access.{access_at, access_growth}
-use Rattle.rewrite_rules.specs.Growth.{Growth, shrinks, keeps, grows, growth_of}
+use Rattle.rewrite_rules.specs.Growth.{Growth, shrinks, keeps, grows, line_growth_of}
 use Rattle.rewrite_rules.specs.Applying.{IsFormed}
 use Rattle.rewrite_rules.specs.Table.{widths_in, line_of}
 
@@ -62,5 +63,5 @@ own_growth IfToBrIf = Shrinks
 
 -- It is what each of the row's lines that is well formed does; of a rule beside the table, what that does.
 pub record GrowsAs (row : Row) (growth : code.Growth) : Type 0 where
-  pub of_lines : (k : ℕ) (t : IntegerType) → slice_get (widths_in row.widths) k ≡ Some t → IsFormed row t → shown growth ≡ growth_of (line_of row t)
+  pub of_lines : (k : ℕ) (t : IntegerType) → slice_get (widths_in row.widths) k ≡ Some t → IsFormed row t → shown growth ≡ line_growth_of (line_of row t)
   pub of_own : (own : beside.Own) → row.widths ≡ Own own → growth ≡ own_growth own

@@ -39,5 +39,5 @@ abbrev pub growth_by : (left right : ℕ) → Option (List ℕ) → Growth
 growth_by left right (Some rest) = if nat_lt right (left + length rest) then shrinks else (if right == left && is_empty rest then keeps else grows)
 growth_by left right None = grows
 
-abbrev pub growth_of : Line → Growth
-growth_of l = growth_by (own_size l.left) (own_size l.right) (left_over (holes l.right) (holes l.left))
+abbrev pub line_growth_of : Line → Growth
+line_growth_of l = growth_by (own_size l.left) (own_size l.right) (left_over (holes l.right) (holes l.left))

@@ -1,6 +1,6 @@
 -- The holes of a side's steps (this project).
 use Rattle.std.specs.Prelude.{◌≡◌, ℕ, true, List, [], ◌∷◌}
-use Rattle.peephole_machine.specs.declared.integer.IntegerType.{IntegerType}
+use Rattle.wasm_execution.specs.declared.integer.IntegerType.{IntegerType}
 use Rattle.rewrite_rules.specs.declared.table.Step.{Step}
 use Rattle.rewrite_rules.specs.declared.table.Step.TheVariants.{Operand, End}
 use Rattle.rewrite_rules.specs.declared.table.Row.{Row}

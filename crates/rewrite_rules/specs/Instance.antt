@@ -5,19 +5,19 @@ use Rattle.wasm_code.specs.Instruction.{Instruction}
 use Rattle.wasm_code.specs.declared.immediate.Imm.{Imm}
 use Rattle.wasm_code.specs.declared.immediate.Imm.TheVariants as imm
 use Rattle.wasm_types.specs.declared.types.PrimitiveTypeInfo.{PrimitiveTypeInfo}
-use Rattle.peephole_machine.specs.declared.integer.IntegerType.{IntegerType}
-use Rattle.peephole_machine.specs.declared.integer.IntegerType.TheVariants as integer
-use Rattle.peephole_machine.specs.Opcode.{opcode}
-use Rattle.peephole_machine.specs.Values.{width_of, Context}
-use Rattle.peephole_machine.specs.IntegerRow.{is_numeric}
-use Rattle.peephole_programs.specs.control.Function.{RunsAs}
-use Rattle.peephole_programs.specs.control.Wider.{wider}
-use Rattle.peephole_programs.specs.validation.StaysValid.{ChecksAs}
+use Rattle.wasm_execution.specs.declared.integer.IntegerType.{IntegerType}
+use Rattle.wasm_execution.specs.declared.integer.IntegerType.TheVariants as integer
+use Rattle.wasm_execution.specs.Opcode.{opcode}
+use Rattle.wasm_execution.specs.Values.{width_of, Context}
+use Rattle.wasm_execution.specs.IntegerRow.{is_numeric}
+use Rattle.wasm_equivalence.specs.control.Function.{RunsAs}
+use Rattle.wasm_equivalence.specs.control.Wider.{wider}
+use Rattle.wasm_equivalence.specs.validation.StaysValid.{ChecksAs}
 use Rattle.rewrite_rules.specs.declared.pattern.Operator.{Operator}
 use Rattle.rewrite_rules.specs.declared.pattern.Operator.TheVariants.{Whole, Select, Exact}
 use Rattle.rewrite_rules.specs.Code.{Leaves, writes, traps, asks}
 use Rattle.rewrite_rules.specs.Exact.{lane_immediate}
-use Rattle.rewrite_rules.specs.Pattern.{kind_at, Pattern, Patterns, hole, constant, drawn, apply, none, ◌▹◌, holes, draws_by, kind_of}
+use Rattle.rewrite_rules.specs.Pattern.{kind_at, Pattern, Patterns, hole, constant, drawn, apply, none, ◌▹◌, holes, draws_by, hole_kind_of}
 use Rattle.rewrite_rules.specs.Numbers.{number_of, low, first_word}
 use Rattle.rewrite_rules.specs.Order.{is_in, Doing, may_move}
 use Rattle.rewrite_rules.specs.Line.{Line, all_hold, is_exact_line}
@@ -69,7 +69,7 @@ doing x = record { write = λ n. writes (x n); trap = λ n. traps (x n); ask = �
 pub record Applies (context : Context) (l : Line) (x : ℕ → List Instruction) (c : ℕ → ℕ) : Type 0 where
   pub type : PrimitiveTypeInfo
   pub numeric : is_numeric type ≡ true
-  pub leave : (n : ℕ) → is_in (holes l.left) n ≡ true → Leaves context (x n) (kind_at type (kind_of l.kinds n))
+  pub leave : (n : ℕ) → is_in (holes l.left) n ≡ true → Leaves context (x n) (kind_at type (hole_kind_of l.kinds n))
   pub as_asked : all_hold c l.conditions ≡ true
   pub moves : may_move (doing x) (holes l.left) (holes l.right) ≡ true
   pub exact : is_exact_line l ≡ true → context.info.exact ≡ true

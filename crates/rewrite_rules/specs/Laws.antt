@@ -1,7 +1,7 @@
 -- What holds of lines that are well formed and right (this project).
 use Rattle.std.specs.Prelude.{◌≡◌, ℕ, true, List, []}
 use Rattle.wasm_code.specs.Instruction.{Instruction}
-use Rattle.peephole_machine.specs.Values.{Context}
+use Rattle.wasm_execution.specs.Values.{Context}
 use Rattle.rewrite_rules.specs.Line.{Line, is_formed, IsRight}
 use Rattle.rewrite_rules.specs.Table.{OfEachLine}
 use Rattle.rewrite_rules.specs.Instance.{code_of, Applies, StandsFor}

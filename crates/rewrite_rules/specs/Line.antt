@@ -1,9 +1,9 @@
 -- Lines of rules: two patterns, and what is asked of the constants; when one is well formed, and when it is right (this project).
 use Rattle.std.specs.Prelude.{◌≡◌, ℕ, ◌+◌, ◌-◌, ◌%◌, ◌^◌, ◌==◌, ◌&&◌, ◌||◌, nat_lt, Bool, true, List, [], ◌∷◌, ⊤}
 use mir.Val.{bits}
-use Rattle.peephole_machine.specs.declared.integer.IntegerType.{IntegerType}
-use Rattle.peephole_machine.specs.Values.{width_of, IsOfType}
-use Rattle.rewrite_rules.specs.Pattern.{Kind, fixed, any, Pattern, holes, draws_by, kind_of, kind_in, same_kind, fits, uses_exact, traps_at_root}
+use Rattle.wasm_execution.specs.declared.integer.IntegerType.{IntegerType}
+use Rattle.wasm_execution.specs.Values.{width_of, IsOfType}
+use Rattle.rewrite_rules.specs.Pattern.{Kind, fixed, any, Pattern, holes, draws_by, hole_kind_of, kind_in, same_kind, fits, uses_exact, traps_at_root}
 use Rattle.rewrite_rules.specs.Numbers.{lowest_bit, low, value_of}
 use Rattle.rewrite_rules.specs.Order.{is_in, every}
 
@@ -56,5 +56,5 @@ IsOfKind any n = ⊤
 -- same cause.
 abbrev pub IsRight : Line → Type 0
 IsRight l =
-    (h c : ℕ → ℕ) (us vs : List ℕ) → ((n : ℕ) → IsOfKind (kind_of l.kinds n) (h n)) → all_hold c l.conditions ≡ true →
+    (h c : ℕ → ℕ) (us vs : List ℕ) → ((n : ℕ) → IsOfKind (hole_kind_of l.kinds n) (h n)) → all_hold c l.conditions ≡ true →
     value_of h c us l.left ≡ value_of h c vs l.right

@@ -8,8 +8,8 @@ use Rattle.rewrite_rules.specs.declared.table.Row.{Row}
 use Rattle.rewrite_rules.specs.Table.{Text, Entry, row_in}
 
 -- a text that it refers to
-abbrev pub text_of : Bor (List ℕ) → Text
-text_of b = record { now = b.now }
+abbrev pub text_by_reference : Bor (List ℕ) → Text
+text_by_reference b = record { now = b.now }
 
 -- a line in the code
 abbrev pub Held : Type 0
@@ -17,7 +17,7 @@ Held = Option (Bor (List ℕ)) × Widths × Option Condition × List Step × Lis
 
 -- a line with its name
 abbrev pub shown : Held → Entry
-shown l = (option_map text_of l.0, l.1, l.2, l.3, l.4)
+shown l = (option_map text_by_reference l.0, l.1, l.2, l.3, l.4)
 
 -- one that is referred to
 abbrev pub shown_at : Option (Bor Held) → Option Entry

@@ -29,7 +29,7 @@ abbrev pub rule_of : ℕ → Option ℕ
 rule_of n = option_map (λ (name : Option (List ℕ)). length (given (take (n + 1) begins)) - 1) (slice_get begins n)
 
 -- There are fewer rows, and rules, than numbers of 16 bits.
-pub record AreFew : Type 0 where
+pub record AreFewRowsAndRules : Type 0 where
   pub rows : length ROWS < 65535
   pub names : length names < 65536
 

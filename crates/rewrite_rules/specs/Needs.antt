@@ -2,7 +2,7 @@
 use Rattle.std.specs.Prelude.{◌≡◌, ℕ, ◌==◌, ◌&&◌, ◌||◌, not, Bool, List, [], ◌∷◌, if◌then◌else◌}
 use Rattle.rewrite_rules.specs.Order.{is_in}
 use Rattle.rewrite_rules.specs.Pattern.{holes}
-use Rattle.rewrite_rules.specs.Order.{Doing, every, at_most_one, is_twice, in_neither, back, may_move}
+use Rattle.rewrite_rules.specs.Order.{Doing, every, at_most_one_passes, is_twice, in_neither, back, may_move}
 use Rattle.rewrite_rules.specs.Line.{Line}
 
 -- the holes of the left and of the right side that do not stand in the same place on both
@@ -41,7 +41,7 @@ needs_of r = needs_in (middle_of (holes r.left) (holes r.right))
 abbrev pub meets : Doing → Needs → Bool
 meets may k =
     every (λ n. not (may.write n)) k.still
-    && (at_most_one may.trap k.still && (every (λ n. not (may.trap n)) k.left_out && every (λ n. not (may.ask n)) k.repeated))
+    && (at_most_one_passes may.trap k.still && (every (λ n. not (may.trap n)) k.left_out && every (λ n. not (may.ask n)) k.repeated))
 
 -- The operands may move where they meet what the line asks, and nowhere else.
 abbrev pub NeedsAreEnough : Type 0

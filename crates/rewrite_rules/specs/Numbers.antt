@@ -1,12 +1,12 @@
--- What a pattern's value is, by the numbers of its holes and of its constants (this project, over the operators on whole numbers of `peephole_machine`).
+-- What a pattern's value is, by the numbers of its holes and of its constants (this project, over the operators on whole numbers of `wasm_execution`).
 use Rattle.std.specs.Prelude.{ℕ, ◌+◌, ◌-◌, ◌%◌, ◌^◌, ◌==◌, List, [], ◌∷◌, drop, get_or, Option, Some, None, Result, Ok, Err, if◌then◌else◌}
 use Rattle.std.specs.Int.{trailing_zeros}
 use mir.Val.{bits}
-use Rattle.peephole_machine.specs.declared.integer.IntegerType.{IntegerType}
-use Rattle.peephole_machine.specs.Values.{width_of, Cause, stuck}
-use Rattle.peephole_machine.specs.Machine.{cause_of}
-use Rattle.peephole_machine.specs.Computed.{computed}
-use Rattle.peephole_machine.specs.Operation.{operator_of}
+use Rattle.wasm_execution.specs.declared.integer.IntegerType.{IntegerType}
+use Rattle.wasm_execution.specs.Values.{width_of, Cause, stuck}
+use Rattle.wasm_execution.specs.Machine.{division_trap_cause}
+use Rattle.wasm_execution.specs.Computed.{computed}
+use Rattle.wasm_execution.specs.Operation.{operator_of}
 use Rattle.rewrite_rules.specs.declared.pattern.Operator.{Operator}
 use Rattle.rewrite_rules.specs.declared.pattern.Operator.TheVariants.{Whole, Select, Exact}
 use Rattle.rewrite_rules.specs.Exact.{ExactOperator, exact_at}
@@ -28,7 +28,7 @@ exact_value (Some o) ns = Ok (o.value ns)
 
 -- an operator's value on the numbers of its operands, or why it traps
 abbrev pub value_on : Operator → List ℕ → Result ℕ Cause
-value_on (Whole f) ns = or_cause (computed (operator_of f) ns) (cause_of ns)
+value_on (Whole f) ns = or_cause (computed (operator_of f) ns) (division_trap_cause ns)
 value_on Select (n ∷ m ∷ c ∷ []) = Ok (if c == 0 then m else n)
 value_on Select ns = Err stuck
 value_on (Exact row lane) ns = exact_value (exact_at row lane) ns

@@ -4,10 +4,10 @@ use Rattle.std.specs.Option.{option_flatten}
 use Rattle.wasm_code.specs.Instruction.{Instruction}
 use Rattle.wasm_types.specs.declared.types.PrimitiveTypeInfo.{PrimitiveTypeInfo}
 use Rattle.wasm_types.specs.declared.types.PrimitiveTypeInfo.TheVariants as primitive
-use Rattle.peephole_machine.specs.Values.{Context, same_type}
-use Rattle.peephole_machine.specs.IntegerRow.{is_numeric}
+use Rattle.wasm_execution.specs.Values.{Context, same_type}
+use Rattle.wasm_execution.specs.IntegerRow.{is_numeric}
 use Rattle.rewrite_rules.specs.Code.{Leaves}
-use Rattle.rewrite_rules.specs.Pattern.{Kind, fixed, any, kind_at, kind_of}
+use Rattle.rewrite_rules.specs.Pattern.{Kind, fixed, any, kind_at, hole_kind_of}
 
 -- the type of a hole, where it is not any
 abbrev pub fixed_in : Kind → Option PrimitiveTypeInfo
@@ -22,7 +22,7 @@ type_given t (Some k) u = u
 abbrev pub select_type : (kinds : List Kind) → (n : ℕ) → List (Option PrimitiveTypeInfo) → PrimitiveTypeInfo
 select_type kinds n [] = primitive.I32
 select_type kinds n (None ∷ ts) = select_type kinds (suc n) ts
-select_type kinds n (Some t ∷ ts) = type_given t (fixed_in (kind_of kinds n)) (select_type kinds (suc n) ts)
+select_type kinds n (Some t ∷ ts) = type_given t (fixed_in (hole_kind_of kinds n)) (select_type kinds (suc n) ts)
 
 -- an operand has its hole's type, where there is one, and a select is of type `u`
 abbrev pub type_in : PrimitiveTypeInfo → Option PrimitiveTypeInfo → PrimitiveTypeInfo
@@ -30,7 +30,7 @@ type_in u (Some t) = t
 type_in u None = u
 
 abbrev pub has_type : (u : PrimitiveTypeInfo) → (kinds : List Kind) → (n : ℕ) → Option PrimitiveTypeInfo → Bool
-has_type u kinds n (Some t) = same_type t (type_in u (fixed_in (kind_of kinds n)))
+has_type u kinds n (Some t) = same_type t (type_in u (fixed_in (hole_kind_of kinds n)))
 has_type u kinds n None = true
 
 -- each has
@@ -55,7 +55,7 @@ AreTypes context x is_there ts = (n : ℕ) → IsTypeIn context (x n) (is_there 
 pub record HaveTypes (context : Context) (x : ℕ → List Instruction) (is_there : ℕ → Bool) (kinds : List Kind) : Type 0 where
   pub type : PrimitiveTypeInfo
   pub numeric : is_numeric type ≡ true
-  pub leave : (n : ℕ) → is_there n ≡ true → Leaves context (x n) (kind_at type (kind_of kinds n))
+  pub leave : (n : ℕ) → is_there n ≡ true → Leaves context (x n) (kind_at type (hole_kind_of kinds n))
 
 -- Types fit exactly where the operands have those of their holes.
 pub record TypesAreTold : Type 0 where

@@ -18,9 +18,9 @@ every f [] = true
 every f (n ∷ ns) = f n && every f ns
 
 -- at most one of them, which may stand there several times
-abbrev pub at_most_one : (ℕ → Bool) → List ℕ → Bool
-at_most_one f [] = true
-at_most_one f (n ∷ ns) = if f n then every (λ m. m == n || not (f m)) ns else at_most_one f ns
+abbrev pub at_most_one_passes : (ℕ → Bool) → List ℕ → Bool
+at_most_one_passes f [] = true
+at_most_one_passes f (n ∷ ns) = if f n then every (λ m. m == n || not (f m)) ns else at_most_one_passes f ns
 
 -- it stands there twice
 abbrev pub is_twice : List ℕ → ℕ → Bool
@@ -36,7 +36,7 @@ is_free may left right n =
 abbrev pub are_free : Doing → (left right : List ℕ) → Bool
 are_free may left right =
     every (λ n. not (may.write n)) left
-    && (at_most_one may.trap left
+    && (at_most_one_passes may.trap left
     && (every (λ n. is_in right n || not (may.trap n)) left
     && every (λ n. not (may.ask n) || (not (is_twice left n) && not (is_twice right n))) left))
 

@@ -3,9 +3,9 @@
 use Rattle.std.specs.Prelude.{ℕ, ◌+◌, ◌&&◌, ◌||◌, not, Bool, true, false, List, [], ◌∷◌, ◌++◌, map, get_or, Option, Some, None, is_some}
 use Rattle.wasm_types.specs.declared.types.PrimitiveTypeInfo.{PrimitiveTypeInfo}
 use Rattle.wasm_types.specs.declared.types.PrimitiveTypeInfo.TheVariants as primitive
-use Rattle.peephole_machine.specs.declared.integer.IntegerType.{IntegerType}
-use Rattle.peephole_machine.specs.Values.{type_of, same_type}
-use Rattle.peephole_machine.specs.Operation.{operator_of}
+use Rattle.wasm_execution.specs.declared.integer.IntegerType.{IntegerType}
+use Rattle.wasm_execution.specs.Values.{type_of, same_type}
+use Rattle.wasm_execution.specs.Operation.{operator_of}
 use Rattle.rewrite_rules.specs.declared.pattern.Operator.{Operator}
 use Rattle.rewrite_rules.specs.declared.pattern.Operator.TheVariants.{Whole, Select, Exact}
 use Rattle.rewrite_rules.specs.declared.pattern.Number.{Number}
@@ -21,14 +21,14 @@ is_total Select = true
 is_total (Exact row lane) = true
 
 -- it is one that is known: a row and a lane may be none that is exact
-abbrev pub is_known : Operator → Bool
-is_known (Exact row lane) = is_some (exact_at row lane)
-is_known o = true
+abbrev pub is_operator_known : Operator → Bool
+is_operator_known (Exact row lane) = is_some (exact_at row lane)
+is_operator_known o = true
 
 -- it is an exact row, which does as it does in exact worlds alone
-abbrev pub is_exact : Operator → Bool
-is_exact (Exact row lane) = true
-is_exact o = false
+abbrev pub is_exact_operator : Operator → Bool
+is_exact_operator (Exact row lane) = true
+is_exact_operator o = false
 
 -- ---- types
 
@@ -106,12 +106,12 @@ abbrev mutual
 -- ---- well formed
 
 -- a hole's type, by its index
-abbrev pub kind_of : (kinds : List Kind) → ℕ → Kind
-kind_of kinds n = get_or kinds n any
+abbrev pub hole_kind_of : (kinds : List Kind) → ℕ → Kind
+hole_kind_of kinds n = get_or kinds n any
 
 -- what the pattern leaves
 abbrev pub kind_in : (kinds : List Kind) → Pattern → Kind
-kind_in kinds (hole n) = kind_of kinds n
+kind_in kinds (hole n) = hole_kind_of kinds n
 kind_in kinds (constant t e) = fixed (type_of t)
 kind_in kinds (drawn t) = fixed (type_of t)
 kind_in kinds (apply o ps) = result_of o
@@ -136,7 +136,7 @@ abbrev mutual
   fits kinds (hole n) = true
   fits kinds (constant t e) = true
   fits kinds (drawn t) = true
-  fits kinds (apply o ps) = is_known o && (same_kinds (kinds_in kinds ps) (operands_of o) && fit kinds ps)
+  fits kinds (apply o ps) = is_operator_known o && (same_kinds (kinds_in kinds ps) (operands_of o) && fit kinds ps)
 
   pub fit : (kinds : List Kind) → Patterns → Bool
   fit kinds none = true
@@ -148,7 +148,7 @@ abbrev mutual
   uses_exact (hole n) = false
   uses_exact (constant t e) = false
   uses_exact (drawn t) = false
-  uses_exact (apply o ps) = is_exact o || some_exact ps
+  uses_exact (apply o ps) = is_exact_operator o || some_exact ps
 
   pub some_exact : Patterns → Bool
   some_exact none = false

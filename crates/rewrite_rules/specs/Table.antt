@@ -5,10 +5,10 @@ use Rattle.wasm_code.specs.Instruction.{fits_row}
 use Rattle.wasm_code.specs.Table.{row_at}
 use Rattle.wasm_types.specs.declared.types.PrimitiveTypeInfo.{PrimitiveTypeInfo}
 use Rattle.wasm_types.specs.declared.types.PrimitiveTypeInfo.TheVariants as primitive
-use Rattle.peephole_machine.specs.declared.integer.IntegerType.{IntegerType}
-use Rattle.peephole_machine.specs.declared.integer.IntegerType.TheVariants as integer
-use Rattle.peephole_machine.specs.declared.operation.Operation.TheVariants as operation
-use Rattle.peephole_machine.specs.Values.{type_of}
+use Rattle.wasm_execution.specs.declared.integer.IntegerType.{IntegerType}
+use Rattle.wasm_execution.specs.declared.integer.IntegerType.TheVariants as integer
+use Rattle.wasm_execution.specs.declared.operation.Operation.TheVariants as operation
+use Rattle.wasm_execution.specs.Values.{type_of}
 use Rattle.rewrite_rules.specs.declared.pattern.Operator.{Operator}
 use Rattle.rewrite_rules.specs.declared.pattern.Operator.TheVariants as operator
 use Rattle.rewrite_rules.specs.declared.pattern.Part.{Part}
@@ -21,17 +21,21 @@ use Rattle.rewrite_rules.specs.declared.table.Condition as asked
 use Rattle.rewrite_rules.specs.declared.table.Condition.TheVariants.{BelowWidth, Power, Mask, Turns}
 use Rattle.rewrite_rules.specs.declared.table.Row.{Row}
 use Rattle.rewrite_rules.specs.declared.table.integers.TheConstants.{ORDERS, GROUPS, LONGER, FORMS, NEUTRAL, POWERS, TWICE}
-use Rattle.rewrite_rules.specs.declared.table.integers.TheConstants.{ALONE, TESTS, OPPOSITES, PARTS, SHORTER, BACK, FRONT, AGAIN, SIGNS, EQUALS, COUNTED, TURNED}
+use Rattle.rewrite_rules.specs.declared.table.integers.TheConstants.{ALONE, TESTS, OPPOSITES, PARTS, SHORTER, BACK, FRONT, AGAIN, SIGNS}
+use Rattle.rewrite_rules.specs.declared.table.integers.TheConstants.{EQUALS, COUNTED, TURNED}
 use Rattle.rewrite_rules.specs.declared.table.integers.TheConstants.{ABSORBED, SETTLED}
-use Rattle.rewrite_rules.specs.declared.table.floats.TheConstants.{FLOATS, FLOAT_BITS, FLOAT_SIGNS, FLOAT_COPIES, FLOAT_TESTS, FLOAT_SELVES, FLOAT_TURNS, FLOAT_ORDERS}
+use Rattle.rewrite_rules.specs.declared.table.floats.TheConstants.{FLOATS, FLOAT_BITS, FLOAT_SIGNS, FLOAT_COPIES, FLOAT_TESTS, FLOAT_SELVES}
+use Rattle.rewrite_rules.specs.declared.table.floats.TheConstants.{FLOAT_TURNS, FLOAT_ORDERS}
 use Rattle.rewrite_rules.specs.declared.table.vectors.TheConstants.{VECTOR_BITS, VECTOR_FORMS, LANE_SUMS, LANE_NEGATIVES, LANE_ZEROS, LANE_MAGNITUDES}
-use Rattle.rewrite_rules.specs.declared.table.lane_tests.TheConstants.{LANE_ORDERS, WIDE_ORDERS, LANE_OPPOSITES, WIDE_OPPOSITES, LANE_COMPLEMENTS, WIDE_COMPLEMENTS}
+use Rattle.rewrite_rules.specs.declared.table.lane_tests.TheConstants.{LANE_ORDERS, WIDE_ORDERS, LANE_OPPOSITES, WIDE_OPPOSITES}
+use Rattle.rewrite_rules.specs.declared.table.lane_tests.TheConstants.{LANE_COMPLEMENTS, WIDE_COMPLEMENTS}
 use Rattle.rewrite_rules.specs.declared.table.vectors.TheConstants.{LANE_SHIFTS, LANE_TURNS, LANE_FLOATS}
 use Rattle.rewrite_rules.specs.declared.table.lane_tests.TheConstants.{LANE_BOUNDS, LANE_REPEATS, LANE_CHOICES}
 use Rattle.rewrite_rules.specs.declared.table.accesses.TheConstants.{ACCESS_BITS, ACCESS_WIDTHS, LOAD_SIGNS, STORE_SIGNS, ALIGNMENTS, CONSTANTS}
 use Rattle.rewrite_rules.specs.declared.table.vectors.TheConstants.{VECTOR_DECIDED}
 use Rattle.rewrite_rules.specs.declared.table.lane_moves.TheConstants.{LANE_SPLATS, LANE_BITS, SPLAT_BITS, SIGNED_LANES, EXTENDED_LANES}
-use Rattle.rewrite_rules.specs.declared.table.integers.TheConstants.{EXTENSIONS, EXTENSION_MASKS, EXTENSION_MOVES, SIGN_TESTS, POWER_TESTS, ZERO_COUNTS, HALVES, UNDONE}
+use Rattle.rewrite_rules.specs.declared.table.integers.TheConstants.{EXTENSIONS, EXTENSION_MASKS, EXTENSION_MOVES, SIGN_TESTS, POWER_TESTS}
+use Rattle.rewrite_rules.specs.declared.table.integers.TheConstants.{ZERO_COUNTS, HALVES, UNDONE}
 use Rattle.rewrite_rules.specs.declared.table.vectors.TheConstants.{SATURATED_LANES, LANE_COUNTS}
 use Rattle.rewrite_rules.specs.declared.table.lane_tests.TheConstants.{FLOAT_LANE_ORDERS, FLOAT_LANE_OPPOSITES, FLOAT_LANE_CHOICES}
 use Rattle.rewrite_rules.specs.declared.table.lane_moves.TheConstants.{NARROWED_LANES}
@@ -170,8 +174,8 @@ widths_in Any = integer.I32 ∷ []
 widths_in (Operands a b c) = width_by a ∷ []
 widths_in (Own o) = []
 
-abbrev pub lines_of : Row → List Line
-lines_of r = map (line_of r) (widths_in r.widths)
+abbrev pub row_lines_of : Row → List Line
+row_lines_of r = map (line_of r) (widths_in r.widths)
 
 -- ---- the table
 
@@ -223,13 +227,13 @@ abbrev pub ROWS : List Row
 ROWS = rows_of entries
 
 -- the part's operator is an instruction of the standard, of which the row and the immediate go together
-abbrev pub IsInstruction : Part → Type 0
-IsInstruction (part.Apply o) = fits_row (row_at (row_number o)) (immediate_of o) ≡ true
-IsInstruction p = ⊤
+abbrev pub PartIsInstruction : Part → Type 0
+PartIsInstruction (part.Apply o) = fits_row (row_at (row_number o)) (immediate_of o) ≡ true
+PartIsInstruction p = ⊤
 
 -- It holds of each line of each row of the table.
 abbrev pub OfEachLine : (Line → Type 0) → Type 0
-OfEachLine P = (i : ℕ) (row : Row) → slice_get ROWS i ≡ Some row → (k : ℕ) (l : Line) → slice_get (lines_of row) k ≡ Some l → P l
+OfEachLine P = (i : ℕ) (row : Row) → slice_get ROWS i ≡ Some row → (k : ℕ) (l : Line) → slice_get (row_lines_of row) k ≡ Some l → P l
 
 -- The patterns of each line of the table have the parts that its row's sides have for its width.
 abbrev pub SidesAreParts : Type 0
@@ -241,4 +245,4 @@ SidesAreParts =
 abbrev pub PartsAreInstructions : Type 0
 PartsAreInstructions =
     (i : ℕ) (row : Row) → slice_get ROWS i ≡ Some row → (k : ℕ) (t : IntegerType) → slice_get (widths_in row.widths) k ≡ Some t →
-    All IsInstruction (parts_for t row.right)
+    All PartIsInstruction (parts_for t row.right)

@@ -9,10 +9,10 @@ use Rattle.wasm_code.specs.declared.operator.Operator.{Operator}
 use Rattle.wasm_code.specs.declared.operator.Operator.TheVariants as op
 use Rattle.wasm_types.specs.declared.types.PrimitiveTypeInfo.{PrimitiveTypeInfo}
 use Rattle.wasm_types.specs.declared.types.PrimitiveTypeInfo.TheVariants as primitive
-use Rattle.peephole_machine.specs.declared.integer.IntegerType.TheVariants as integer
-use Rattle.peephole_machine.specs.Values.{Context}
-use Rattle.peephole_programs.specs.control.Wider.{wider}
-use Rattle.peephole_programs.specs.validation.StaysValid.{Pushes}
+use Rattle.wasm_execution.specs.declared.integer.IntegerType.TheVariants as integer
+use Rattle.wasm_execution.specs.Values.{Context}
+use Rattle.wasm_equivalence.specs.control.Wider.{wider}
+use Rattle.wasm_equivalence.specs.validation.StaysValid.{Pushes}
 use Rattle.wrapped_code.specs.Wrapped.{Wrapped, written, WrappedRunsAs, WrappedChecksAs}
 use Rattle.wrapped_code.specs.Ways.{WrappedPushes}
 use Rattle.rewrite_rules.specs.declared.wrap.Wrap.{Wrap}

@@ -9,8 +9,8 @@ ghost use Rattle.rewrite_rules.specs.Access.{access_in, access_at, conversion_si
 use crate::growth::Growth;
 use crate::pattern::Operator;
 use crate::table::Own;
-use peephole_machine::{Binary, IntegerType, Operation};
 use wasm_code::{Imm, MemArg};
+use wasm_execution::{Binary, IntegerType, Operation};
 
 /// What is done with a value behind its load, or before its store.
 #[derive(Clone, Copy, Debug, PartialEq, Eq)]

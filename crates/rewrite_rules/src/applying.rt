@@ -10,7 +10,7 @@ use crate::laws::{holes_are_told, types_are_told};
 use crate::order::{Effects, may_move};
 use crate::standing::TableRow;
 use crate::table::{Side, Step};
-use peephole_machine::IntegerType;
+use wasm_execution::IntegerType;
 use wasm_types::PrimitiveTypeInfo;
 
 /// What is known of what stands in a row's left side.

@@ -1,11 +1,11 @@
 //! What an instruction may do besides leaving values.
 ghost use Rattle.std.specs.Prelude.{◌≡◌};
-ghost use Rattle.peephole_machine.specs.Row.{instruction_byte};
-ghost use Rattle.peephole_machine.specs.IntegerRow.{integer_row};
+ghost use Rattle.wasm_execution.specs.Row.{instruction_byte};
+ghost use Rattle.wasm_execution.specs.IntegerRow.{integer_row};
 ghost use Rattle.rewrite_rules.specs.Code.{row_writes, row_traps, operation_traps, operation_by, any_traps, instruction_traps};
 
-use peephole_machine::{Binary, Operation, Row, changes, integer_row, may_trap, opcode_byte};
 use wasm_code::{Imm, Instr};
+use wasm_execution::{Binary, Operation, Row, changes, integer_row, may_trap, opcode_byte};
 
 /// Whether an instruction may write a local or a global, or change anything else.
 pub fn writes(instr: &Instr) -> bool

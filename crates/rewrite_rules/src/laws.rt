@@ -3,7 +3,7 @@
 ghost use Rattle.rewrite_rules.specs.Access.{AccessesAreFormed};
 ghost use Rattle.rewrite_rules.specs.Applying.{ExactRowsAreTold};
 ghost use Rattle.rewrite_rules.specs.Laws.{LinesKeepCode, TableIsRight};
-ghost use Rattle.rewrite_rules.specs.Names.{NamesDiffer, AreFew};
+ghost use Rattle.rewrite_rules.specs.Names.{NamesDiffer, AreFewRowsAndRules};
 ghost use Rattle.rewrite_rules.specs.Needs.{NeedsAreEnough};
 ghost use Rattle.rewrite_rules.specs.Parts.{PartsAreTheCode};
 ghost use Rattle.rewrite_rules.specs.Rule.{RulesAreNamed};
@@ -14,7 +14,7 @@ ghost use Rattle.rewrite_rules.specs.Beside.{BesidesKeepCode};
 ghost use Rattle.rewrite_rules.specs.Wrap.{WrapsAreRight};
 ghost use Rattle.rewrite_rules.specs.Flow.{SelectsAreConditionals, TestsAreConditions, BoundsAreIndices, DroppedCodePushesNothing, DroppedConstantsPushNothing};
 
-use peephole_programs::validity::{typed_rows_check, validity_goes_by_types};
+use wasm_equivalence::validity::{typed_rows_check, validity_goes_by_types};
 use wrapped_code::laws::{
     indices_may_be_bounded, some_code_is_pure, some_conditions_are_as_true, typed_code_is_alone,
     wrapped_code_pushes, wrapped_code_runs,
@@ -142,7 +142,7 @@ pub fn accesses_are_formed()
 
 /// There are fewer rows, and so rules, than numbers of 16 bits.
 pub fn rows_are_few()
-    ensures { AreFew }
+    ensures { AreFewRowsAndRules }
 {}
 
 /// No two rules have the same name.

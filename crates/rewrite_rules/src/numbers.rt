@@ -1,14 +1,14 @@
 //! What a number of a line is, by the numbers of the constants that stand on its left side.
 ghost use Rattle.std.specs.Prelude.{◌≡◌, ◌<◌, ◌%◌, ◌^◌, ◌==◌};
 ghost use mir.Val.{bits};
-ghost use Rattle.peephole_machine.specs.Values.{width_of};
+ghost use Rattle.wasm_execution.specs.Values.{width_of};
 ghost use Rattle.rewrite_rules.specs.Numbers.{low, lowest_bit, number_of, constant_at};
 ghost use Rattle.rewrite_rules.specs.Line.{holds};
 ghost use Rattle.rewrite_rules.specs.Table.{condition_for};
 
 use crate::pattern::Number;
 use crate::table::Condition;
-use peephole_machine::IntegerType;
+use wasm_execution::IntegerType;
 
 // The number's low bits, for the width.
 fn low(t: IntegerType, number: u64) -> u64

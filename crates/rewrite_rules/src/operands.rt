@@ -1,14 +1,14 @@
 //! Whether operands have the types of the holes that they stand in.
 ghost use Rattle.std.specs.Prelude.{◌≡◌};
-ghost use Rattle.peephole_machine.specs.Values.{type_of};
-ghost use Rattle.peephole_machine.specs.IntegerRow.{is_numeric};
-ghost use Rattle.rewrite_rules.specs.Pattern.{kind_of};
+ghost use Rattle.wasm_execution.specs.Values.{type_of};
+ghost use Rattle.wasm_execution.specs.IntegerRow.{is_numeric};
+ghost use Rattle.rewrite_rules.specs.Pattern.{hole_kind_of};
 ghost use Rattle.rewrite_rules.specs.Table.{kinds_for};
 ghost use Rattle.rewrite_rules.specs.Operands.{fixed_in, select_type, has_type, have_types, types_fit};
 
 use crate::standing::TableRow;
 use crate::table::Widths;
-use peephole_machine::IntegerType;
+use wasm_execution::IntegerType;
 use wasm_types::PrimitiveTypeInfo;
 
 // A number's or a vector's.
@@ -35,7 +35,7 @@ fn type_of(width: IntegerType) -> PrimitiveTypeInfo
 
 // The type of the hole with the index, where it is not any.
 fn fixed_type(widths: Widths, width: IntegerType, index: usize) -> Option<PrimitiveTypeInfo>
-    ensures { result ≡ fixed_in (kind_of (kinds_for widths width) index) }
+    ensures { result ≡ fixed_in (hole_kind_of (kinds_for widths width) index) }
 {
     match (widths, index) {
         (Widths::Any, 2) => Some(PrimitiveTypeInfo::I32),

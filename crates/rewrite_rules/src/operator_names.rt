@@ -1,6 +1,6 @@
 //! The names of operators, as WebAssembly's text format has them.
 
-use peephole_machine::{Binary, Comparison, IntegerType, Operation, Unary};
+use wasm_execution::{Binary, Comparison, IntegerType, Operation, Unary};
 
 /// The type's name.
 pub(crate) fn type_name(t: IntegerType) -> &'static str {

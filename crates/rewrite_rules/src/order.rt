@@ -1,6 +1,6 @@
 //! Whether the operands of a line may move from their places on the left side to those on the right one.
 ghost use Rattle.std.specs.Prelude.{◌≡◌, ◌≤◌, ◌-◌, ◌==◌, ◌&&◌, ◌||◌, not, length, take, drop};
-ghost use Rattle.rewrite_rules.specs.Order.{Doing, effect_at, doing_of, is_in, is_twice, every, is_free, at_most_one, are_free, back, before_end, may_move, in_neither};
+ghost use Rattle.rewrite_rules.specs.Order.{Doing, effect_at, doing_of, is_in, is_twice, every, is_free, at_most_one_passes, are_free, back, before_end, may_move, in_neither};
 
 /// What the code of an operand may do.
 #[derive(Clone, Copy, Debug, PartialEq, Eq)]
@@ -62,7 +62,7 @@ fn others_never_trap(effects: &[Effects], list: &[u8], index: u8) -> bool
 
 // Whether at most one of these may trap.
 fn at_most_one_traps(effects: &[Effects], list: &[u8]) -> bool
-    ensures { result ≡ at_most_one (λ n. (effect_at effects.now n).traps) list.now }
+    ensures { result ≡ at_most_one_passes (λ n. (effect_at effects.now n).traps) list.now }
 {
     for i in 0..list.len() {
         if effects_at(effects, list[i]).traps {

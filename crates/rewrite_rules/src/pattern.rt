@@ -1,7 +1,7 @@
 //! What rules are written in: operators, and numbers of constants.
 
-use peephole_machine::{IntegerType, Operation};
 use wasm_code::Imm;
+use wasm_execution::{IntegerType, Operation};
 
 /// An operator that patterns name.
 #[derive(Clone, Copy, Debug, PartialEq, Eq)]

@@ -9,7 +9,7 @@ ghost use Rattle.rewrite_rules.specs.Table.{part_for, width_by};
 
 use crate::pattern::{Number, Operator, Part};
 use crate::wrap::Wrap;
-use peephole_machine::{Binary, Comparison, IntegerType, Operation};
+use wasm_execution::{Binary, Comparison, IntegerType, Operation};
 use wasm_types::PrimitiveTypeInfo;
 
 /// A step of a side.

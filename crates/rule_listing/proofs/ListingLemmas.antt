@@ -1,5 +1,6 @@
 -- Texts, one behind another.
-use Rattle.std.proofs.Common.{◌≡◌, ℕ, zero, suc, ◌+◌, ◌<◌, List, [], ◌∷◌, ◌++◌, length, map, take, get_or, Bool, false, ◌||◌, Some, Result, Ok, Err, refl, ap, sym, subst, ◌∙◌, append_assoc, append-nil, arith}
+use Rattle.std.proofs.Common.{◌≡◌, ℕ, zero, suc, ◌+◌, ◌<◌, List, [], ◌∷◌, ◌++◌, length, map, take, get_or, Bool, false, ◌||◌, Some, Result}
+use Rattle.std.proofs.Common.{Ok, Err, refl, ap, sym, subst, ◌∙◌, append_assoc, append-nil, arith}
 use Rattle.std.specs.Prelude.{OnOk, slice_get}
 use Rattle.std.proofs.lemmas.Grind.{common_steps}
 use Rattle.std.proofs.lemmas.List.{take_more, map-append, length-map, length-take-le, get_or-map}
@@ -7,7 +8,7 @@ use Rattle.serde_json.specs.Data.{string}
 use Rattle.serde_json.specs.View.{items_of}
 use Rattle.serde_json.specs.Written.{items_have_float, has_float}
 use Rattle.rewrite_rules.specs.Names.{names}
-use Rattle.rule_listing.specs.Listing.{Told, IsTold, rule_object, cell, cells, text_line, text_lines, head_text, rule_text, rules_text}
+use Rattle.rule_listing.specs.Listing.{Told, RuleIsTold, rule_object, table_cell_text, cells, text_line, text_lines, head_text, rule_text, rules_text}
 use Rattle.rule_listing.specs.declared.form.Form.{Form}
 
 -- ---- no floats
@@ -23,19 +24,21 @@ object_has_none n name told = ap (λ (b : Bool). b || false) (strings_have_none 
 
 -- one text more
 pub cells_more : (n k : ℕ) (lines : List (List ℕ)) (line : List ℕ) → k ≡ n + length lines →
-    cells n (lines ++ line ∷ []) ≡ cells n lines ++ cell k line
+    cells n (lines ++ line ∷ []) ≡ cells n lines ++ table_cell_text k line
 cells_more n k [] line e = grind (arith, common_steps)
 cells_more n k (l ∷ lines) line e =
-    ap (λ z. cell n l ++ z) (cells_more (n + 1) k lines line (omega arith)) ∙ sym (append_assoc (cell n l) (cells (n + 1) lines) (cell k line))
+    ap (λ z. table_cell_text n l ++ z) (cells_more (n + 1) k lines line (omega arith))
+    ∙ sym (append_assoc (table_cell_text n l) (cells (n + 1) lines) (table_cell_text k line))
 
 pub texts_next : {X : Type 0} (f : X → List ℕ) (xs : List X) (i : ℕ) (x : X) (before text new : List ℕ) → i < length xs → x ≡ get_or xs i x →
-    text ≡ before ++ cells 0 (map f (take i xs)) → new ≡ text ++ cell i (f x) → new ≡ before ++ cells 0 (map f (take (i + 1) xs))
+    text ≡ before ++ cells 0 (map f (take i xs)) → new ≡ text ++ table_cell_text i (f x) → new ≡ before ++ cells 0 (map f (take (i + 1) xs))
 texts_next f xs i x before text new l x_is is own =
     let next = f (get_or xs i x) in
     let so_far = map f (take i xs) in
     let split : map f (take (i + 1) xs) ≡ so_far ++ next ∷ [] = ap (map f) (take_more xs i x l) ∙ map-append f (take i xs) (get_or xs i x ∷ []) in
     let long : i ≡ length so_far = sym (length-map (take i xs) f ∙ length-take-le i xs (omega arith)) in
-    own ∙ ap (λ z. text ++ cell i (f z)) x_is ∙ ap (λ z. z ++ cell i next) is ∙ append_assoc before (cells 0 so_far) (cell i next)
+    own ∙ ap (λ z. text ++ table_cell_text i (f z)) x_is ∙ ap (λ z. z ++ table_cell_text i next) is
+    ∙ append_assoc before (cells 0 so_far) (table_cell_text i next)
     ∙ ap (λ z. before ++ z) (sym (ap (cells 0) split ∙ cells_more 0 i so_far next (omega arith)))
 
 -- the same, a line each
@@ -77,7 +80,7 @@ each_more P (z ∷ xs) x h p (suc n) y e = each_more (λ m w. P (suc m) w) xs x 
 -- the first rules are told, and the text is that of them
 abbrev pub AreSoFar : Form → (k : ℕ) → (text : List ℕ) → Type 0
 AreSoFar form k text =
-    (told : List Told) × (length told ≡ k) × ((n : ℕ) (t : Told) → slice_get told n ≡ Some t → IsTold n t)
+    (told : List Told) × (length told ≡ k) × ((n : ℕ) (t : Told) → slice_get told n ≡ Some t → RuleIsTold n t)
     × (text ≡ head_text form ++ rules_text form 0 (take k names) told)
 
 -- the next name
@@ -93,12 +96,12 @@ pub within : {X : Type 0} (f : X → List ℕ) (xs : List X) (list : List (List 
 within f xs list e = sym (length-map xs f) ∙ ap length e
 
 pub rule_next : (form : Form) (k : ℕ) (text new name : List ℕ) → k < length names → take (k + 1) names ≡ take k names ++ name ∷ [] →
-    AreSoFar form k text → ((t : Told) × IsTold k t × (new ≡ text ++ rule_text form k name t)) → AreSoFar form (k + 1) new
+    AreSoFar form k text → ((t : Told) × RuleIsTold k t × (new ≡ text ++ rule_text form k name t)) → AreSoFar form (k + 1) new
 rule_next form k text new name l next (told, long, each, is) (t, told_is, own) =
     let as_long : length (take k names) ≡ length told = length-take-le k names (omega arith) ∙ sym long in (
       told ++ t ∷ [],
       grind (arith, common_steps),
-      each_more IsTold told t each (subst (λ n. IsTold n t) (sym long) told_is),
+      each_more RuleIsTold told t each (subst (λ n. RuleIsTold n t) (sym long) told_is),
       own ∙ ap (λ z. z ++ rule_text form k name t) is ∙ append_assoc (head_text form) (rules_text form 0 (take k names) told) (rule_text form k name t)
           ∙ ap (λ z. head_text form ++ z) (sym (ap (λ z. rules_text form 0 z (told ++ t ∷ [])) next
           ∙ rules_more form 0 k (take k names) told name t (omega arith) as_long)),

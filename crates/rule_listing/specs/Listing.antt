@@ -1,5 +1,6 @@
 -- The rules of the table, as they are listed (this project).
-use Rattle.std.specs.Prelude.{◌≡◌, ◌≢◌, ◌↔◌, ℕ, zero, suc, ◌+◌, Bool, true, false, List, [], ◌∷◌, ◌++◌, length, map, codes, decimal, Option, Some, None, IsTrue, slice_get, ◌==◌, if◌then◌else◌}
+use Rattle.std.specs.Prelude.{◌≡◌, ◌≢◌, ◌↔◌, ℕ, zero, suc, ◌+◌, Bool, true, false, List, [], ◌∷◌, ◌++◌, length, map, codes, decimal, Option}
+use Rattle.std.specs.Prelude.{Some, None, IsTrue, slice_get, ◌==◌, if◌then◌else◌}
 use Rattle.serde_json.specs.Data.{Data, member, no_members, boolean, number, object, string, array, unsigned}
 use Rattle.serde_json.specs.View.{items_of}
 use Rattle.serde_json.specs.Written.{compact_text}
@@ -47,7 +48,7 @@ NeedsExact rule = (n : ℕ) (row : Row) → rule_of n ≡ Some rule → slice_ge
 
 -- There are as many texts as rows, where something is said of the number of instructions, it holds of each row, and the rule is told to
 -- need an engine that is exact where each row does.
-pub record IsTold (rule : ℕ) (told : Told) : Type 0 where
+pub record RuleIsTold (rule : ℕ) (told : Told) : Type 0 where
   pub count : length told.lines ≡ rows_among rule (length ROWS)
   pub grows : (n : ℕ) (row : Row) → rule_of n ≡ Some rule → slice_get ROWS n ≡ Some row → told.growth ≢ Grows → GrowsAs row told.growth
   pub exact : IsTrue told.exact ↔ NeedsExact rule
@@ -55,7 +56,7 @@ pub record IsTold (rule : ℕ) (told : Told) : Type 0 where
 -- It is told of each rule, by their numbers.
 pub record AreTold (told : List Told) : Type 0 where
   pub count : length told ≡ length names
-  pub each : (n : ℕ) (t : Told) → slice_get told n ≡ Some t → IsTold n t
+  pub each : (n : ℕ) (t : Told) → slice_get told n ≡ Some t → RuleIsTold n t
 
 -- the word for it
 abbrev pub growth_word : Growth → List ℕ
@@ -116,13 +117,13 @@ abbrev pub between : (n : ℕ) → List ℕ
 between n = if n == 0 then [] else codes " |\n| | | | | "
 
 -- the text with that number
-abbrev pub cell : (n : ℕ) → (line : List ℕ) → List ℕ
-cell n line = between n ++ (codes "`" ++ (line ++ codes "`"))
+abbrev pub table_cell_text : (n : ℕ) → (line : List ℕ) → List ℕ
+table_cell_text n line = between n ++ (codes "`" ++ (line ++ codes "`"))
 
 -- texts, of which the first one has that number
 abbrev pub cells : (n : ℕ) → List (List ℕ) → List ℕ
 cells n [] = []
-cells n (line ∷ lines) = cell n line ++ cells (n + 1) lines
+cells n (line ∷ lines) = table_cell_text n line ++ cells (n + 1) lines
 
 -- the rows of a rule
 unfoldable pub rule_rows : (n : ℕ) → (name : List ℕ) → Told → List ℕ

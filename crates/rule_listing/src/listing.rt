@@ -2,7 +2,7 @@
 ghost use Rattle.std.specs.Prelude.{◌≡◌, ◌++◌, ℕ, List, length, map, slice_get, string_bytes, Some, IfErr, IfOk, OnOk};
 ghost use Rattle.std.specs.Io.KnownBytes.{Appends};
 ghost use Rattle.rewrite_rules.specs.Names.{names, rule_of};
-ghost use Rattle.rule_listing.specs.Listing.{Told, IsTold, AreTold, head_text, rule_text, listing};
+ghost use Rattle.rule_listing.specs.Listing.{Told, RuleIsTold, AreTold, head_text, rule_text, listing};
 ghost use Rattle.rule_listing.specs.ListedRule.{told_in};
 ghost use Rattle.rule_listing.specs.declared.error.ListError.TheVariants.{Memory, Output};
 
@@ -53,7 +53,7 @@ fn add_numbered(
     name: &str,
 ) -> Result<(), AllocError>
     requires { (n : ℕ) → slice_get rules.now n ≡ rule_of n }
-    ensures { OnOk result ((told : Told) × IsTold number told × (string_bytes text.new
+    ensures { OnOk result ((told : Told) × RuleIsTold number told × (string_bytes text.new
         ≡ string_bytes text.old ++ rule_text form number name.now told)) }
 {
     let lines = lines_of(*text.allocator(), rules, number)?;

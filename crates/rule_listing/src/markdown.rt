@@ -1,6 +1,6 @@
 //! A rule as rows of a table of Markdown.
 ghost use Rattle.std.specs.Prelude.{◌≡◌, ◌++◌, map, string_bytes, OnOk};
-ghost use Rattle.rule_listing.specs.Listing.{between, cell, cells, rule_rows};
+ghost use Rattle.rule_listing.specs.Listing.{between, table_cell_text, cells, rule_rows};
 ghost use Rattle.rule_listing.specs.ListedRule.{told_in};
 
 use crate::exact::exact_cell;
@@ -17,7 +17,7 @@ fn between(index: usize) -> &'static str
 
 // Adds the text with that index.
 fn add_cell(text: &mut String, index: usize, line: &str) -> Result<(), AllocError>
-    ensures { OnOk result (string_bytes text.new ≡ string_bytes text.old ++ cell index line.now) }
+    ensures { OnOk result (string_bytes text.new ≡ string_bytes text.old ++ table_cell_text index line.now) }
 {
     text.push_str(between(index))?;
     text.push_str("`")?;

@@ -1,10 +1,10 @@
 //! The trees of a small body, and what rewrites by rows of the table make of small bodies.
 
 use body_rewrites::{Body, Rewrite, Tree, blocks_of, rewrite_body, trees_of};
-use peephole_machine::IntegerType;
 use std::alloc::Global;
 use std::test::Fail;
 use wasm_code::{Function, read_body};
+use wasm_execution::IntegerType;
 use wasm_types::{ModuleInfo, PrimitiveTypeInfo};
 
 /// With a local of i32: `local.get 0`, `i32.const 5`, `i32.add`, `i32.const 7`, `local.tee 0`, `i32.div_u`, `drop`, `end`.

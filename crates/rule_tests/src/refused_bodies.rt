@@ -9,11 +9,11 @@ use body_rewrites::{
     trees_of,
 };
 use given_words::LentWords;
-use peephole_machine::IntegerType;
 use rewrite_rules::Rule;
 use std::alloc::Global;
 use std::process::Abort;
 use wasm_code::{Function, OperatorAndByteOffset, read_body};
+use wasm_execution::IntegerType;
 use wasm_types::{ModuleInfo, PrimitiveTypeInfo};
 
 /// All that a rewrite may do to the number of operators.

@@ -7,12 +7,12 @@ use crate::notation::{body_of, fields_of, locals, module_of};
 use crate::rows::{EXACT_ROWS, ROWS};
 use crate::wraps::{BEHIND_FLOW, FIRST_OF_FLOW};
 use body_rewrites::{Body, Rewrite, blocks_of, rewrite_body, trees_of};
-use peephole_machine::IntegerType;
 use rewrite_rules::{row_count, rule_names, rules_of_rows};
 use std::alloc::Global;
 use std::process::Abort;
 use std::test::Fail;
 use wasm_code::{Function, read_body};
+use wasm_execution::IntegerType;
 use wasm_types::PrimitiveTypeInfo;
 
 /// What a rule draws.

@@ -1,13 +1,13 @@
 //! Each public call on rows of the table: names and numbers of rules, values of numbers, conditions, moves, whether rows apply, and
 //! accesses.
 
-use peephole_machine::IntegerType;
 use rewrite_rules::{
     Condition, Effects, Number, Rule, access_at, all_rules, may_move, row_at, row_count,
     rule_count, rule_names, rules_of_rows,
 };
 use std::test::Fail;
 use wasm_code::{Imm, MemArg};
+use wasm_execution::IntegerType;
 
 /// Names of rules, and their numbers, as callers in C have them.
 const NAMES: [(&str, usize); 53] = [

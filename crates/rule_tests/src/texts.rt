@@ -1,8 +1,8 @@
 //! The texts of rows, and what they do to the number of instructions.
 
-use peephole_machine::{Binary, IntegerType, Operation};
 use rewrite_rules::{Growth, Number, Row, Step, TableRow, Widths, row_at, row_count};
 use std::test::Fail;
+use wasm_execution::{Binary, IntegerType, Operation};
 use wasm_types::PrimitiveTypeInfo;
 
 /// Numbers of rows, and their texts.

@@ -2,11 +2,11 @@
 //! conditionals, conditions that are tested, code that is never reached, indices of branches by a table, and branches in conditionals.
 
 use body_rewrites::{Body, Rewrite, blocks_of, rewrite_body, trees_of};
-use peephole_machine::IntegerType;
 use rewrite_rules::Rule;
 use std::alloc::Global;
 use std::test::Fail;
 use wasm_code::{Function, read_body};
+use wasm_execution::IntegerType;
 use wasm_types::{ModuleInfo, PrimitiveTypeInfo};
 
 /// `i32.const 5`, `drop`, `end`.

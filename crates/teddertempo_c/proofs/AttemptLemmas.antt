@@ -16,7 +16,7 @@ use Rattle.module_rewrites.specs.declared.dose.Dose.{Dose}
 use Rattle.module_rewrites.specs.declared.dose.Dose.TheVariants.{Times}
 use Rattle.module_rewrites.specs.declared.times.RewrittenModule.{RewrittenModule}
 use Rattle.teddertempo_c.specs.Options.{rules_of, function_of, dose_of, most_of, is_exact, shrinks}
-use Rattle.teddertempo_c.specs.Reports.{asked_of}
+use Rattle.teddertempo_c.specs.Reports.{asked_of_options}
 use Rattle.teddertempo_c.specs.Rules.{every_rule}
 use Rattle.teddertempo_c.specs.Writes.{Asked, Fits, IsRefusedFor, IsRewrittenBy, once}
 use Rattle.teddertempo_c.specs.declared.options.Options.{Options}
@@ -65,7 +65,11 @@ uncounted asked bytes reason is reading = record { is = is; gives_up = λ size. 
 -- ---- once
 
 abbrev pub once_with : (seed : ℕ) → List Rule → (room : ℕ) → Asked
-once_with seed rules room = record { seed = seed; scope = record { rules = rules; function = None; most = room; shrinking = false; exact = false }; dose = Times 1 }
+once_with seed rules room = record {
+  seed = seed;
+  scope = record { rules = rules; function = None; most = room; shrinking = false; exact = false };
+  dose = Times 1;
+}
 
 pub once_same : (seed : ℕ) (rules : List Rule) (room : ℕ) → rules ≡ every_rule → once_with seed rules room ≡ once seed room
 once_same seed rules room e = ap (λ r. once_with seed r room) e
@@ -81,7 +85,7 @@ asked_with options rules function most dose shrinking exact = record {
 
 pub asked_same : (options : Options) (size room : ℕ) (rules : List Rule) (function : Option ℕ) (most : ℕ) (dose : Dose)
     (shrinking exact : Bool) → rules ≡ rules_of options → function ≡ function_of options → most ≡ most_of options size room → dose ≡ dose_of options →
-    shrinking ≡ shrinks options → exact ≡ is_exact options → asked_with options rules function most dose shrinking exact ≡ asked_of options size room
+    shrinking ≡ shrinks options → exact ≡ is_exact options → asked_with options rules function most dose shrinking exact ≡ asked_of_options options size room
 asked_same options size room rules function most dose shrinking exact a b c d e f = cc
 
 pub fits_room : (options : Options) (size room : ℕ) (r : Result RewrittenModule Reason) →

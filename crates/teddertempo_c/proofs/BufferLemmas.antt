@@ -17,7 +17,7 @@ use denote.Memory.{mem, shares, share_laws}
 use denote.Plain.{uint_vals, uint_Tells, uint_copy}
 use denote.RawPtr.{block_ptr}
 use denote.Slice.{MutSlice, slice_val, finally}
-use Rattle.teddertempo_c.specs.Buffer.{bytes_at}
+use Rattle.teddertempo_c.specs.Buffer.{buffer_bytes_at}
 
 -- the bytes one by one, and how many they are
 abbrev pub Bytes : ℕ → ℕ → ℕ → List ℕ → Fml
@@ -40,12 +40,12 @@ module _ {M : Type 1} {𝓤 : Ura M} (𝓛 : Logic 𝓤) (n b o : ℕ) where
   laws : PartsLaws 𝓛 (mem u8) (shares u8)
   laws = share_laws 𝓛 u8 (Is u8) (shows 𝓛 u8) (uint_vals w8) (uint_Tells w8) (uint_copy 𝓛 w8)
 
-  pub bytes_out : (bytes : List ℕ) → ent 𝓤 (sem 𝓛 (bytes_at (block_ptr b o) n bytes)) (sem 𝓛 (Bytes n b o bytes))
+  pub bytes_out : (bytes : List ℕ) → ent 𝓤 (sem 𝓛 (buffer_bytes_at (block_ptr b o) n bytes)) (sem 𝓛 (Bytes n b o bytes))
   bytes_out bytes =
       via 𝓤 (sem 𝓛 ((arr_parts (shares u8) n).part full_share bytes b o)) (Array-apart 𝓛 u8 full_share tt n bytes b o)
       ((arr_laws 𝓛 (mem u8) (shares u8) laws n).whole_in bytes b o)
 
-  bytes_in : (bytes : List ℕ) → ent 𝓤 (sem 𝓛 (Bytes n b o bytes)) (sem 𝓛 (bytes_at (block_ptr b o) n bytes))
+  bytes_in : (bytes : List ℕ) → ent 𝓤 (sem 𝓛 (Bytes n b o bytes)) (sem 𝓛 (buffer_bytes_at (block_ptr b o) n bytes))
   bytes_in bytes =
       via 𝓤 (sem 𝓛 ((arr_parts (shares u8) n).part full_share bytes b o)) ((arr_laws 𝓛 (mem u8) (shares u8) laws n).whole_out bytes b o)
       (Array-whole 𝓛 u8 full_share n bytes b o)
@@ -55,7 +55,7 @@ module _ {M : Type 1} {𝓤 : Ura M} (𝓛 : Logic 𝓤) (n b o : ℕ) where
     lends_bytes = lends_slice 𝓛 u8 (named 0) κ old b o (omega arith, omega arith)
 
     pub bytes_back : (γ : GName) (new : List ℕ) → ent 𝓤 (sep 𝓤 (A.dead κ) (sep 𝓤 (sem 𝓛 (Behind κ b o γ old)) (sem 𝓛 (finally u8 γ new))))
-        (H.⇛ (sem 𝓛 (bytes_at (block_ptr b o) n new)))
+        (H.⇛ (sem 𝓛 (buffer_bytes_at (block_ptr b o) n new)))
     bytes_back γ new =
         qed 𝓛 (‵ (fdead κ) ∷ ‵ (Behind κ b o γ old) ∷ ‵ (finally u8 γ new) ∷ []) ∵ updating ! $
         use3 𝓛 (later (‵ (Bytes (length old) b o new))) (slice_back 𝓛 u8 κ γ new (length old) b o) $ await ! tt $

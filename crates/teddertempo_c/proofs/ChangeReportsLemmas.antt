@@ -11,12 +11,13 @@ use Rattle.module_changes.specs.declared.refusal.Refusal.TheVariants as refusals
 use Rattle.module_changes.specs.declared.entry.MadeChange.{MadeChange}
 use Rattle.module_rewrites.specs.Seeded.{seeded}
 use Rattle.module_rewrites.specs.declared.attempt.Reason.TheVariants as reasons
-use Rattle.teddertempo_c.specs.ChangeOptions.{AreBad, count_of, scope_of}
-use Rattle.teddertempo_c.specs.ChangeReports.{ChangesWith, IsAttempt, IsChangedAs, IsOutcome, IsChangedSo, IsOutcomeFor, TellsChanges, offset_by, outcome_by}
+use Rattle.teddertempo_c.specs.ChangeOptions.{AreBad, count_of, scope_of_change_options}
+use Rattle.teddertempo_c.specs.ChangeReports.{ChangesWith, IsAttempt, IsChangedBySeed, IsOutcome, IsChangedSo, IsOutcomeFor, TellsChanges}
+use Rattle.teddertempo_c.specs.ChangeReports.{offset_by, outcome_by}
 use Rattle.teddertempo_c.specs.Changes.{HasSize}
 use Rattle.teddertempo_c.specs.Outcome.{outcome_number}
 use Rattle.teddertempo_c.specs.Reported.{IsNone, TellsNone}
-use Rattle.teddertempo_c.specs.Writes.{IsPut}
+use Rattle.teddertempo_c.specs.Writes.{IsPutInBuffer}
 use Rattle.teddertempo_c.specs.declared.change_options.ChangeOptions.{ChangeOptions}
 use Rattle.teddertempo_c.specs.declared.outcome.Outcome.{Outcome}
 use Rattle.teddertempo_c.specs.declared.outcome.Outcome.TheVariants.{NoMemory, BadOptions}
@@ -29,9 +30,9 @@ use Rattle.teddertempo_c.proofs.WritesLemmas.{front_is}
 -- ---- a new module's size
 
 module _ (options : ChangeOptions) (size room : ℕ) (bytes : List ℕ) where
-  size_so : (made : List MadeChange) (new : List ℕ) → IsChangedAs options size room bytes made new → HasSize room new
+  size_so : (made : List MadeChange) (new : List ℕ) → IsChangedBySeed options size room bytes made new → HasSize room new
   size_so made new is =
-      let has = size_of_all (scope_of options size room) (count_of options) bytes (seeded options.seed) made new is.stopped is.changes in
+      let has = size_of_all (scope_of_change_options options size room) (count_of options) bytes (seeded options.seed) made new is.stopped is.changes in
       let below = min-le_left room (size + options.max_growth) in
       record { some = has.some; fits = omega (arith, has.fits, below) }
 
@@ -59,10 +60,10 @@ module _ (options : ChangeOptions) (report_size size : ℕ) (buffer : List ℕ) 
   sized inside = length-take-le size buffer inside
 
   pub attempt_so : (made : List MadeChange) (new : List ℕ) → ¬ Bad →
-      IsChangedAs options (length (take size buffer)) (length buffer) (take size buffer) made new →
+      IsChangedBySeed options (length (take size buffer)) (length buffer) (take size buffer) made new →
       IsAttempt options report_size size buffer made new
   attempt_so made new good is =
-      let there = subst (λ (n : ℕ). IsChangedAs options n (length buffer) (take size buffer) made new) (sized (inside_of good)) is in
+      let there = subst (λ (n : ℕ). IsChangedBySeed options n (length buffer) (take size buffer) made new) (sized (inside_of good)) is in
       record {
         inside = inside_of good;
         good = good;
@@ -71,12 +72,13 @@ module _ (options : ChangeOptions) (report_size size : ℕ) (buffer : List ℕ) 
       }
 
   pub none_so : (refusal : Refusal) (outcome : Outcome) (offset : ℕ) → ¬ Bad →
-      IsRefusal (scope_of options (length (take size buffer)) (length buffer)) (take size buffer) (seeded options.seed) refusal →
+      IsRefusal (scope_of_change_options options (length (take size buffer)) (length buffer)) (take size buffer) (seeded options.seed) refusal →
       outcome ≡ outcome_by refusal → offset ≡ offset_by refusal → IsNone (IsOutcomeFor options size buffer) Bad outcome offset
   none_so refusal outcome offset good is same place =
       none_for (IsOutcomeFor options size buffer) Bad (λ n h. h) outcome (outcome_by refusal) offset (offset_by refusal) good
-      (by_refusal (scope_of options size (length buffer)) (take size buffer) (seeded options.seed) refusal
-      (subst (λ (n : ℕ). IsRefusal (scope_of options n (length buffer)) (take size buffer) (seeded options.seed) refusal) (sized (inside_of good)) is))
+      (by_refusal (scope_of_change_options options size (length buffer)) (take size buffer) (seeded options.seed) refusal
+      (subst (λ (n : ℕ). IsRefusal (scope_of_change_options options n (length buffer)) (take size buffer) (seeded options.seed) refusal)
+      (sized (inside_of good)) is))
       same place
 
   pub none_memory : (outcome : Outcome) (offset : ℕ) → ¬ Bad → outcome ≡ NoMemory → offset ≡ 0 → IsNone (IsOutcomeFor options size buffer) Bad outcome offset
@@ -90,14 +92,14 @@ module _ (options : ChangeOptions) (report_size size : ℕ) (buffer : List ℕ) 
 
 module _ (options : ChangeOptions) (size : ℕ) (old : List ℕ) (before : Report) where
   pub with_changes : (made : List MadeChange) (bytes : List ℕ) (result : ℕ) (new : List ℕ) (report : Report) →
-      IsAttempt options before.struct_size size old made bytes → IsPut bytes old result new → report.outcome ≡ 0 → TellsChanges made report →
+      IsAttempt options before.struct_size size old made bytes → IsPutInBuffer bytes old result new → report.outcome ≡ 0 → TellsChanges made report →
       report.struct_size ≡ before.struct_size → ChangesWith options size old result new before report
   with_changes made bytes result new report is put number tells stays =
       reports_done (IsOutcomeFor options size old) (AreBad options before.struct_size size (length old)) (IsChangedSo options size old result new) old before
       bytes result new report is.good put is.fits.some is.fits.fits number (record {
         inside = is.inside;
         made = made;
-        is = subst (IsChangedAs options size (length old) (take size old) made) (sym (front_is bytes old result new put)) is.is;
+        is = subst (IsChangedBySeed options size (length old) (take size old) made) (sym (front_is bytes old result new put)) is.is;
         tells = tells;
       }) stays
 

@@ -4,13 +4,13 @@ use Rattle.std.specs.Prelude.{IfOk}
 use Rattle.rand_core.specs.Stream.{Stream}
 use Rattle.module_changes.specs.Chosen.{ChoosesOne}
 use Rattle.module_changes.specs.Scope.{Scope}
-use Rattle.module_changes.specs.Times.{ChangesTimes, ChoosesEach, IsRefusal}
+use Rattle.module_changes.specs.Times.{ChangesTimes, ChoosesEachChange, IsRefusal}
 use Rattle.module_changes.specs.declared.entry.MadeChange.{MadeChange}
 use Rattle.module_changes.specs.declared.refusal.Refusal.{Refusal}
 use Rattle.module_changes.specs.declared.times.ChangedModule.{ChangedModule}
 use Rattle.module_rewrites.specs.Seeded.{seeded}
 use Rattle.teddertempo_c.specs.Changes.{any_change, ChangesOnce, HasSize, IsChangedBy}
-use Rattle.teddertempo_c.specs.Writes.{IsPut}
+use Rattle.teddertempo_c.specs.Writes.{IsPutInBuffer}
 use Rattle.teddertempo_c.proofs.FitsLemmas.{length-rewritten}
 use Rattle.teddertempo_c.proofs.WritesLemmas.{front_is, writes_front, writes_nothing}
 
@@ -23,7 +23,7 @@ size_of_one scope bytes s m new after c =
     record { some = length-rewritten _ _ _ _ _ new makes.written; fits = makes.fits }
 
 size_of_each : (scope : Scope) (bytes : List ℕ) (s : Stream) (m : MadeChange) (ms : List MadeChange) (new : List ℕ) (after : Stream) →
-    ChoosesEach scope bytes s (m ∷ ms) new after → HasSize scope.size new
+    ChoosesEachChange scope bytes s (m ∷ ms) new after → HasSize scope.size new
 size_of_each scope bytes s m [] new after h =
     subst (HasSize scope.size) (sym h.3.0) (size_of_one scope bytes s m h.0 h.1 h.2)
 size_of_each scope bytes s m (k ∷ ks) new after h = size_of_each scope h.0 h.1 k ks new after h.3
@@ -37,7 +37,7 @@ size_of_all scope count bytes s (m ∷ ms) new stopped h = size_of_each scope by
 
 module _ (seed size : ℕ) (old : List ℕ) where
   pub change_made : (bytes : List ℕ) (result : ℕ) (new : List ℕ) → size ≤ length old → IsChangedBy seed (length old) (take size old) bytes →
-      HasSize (length old) bytes → IsPut bytes old result new → ChangesOnce seed size old result new
+      HasSize (length old) bytes → IsPutInBuffer bytes old result new → ChangesOnce seed size old result new
   change_made bytes result new inside is fits put = record {
     writes = writes_front bytes old result new put fits.fits fits.some;
     changed = λ some. record {

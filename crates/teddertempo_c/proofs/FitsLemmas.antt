@@ -8,7 +8,7 @@ use Rattle.wasm_types.specs.declared.types.PrimitiveTypeInfo.{PrimitiveTypeInfo}
 use Rattle.wasm_sections.specs.declared.id.SectionId.TheVariants as ids
 use Rattle.wasm_sections.specs.Id.{id_code}
 use Rattle.wasm_module.specs.Module.{Layout}
-use Rattle.wasm_module.specs.Rewritten.{code_with, IsRewritten}
+use Rattle.wasm_module.specs.Rewritten.{code_section_with, IsRewritten}
 use Rattle.rewrite_rules.specs.Rule.{rule_number}
 use Rattle.body_rewrites.specs.Choice.{IsOf}
 use Rattle.body_rewrites.specs.Listing.{AreThose}
@@ -26,7 +26,7 @@ not_empty front size contents behind new id is = omega (arith, simp length-appen
 pub length-rewritten : (bytes : List ℕ) (layout : Layout) (n : ℕ) (contents : List ℕ) (more : List PrimitiveTypeInfo) (new : List ℕ) →
     IsRewritten bytes layout n contents more new → 0 < length new
 length-rewritten bytes layout n contents more new w =
-    let code = code_with bytes w.code w.entry contents in
+    let code = code_section_with bytes w.code w.entry contents in
     not_empty w.front (shortest (length code)) code (drop w.code.end bytes) new (id_code ids.Code) w.new_is
 
 record HasSize (most : ℕ) (new : List ℕ) : Type 0 where

@@ -1,5 +1,6 @@
 -- As much of a name as there is room for; the rule of a name.
-use Rattle.std.proofs.Common.{◌≡◌, ◌≢◌, ℕ, zero, suc, Bool, true, List, [], ◌∷◌, ◌++◌, length, take, drop, Option, Some, None, refl, sym, ap, subst, ◌∙◌, arith, lit<}
+use Rattle.std.proofs.Common.{◌≡◌, ◌≢◌, ℕ, zero, suc, Bool, true, List, [], ◌∷◌, ◌++◌, length, take, drop, Option, Some, None, refl, sym}
+use Rattle.std.proofs.Common.{ap, subst, ◌∙◌, arith, lit<}
 use Rattle.std.specs.Prelude.{ltb, min, slice_get, MatchOption, IsUtf8}
 use Rattle.std.proofs.lemmas.List.{take_min, drop_min}
 use Rattle.std.proofs.Math.Nat.{min_comm}
@@ -8,7 +9,7 @@ use Rattle.std.specs.Str.{IsAscii}
 use Rattle.std.proofs.lemmas.Bool.{and_parts, ltb-true}
 use Rattle.std.proofs.lemmas.Option.{same_Some, slice_get-get_or, unwrap_or-slice_get}
 use Rattle.std.proofs.lemmas.Str.{IsUtf8-from_ascii}
-use Rattle.rewrite_rules.specs.Names.{names, AreFew}
+use Rattle.rewrite_rules.specs.Names.{names, AreFewRowsAndRules}
 use Rattle.rewrite_rules.specs.Rule.{rule_name, rule_number}
 use Rattle.rewrite_rules.specs.Table.{parts}
 use Rattle.rewrite_rules.specs.declared.rule.Rule.{Rule}
@@ -67,5 +68,5 @@ module _ (rule : Rule) (number : ℕ) (is : number ≡ rule_number rule) where
   pub number_names : (name : List ℕ) → rule_name rule ≡ name → slice_get names number ≡ Some name
   number_names name e = ap (slice_get names) is ∙ at_number rule ∙ ap (λ t. Some t) e
 
-  pub is_number : AreFew → number ≢ 18446744073709551615
+  pub is_number : AreFewRowsAndRules → number ≢ 18446744073709551615
   is_number law most = let few = law.names in let below = rule.is_there in omega (arith, few, below, is, most)

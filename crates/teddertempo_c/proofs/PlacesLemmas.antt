@@ -18,7 +18,7 @@ use Rattle.teddertempo_c.specs.Changes.{HasSize}
 use Rattle.teddertempo_c.specs.Outcome.{outcome_by_fault, outcome_number}
 use Rattle.teddertempo_c.specs.Places.{most_of, ChangesPlace, IsAttempt, IsBad, IsChangedSo, IsChangedThere, IsOutcomeFor, Names}
 use Rattle.teddertempo_c.specs.Reported.{IsNone, TellsNone}
-use Rattle.teddertempo_c.specs.Writes.{IsPut}
+use Rattle.teddertempo_c.specs.Writes.{IsPutInBuffer}
 use Rattle.teddertempo_c.specs.declared.outcome.Outcome.{Outcome}
 use Rattle.teddertempo_c.specs.declared.outcome.Outcome.TheVariants.{Rewritten, BadOptions}
 use Rattle.teddertempo_c.specs.declared.place.Place.{Place}
@@ -123,7 +123,7 @@ module _ (place : Place) (size : ℕ) (old : List ℕ) (before : Report) where
   BadNow = IsBad place before.struct_size size (length old)
 
   pub with_changes : (made : List MadeChange) (bytes : List ℕ) (result : ℕ) (new : List ℕ) (report : Report) →
-      IsAttempt place before.struct_size size old made bytes → IsPut bytes old result new → report.outcome ≡ 0 → TellsChanges made report →
+      IsAttempt place before.struct_size size old made bytes → IsPutInBuffer bytes old result new → report.outcome ≡ 0 → TellsChanges made report →
       report.struct_size ≡ before.struct_size → ChangesPlace place size old result new before report
   with_changes made bytes result new report is put number tells stays =
       reports_done (IsOutcomeFor place size old) BadNow (IsChangedSo place size old result new) old before bytes result new report is.good put is.fits.some

@@ -7,8 +7,8 @@ use Rattle.module_rewrites.specs.declared.times.MadeRewrite.{MadeRewrite}
 use Rattle.teddertempo_c.specs.Options.{AreBad}
 use Rattle.teddertempo_c.specs.Outcome.{offset_by, outcome_by, outcome_number}
 use Rattle.teddertempo_c.specs.Reported.{IsNone, TellsNone}
-use Rattle.teddertempo_c.specs.Reports.{IsAttempt, IsOutcomeFor, IsRewrittenSo, MutatesWith, TellsMade, asked_of}
-use Rattle.teddertempo_c.specs.Writes.{Fits, IsPut, IsRefusedFor, IsRewrittenBy}
+use Rattle.teddertempo_c.specs.Reports.{IsAttempt, IsOutcomeFor, IsRewrittenSo, MutatesWith, TellsMade, asked_of_options}
+use Rattle.teddertempo_c.specs.Writes.{Fits, IsPutInBuffer, IsRefusedFor, IsRewrittenBy}
 use Rattle.teddertempo_c.specs.declared.options.Options.{Options}
 use Rattle.teddertempo_c.specs.declared.outcome.Outcome.{Outcome}
 use Rattle.teddertempo_c.specs.declared.outcome.Outcome.TheVariants.{NoMemory, BadOptions}
@@ -28,22 +28,22 @@ module _ (options : Options) (report_size size : ℕ) (buffer : List ℕ) where
   sized inside = length-take-le size buffer inside
 
   pub attempt_so : (made : List MadeRewrite) (new : List ℕ) → ¬ Bad →
-      IsRewrittenBy (asked_of options (length (take size buffer)) (length buffer)) (take size buffer) made new → Fits (length buffer) made new →
+      IsRewrittenBy (asked_of_options options (length (take size buffer)) (length buffer)) (take size buffer) made new → Fits (length buffer) made new →
       IsAttempt options report_size size buffer made new
   attempt_so made new good is fits = record {
     inside = inside_of good;
     good = good;
-    is = subst (λ (n : ℕ). IsRewrittenBy (asked_of options n (length buffer)) (take size buffer) made new) (sized (inside_of good)) is;
+    is = subst (λ (n : ℕ). IsRewrittenBy (asked_of_options options n (length buffer)) (take size buffer) made new) (sized (inside_of good)) is;
     fits = fits;
   }
 
   pub refusal_so : (reason : Reason) (outcome : Outcome) (offset : ℕ) → ¬ Bad →
-      IsRefusedFor (asked_of options (length (take size buffer)) (length buffer)) (take size buffer) reason → outcome ≡ outcome_by reason →
+      IsRefusedFor (asked_of_options options (length (take size buffer)) (length buffer)) (take size buffer) reason → outcome ≡ outcome_by reason →
       offset ≡ offset_by reason → IsNone (IsOutcomeFor options size buffer) Bad outcome offset
   refusal_so reason outcome offset good is same place =
       none_for (IsOutcomeFor options size buffer) Bad (λ n h. h) outcome (outcome_by reason) offset (offset_by reason) good
-      (by_reason (asked_of options size (length buffer)) (take size buffer) reason
-      (subst (λ (n : ℕ). IsRefusedFor (asked_of options n (length buffer)) (take size buffer) reason) (sized (inside_of good)) is)) same place
+      (by_reason (asked_of_options options size (length buffer)) (take size buffer) reason
+      (subst (λ (n : ℕ). IsRefusedFor (asked_of_options options n (length buffer)) (take size buffer) reason) (sized (inside_of good)) is)) same place
 
   pub refusal_memory : (outcome : Outcome) (offset : ℕ) → ¬ Bad → outcome ≡ NoMemory → offset ≡ 0 →
       IsNone (IsOutcomeFor options size buffer) Bad outcome offset
@@ -57,7 +57,7 @@ module _ (options : Options) (report_size size : ℕ) (buffer : List ℕ) where
 
 module _ (options : Options) (size : ℕ) (old : List ℕ) (before : Report) where
   pub with_made : (made : List MadeRewrite) (bytes : List ℕ) (result : ℕ) (new : List ℕ) (report : Report) →
-      IsAttempt options before.struct_size size old made bytes → IsPut bytes old result new → report.outcome ≡ 0 → TellsMade made report →
+      IsAttempt options before.struct_size size old made bytes → IsPutInBuffer bytes old result new → report.outcome ≡ 0 → TellsMade made report →
       report.struct_size ≡ before.struct_size → MutatesWith options size old result new before report
   with_made made bytes result new report is put number tells stays =
       reports_done (IsOutcomeFor options size old) (AreBad options before.struct_size size (length old)) (IsRewrittenSo options size old result new) old before

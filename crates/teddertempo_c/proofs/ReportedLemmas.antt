@@ -2,9 +2,10 @@
 use Rattle.std.proofs.Common.{◌≡◌, ℕ, ◌<◌, ◌≤◌, List, length, refl, sym, subst, arith}
 use Rattle.teddertempo_c.specs.Outcome.{outcome_number}
 use Rattle.teddertempo_c.specs.Reported.{IsNone, IsWhyNone, Reported, TellsNone}
-use Rattle.teddertempo_c.specs.Writes.{IsPut}
+use Rattle.teddertempo_c.specs.Writes.{IsPutInBuffer}
 use Rattle.teddertempo_c.specs.declared.outcome.Outcome.{Outcome}
-use Rattle.teddertempo_c.specs.declared.outcome.Outcome.TheVariants.{Rewritten, NotAModule, LinkableObject, Unreadable, NoRule, NoFunction, TooLarge, NoMemory, BadOptions}
+use Rattle.teddertempo_c.specs.declared.outcome.Outcome.TheVariants.{Rewritten, NotAModule, LinkableObject, Unreadable, NoRule, NoFunction}
+use Rattle.teddertempo_c.specs.declared.outcome.Outcome.TheVariants.{TooLarge, NoMemory, BadOptions}
 use Rattle.teddertempo_c.specs.declared.report.Report.{Report}
 use Rattle.teddertempo_c.proofs.WritesLemmas.{writes_front, writes_nothing}
 
@@ -42,7 +43,7 @@ module _ (IsOutcome : (offset : ℕ) → Outcome → Type 0) (Bad : Type 0) wher
   -- ---- the call
 
   module _ (IsDone : Report → Type 0) (old : List ℕ) (before : Report) where
-    pub reports_done : (bytes : List ℕ) (result : ℕ) (new : List ℕ) (report : Report) → ¬ Bad → IsPut bytes old result new → 0 < length bytes →
+    pub reports_done : (bytes : List ℕ) (result : ℕ) (new : List ℕ) (report : Report) → ¬ Bad → IsPutInBuffer bytes old result new → 0 < length bytes →
         length bytes ≤ length old → report.outcome ≡ 0 → IsDone report → report.struct_size ≡ before.struct_size →
         Reported IsDone IsOutcome Bad old result new before report
     reports_done bytes result new report good put some fits number done stays = record {

@@ -9,23 +9,23 @@ use Rattle.body_changes.specs.declared.change.Change.{Change}
 use Rattle.module_changes.specs.Sites.{AreSitesOf}
 use Rattle.module_changes.specs.declared.sites.Site.{Site}
 use Rattle.teddertempo_c.specs.ChangeOptions.{change_number}
-use Rattle.teddertempo_c.specs.Sites.{rows_of, AreRows, HoldsRows}
+use Rattle.teddertempo_c.specs.Sites.{site_rows_of, AreRows, HoldsRows}
 use Rattle.teddertempo_c.specs.declared.sites.SiteRow.{SiteRow}
 
 -- one row more
 pub next_row : (function : ℕ) (sites : List Site) (k : ℕ) (d : Site) (old rows new : List SiteRow) (r : SiteRow) → k < length sites →
-    rows ≡ old ++ rows_of function (take k sites) →
+    rows ≡ old ++ site_rows_of function (take k sites) →
     r ≡ record { function = function; operator_index = (get_or sites k d).operator; change = change_number (get_or sites k d).change } →
-    new ≡ rows ++ r ∷ [] → new ≡ old ++ rows_of function (take (k + 1) sites)
+    new ≡ rows ++ r ∷ [] → new ≡ old ++ site_rows_of function (take (k + 1) sites)
 next_row function sites k d old rows new r inside h r_is e =
-    e ∙ (ap (λ (xs : List SiteRow). xs ++ r ∷ []) h ∙ (append_assoc old (rows_of function (take k sites)) (r ∷ [])
-    ∙ ap (λ (xs : List SiteRow). old ++ xs) (ap (λ (x : SiteRow). rows_of function (take k sites) ++ x ∷ []) r_is
+    e ∙ (ap (λ (xs : List SiteRow). xs ++ r ∷ []) h ∙ (append_assoc old (site_rows_of function (take k sites)) (r ∷ [])
+    ∙ ap (λ (xs : List SiteRow). old ++ xs) (ap (λ (x : SiteRow). site_rows_of function (take k sites) ++ x ∷ []) r_is
     ∙ sym (map_more (λ (s : Site). record { function = function; operator_index = s.operator; change = change_number s.change }) sites k d inside))))
 
 -- those of one function more
 pub next_rows : (changes : List Change) (bytes : List ℕ) (info : Module) (layout : Layout) (from n index : ℕ) (front rows : List SiteRow) (sites : List Site) →
     from ≤ n → AreRows changes bytes info layout from (n - from) front → AreSitesOf changes bytes info layout n sites →
-    (layout.imported_functions + n < 2 ^ 64 → index ≡ layout.imported_functions + n) → rows ≡ front ++ rows_of index sites →
+    (layout.imported_functions + n < 2 ^ 64 → index ≡ layout.imported_functions + n) → rows ≡ front ++ site_rows_of index sites →
     AreRows changes bytes info layout from ((n + 1) - from) rows
 next_rows changes bytes info layout from n index front rows sites low h are at e =
     let count : suc (n - from) ≡ (n + 1) - from = omega arith in
@@ -35,8 +35,8 @@ next_rows changes bytes info layout from n index front rows sites low h are at e
       sites,
       h,
       subst (λ (m : ℕ). AreSitesOf changes bytes info layout m sites) place are,
-      subst (λ (m : ℕ). layout.imported_functions + m < 2 ^ 64 → rows ≡ front ++ rows_of (layout.imported_functions + m) sites) place
-          (λ few. e ∙ ap (λ (i : ℕ). front ++ rows_of i sites) (at few)),
+      subst (λ (m : ℕ). layout.imported_functions + m < 2 ^ 64 → rows ≡ front ++ site_rows_of (layout.imported_functions + m) sites) place
+          (λ few. e ∙ ap (λ (i : ℕ). front ++ site_rows_of i sites) (at few)),
     )
 
 -- as many as there is room for

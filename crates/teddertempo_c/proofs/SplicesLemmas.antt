@@ -11,7 +11,7 @@ use Rattle.module_changes.specs.declared.splicing.SplicedModule.{SplicedModule}
 use Rattle.module_rewrites.specs.Seeded.{seeded}
 use Rattle.teddertempo_c.specs.Changes.{HasSize}
 use Rattle.teddertempo_c.specs.Splices.{copies_alone, IsSplicedBy, SplicesOnce}
-use Rattle.teddertempo_c.specs.Writes.{IsPut}
+use Rattle.teddertempo_c.specs.Writes.{IsPutInBuffer}
 use Rattle.teddertempo_c.proofs.FitsLemmas.{length-rewritten}
 use Rattle.teddertempo_c.proofs.WritesLemmas.{front_is, writes_front, writes_nothing}
 
@@ -44,7 +44,7 @@ spliced_so seed room bytes other s after (Ok m) is h k = record {
 
 module _ (seed size : ℕ) (other old : List ℕ) where
   pub splice_made : (bytes : List ℕ) (result : ℕ) (new : List ℕ) → size ≤ length old → IsSplicedBy seed (length old) (take size old) other bytes →
-      HasSize (length old) bytes → IsPut bytes old result new → SplicesOnce seed size other old result new
+      HasSize (length old) bytes → IsPutInBuffer bytes old result new → SplicesOnce seed size other old result new
   splice_made bytes result new inside is fits put = record {
     writes = writes_front bytes old result new put fits.fits fits.some;
     spliced = λ some. record {

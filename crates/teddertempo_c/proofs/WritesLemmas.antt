@@ -8,9 +8,9 @@ use Rattle.module_rewrites.specs.declared.attempt.Reason.{Reason}
 use Rattle.module_rewrites.specs.declared.attempt.Reason.TheVariants as reasons
 use Rattle.module_rewrites.specs.declared.mutation.MutationError.TheVariants as mutations
 use Rattle.module_rewrites.specs.declared.times.MadeRewrite.{MadeRewrite}
-use Rattle.teddertempo_c.specs.Writes.{Fits, IsPut, IsRefusedFor, IsRewrittenBy, MutatesOnce, WritesFront, once}
+use Rattle.teddertempo_c.specs.Writes.{Fits, IsPutInBuffer, IsRefusedFor, IsRewrittenBy, MutatesOnce, WritesFront, once}
 
-module _ (bytes old : List ℕ) (result : ℕ) (new : List ℕ) (put : IsPut bytes old result new) where
+module _ (bytes old : List ℕ) (result : ℕ) (new : List ℕ) (put : IsPutInBuffer bytes old result new) where
   pub front_is : take result new ≡ bytes
   front_is = ap (take result) put.is ∙ take_at bytes (drop (length bytes) old) result (sym put.size)
 
@@ -32,7 +32,7 @@ writes_nothing old = record { inside = omega arith; whole = refl; behind = refl;
 
 module _ (seed size : ℕ) (old : List ℕ) where
   pub once_made : (made : List MadeRewrite) (bytes : List ℕ) (result : ℕ) (new : List ℕ) → size ≤ length old →
-      IsRewrittenBy (once seed (length old)) (take size old) made bytes → Fits (length old) made bytes → IsPut bytes old result new →
+      IsRewrittenBy (once seed (length old)) (take size old) made bytes → Fits (length old) made bytes → IsPutInBuffer bytes old result new →
       MutatesOnce seed size old result new
   once_made made bytes result new inside is fits put = record {
     writes = writes_front bytes old result new put fits.fits fits.some;

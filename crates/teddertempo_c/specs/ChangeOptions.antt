@@ -56,6 +56,6 @@ abbrev pub most_of : ChangeOptions → (size room : ℕ) → ℕ
 most_of options size room = min room (size + options.max_growth)
 
 -- what the options ask for of a module of `size` bytes, in a buffer with that much room
-abbrev pub scope_of : ChangeOptions → (size room : ℕ) → Scope
-scope_of options size room =
+abbrev pub scope_of_change_options : ChangeOptions → (size room : ℕ) → Scope
+scope_of_change_options options size room =
     record { changes = changes_of options; function = function_of options; most = 8; size = most_of options size room }

@@ -3,7 +3,7 @@ use Rattle.std.specs.Prelude.{◌≡◌, false, true, ℕ, ◌≤◌, List, [], 
 use Rattle.rand_core.specs.Stream.{Stream}
 use Rattle.wasm_sections.specs.declared.fault.ModuleFault.TheVariants as faults
 use Rattle.wasm_module.specs.Fault.{IsModuleFault}
-use Rattle.module_changes.specs.Chosen.{GivesUp}
+use Rattle.module_changes.specs.Chosen.{ChangeGivesUp}
 use Rattle.module_changes.specs.Scope.{Scope}
 use Rattle.module_changes.specs.Times.{ChangesTimes}
 use Rattle.module_changes.specs.Valid.{StaysValidModule}
@@ -13,19 +13,20 @@ use Rattle.module_changes.specs.declared.refusal.Refusal.TheVariants as refusals
 use Rattle.module_rewrites.specs.Attempt.{RefusesIndexOf}
 use Rattle.module_rewrites.specs.Seeded.{seeded}
 use Rattle.module_rewrites.specs.declared.attempt.Reason.{Reason}
-use Rattle.teddertempo_c.specs.ChangeOptions.{AreBad, change_number, count_of, scope_of}
+use Rattle.teddertempo_c.specs.ChangeOptions.{AreBad, change_number, count_of, scope_of_change_options}
 use Rattle.teddertempo_c.specs.Changes.{HasSize}
 use Rattle.teddertempo_c.specs.Outcome.{IsNoModule, offset_by_fault, outcome_by_fault}
 use Rattle.teddertempo_c.specs.Reported.{Reported}
 use Rattle.teddertempo_c.specs.declared.change_options.ChangeOptions.{ChangeOptions}
 use Rattle.teddertempo_c.specs.declared.outcome.Outcome.{Outcome}
-use Rattle.teddertempo_c.specs.declared.outcome.Outcome.TheVariants.{Rewritten, NotAModule, LinkableObject, Unreadable, NoRule, NoFunction, TooLarge, NoMemory, BadOptions}
+use Rattle.teddertempo_c.specs.declared.outcome.Outcome.TheVariants.{Rewritten, NotAModule, LinkableObject, Unreadable, NoRule, NoFunction}
+use Rattle.teddertempo_c.specs.declared.outcome.Outcome.TheVariants.{TooLarge, NoMemory, BadOptions}
 use Rattle.teddertempo_c.specs.declared.report.Report.{Report}
 
 -- The new bytes are the module with these changes, at most as many as the options say, which the seed chooses; it is valid where the old one was.
-pub record IsChangedAs (options : ChangeOptions) (size room : ℕ) (bytes : List ℕ) (made : List MadeChange) (new : List ℕ) : Type 0 where
+pub record IsChangedBySeed (options : ChangeOptions) (size room : ℕ) (bytes : List ℕ) (made : List MadeChange) (new : List ℕ) : Type 0 where
   pub stopped : Option Refusal
-  pub changes : ChangesTimes (scope_of options size room) (count_of options) bytes (seeded options.seed) made new stopped
+  pub changes : ChangesTimes (scope_of_change_options options size room) (count_of options) bytes (seeded options.seed) made new stopped
   pub valid : StaysValidModule bytes new
 
 -- how many changes were made, and the function and the number of the last one
@@ -42,7 +43,7 @@ pub record TellsChanges (made : List MadeChange) (report : Report) : Type 0 wher
 pub record IsChangedSo (options : ChangeOptions) (size : ℕ) (old : List ℕ) (result : ℕ) (new : List ℕ) (report : Report) : Type 0 where
   pub inside : size ≤ length old
   pub made : List MadeChange
-  pub is : IsChangedAs options size (length old) (take size old) made (take result new)
+  pub is : IsChangedBySeed options size (length old) (take size old) made (take result new)
   pub tells : TellsChanges made report
 
 -- Why nothing of the module is changed; the offset is that of its fault, or 0. Nothing is said of a want of memory.
@@ -51,15 +52,15 @@ IsOutcome scope bytes s offset Rewritten = ⊥
 IsOutcome scope bytes s offset NotAModule = IsNoModule bytes offset
 IsOutcome scope bytes s offset LinkableObject = IsModuleFault bytes faults.Linkable offset
 IsOutcome scope bytes s offset Unreadable = ⊥
-IsOutcome scope bytes s offset NoRule = (offset ≡ 0) × GivesUp scope bytes false s
+IsOutcome scope bytes s offset NoRule = (offset ≡ 0) × ChangeGivesUp scope bytes false s
 IsOutcome scope bytes s offset NoFunction = (offset ≡ 0) × ((reason : Reason) × RefusesIndexOf scope.function bytes reason)
-IsOutcome scope bytes s offset TooLarge = (offset ≡ 0) × GivesUp scope bytes true s
+IsOutcome scope bytes s offset TooLarge = (offset ≡ 0) × ChangeGivesUp scope bytes true s
 IsOutcome scope bytes s offset NoMemory = offset ≡ 0
 IsOutcome scope bytes s offset BadOptions = ⊥
 
 -- that outcome is why nothing of the first `size` bytes is changed
 abbrev pub IsOutcomeFor : ChangeOptions → (size : ℕ) → (old : List ℕ) → (offset : ℕ) → Outcome → Type 0
-IsOutcomeFor options size old = IsOutcome (scope_of options size (length old)) (take size old) (seeded options.seed)
+IsOutcomeFor options size old = IsOutcome (scope_of_change_options options size (length old)) (take size old) (seeded options.seed)
 
 -- what the call does and reports
 abbrev pub ChangesWith : ChangeOptions → (size : ℕ) → (old : List ℕ) → (result : ℕ) → (new : List ℕ) → (before report : Report) → Type 0
@@ -73,7 +74,7 @@ ChangesWith options size old result new before report =
 pub record IsAttempt (options : ChangeOptions) (report_size size : ℕ) (buffer : List ℕ) (made : List MadeChange) (new : List ℕ) : Type 0 where
   pub inside : size ≤ length buffer
   pub good : AreBad options report_size size (length buffer) → ⊥
-  pub is : IsChangedAs options size (length buffer) (take size buffer) made new
+  pub is : IsChangedBySeed options size (length buffer) (take size buffer) made new
   pub fits : HasSize (length buffer) new
 
 -- what a refusal comes to

@@ -13,7 +13,8 @@ use Rattle.module_rewrites.specs.declared.mutation.MutationError.{MutationError}
 use Rattle.module_rewrites.specs.declared.mutation.MutationError.TheVariants as mutations
 use Rattle.teddertempo_c.specs.Writes.{Asked, IsRefusedFor}
 use Rattle.teddertempo_c.specs.declared.outcome.Outcome.{Outcome}
-use Rattle.teddertempo_c.specs.declared.outcome.Outcome.TheVariants.{Rewritten, NotAModule, LinkableObject, Unreadable, NoRule, NoFunction, TooLarge, NoMemory, BadOptions}
+use Rattle.teddertempo_c.specs.declared.outcome.Outcome.TheVariants.{Rewritten, NotAModule, LinkableObject, Unreadable, NoRule, NoFunction}
+use Rattle.teddertempo_c.specs.declared.outcome.Outcome.TheVariants.{TooLarge, NoMemory, BadOptions}
 
 -- the header's constants
 abbrev pub outcome_number : Outcome → ℕ
@@ -28,31 +29,31 @@ outcome_number NoMemory = 7
 outcome_number BadOptions = 8
 
 -- the fault is neither that of linkable objects nor a want of memory
-abbrev pub IsOther : ModuleFault → Type 0
-IsOther faults.Linkable = ⊥
-IsOther faults.Memory = ⊥
-IsOther fault = Unit {0}
+abbrev pub IsOtherFault : ModuleFault → Type 0
+IsOtherFault faults.Linkable = ⊥
+IsOtherFault faults.Memory = ⊥
+IsOtherFault fault = Unit {0}
 
 -- the bytes have such a fault there
 pub record IsNoModule (bytes : List ℕ) (offset : ℕ) : Type 0 where
   pub kind : ModuleFault
   pub is : IsModuleFault bytes kind offset
-  pub other : IsOther kind
+  pub other : IsOtherFault kind
 
 -- a rewrite is refused since its module isn't small enough: for the bytes that it may have, for sizes of 32 bits, or since it is no smaller
-abbrev pub IsTooLarge : MutationError → Type 0
-IsTooLarge (mutations.Read e) = ⊥
-IsTooLarge mutations.Memory = ⊥
-IsTooLarge (mutations.Write writes.TooLarge) = Unit {0}
-IsTooLarge (mutations.Write writes.EmptyType) = ⊥
-IsTooLarge (mutations.Write writes.Memory) = ⊥
-IsTooLarge mutations.TooLong = Unit {0}
-IsTooLarge mutations.NotSmaller = Unit {0}
+abbrev pub MutationIsTooLarge : MutationError → Type 0
+MutationIsTooLarge (mutations.Read e) = ⊥
+MutationIsTooLarge mutations.Memory = ⊥
+MutationIsTooLarge (mutations.Write writes.TooLarge) = Unit {0}
+MutationIsTooLarge (mutations.Write writes.EmptyType) = ⊥
+MutationIsTooLarge (mutations.Write writes.Memory) = ⊥
+MutationIsTooLarge mutations.TooLong = Unit {0}
+MutationIsTooLarge mutations.NotSmaller = Unit {0}
 
 -- so one is
 pub record IsRefusedAsTooLarge (asked : Asked) (bytes : List ℕ) : Type 0 where
   pub error : MutationError
-  pub large : IsTooLarge error
+  pub large : MutationIsTooLarge error
   pub is : IsRefusedFor asked bytes (reasons.Refused error)
 
 -- no rule applies in a function that can be read, or the module has no function of its own

@@ -59,7 +59,8 @@ pub record IsOutcomeFor (place : Place) (size : ℕ) (old : List ℕ) (offset : 
 -- what the call does and reports
 abbrev pub ChangesPlace : Place → (size : ℕ) → (old : List ℕ) → (result : ℕ) → (new : List ℕ) → (before report : Report) → Type 0
 ChangesPlace place size old result new before report =
-    Reported (IsChangedSo place size old result new) (IsOutcomeFor place size old) (IsBad place before.struct_size size (length old)) old result new before report
+    Reported (IsChangedSo place size old result new) (IsOutcomeFor place size old) (IsBad place before.struct_size size (length old)) old result new
+    before report
 
 -- ---- for private functions
 

@@ -11,8 +11,8 @@ use Rattle.teddertempo_c.specs.declared.outcome.Outcome.{Outcome}
 use Rattle.teddertempo_c.specs.declared.report.Report.{Report}
 
 -- what the options ask for of a module of `size` bytes, in a buffer with that much room
-abbrev pub asked_of : Options → (size room : ℕ) → Asked
-asked_of options size room = record {
+abbrev pub asked_of_options : Options → (size room : ℕ) → Asked
+asked_of_options options size room = record {
   seed = options.seed;
   scope = record {
     rules = rules_of options;
@@ -38,12 +38,12 @@ pub record TellsMade (made : List MadeRewrite) (report : Report) : Type 0 where
 pub record IsRewrittenSo (options : Options) (size : ℕ) (old : List ℕ) (result : ℕ) (new : List ℕ) (report : Report) : Type 0 where
   pub inside : size ≤ length old
   pub made : List MadeRewrite
-  pub is : IsRewrittenBy (asked_of options size (length old)) (take size old) made (take result new)
+  pub is : IsRewrittenBy (asked_of_options options size (length old)) (take size old) made (take result new)
   pub tells : TellsMade made report
 
 -- that outcome is why nothing of the first `size` bytes is rewritten
 abbrev pub IsOutcomeFor : Options → (size : ℕ) → (old : List ℕ) → (offset : ℕ) → Outcome → Type 0
-IsOutcomeFor options size old = IsOutcome (asked_of options size (length old)) (take size old)
+IsOutcomeFor options size old = IsOutcome (asked_of_options options size (length old)) (take size old)
 
 -- what the call does and reports
 abbrev pub MutatesWith : Options → (size : ℕ) → (old : List ℕ) → (result : ℕ) → (new : List ℕ) → (before report : Report) → Type 0
@@ -57,5 +57,5 @@ MutatesWith options size old result new before report =
 pub record IsAttempt (options : Options) (report_size size : ℕ) (buffer : List ℕ) (made : List MadeRewrite) (new : List ℕ) : Type 0 where
   pub inside : size ≤ length buffer
   pub good : AreBad options report_size size (length buffer) → ⊥
-  pub is : IsRewrittenBy (asked_of options size (length buffer)) (take size buffer) made new
+  pub is : IsRewrittenBy (asked_of_options options size (length buffer)) (take size buffer) made new
   pub fits : Fits (length buffer) made new

@@ -19,8 +19,8 @@ use Rattle.teddertempo_c.specs.declared.sites.SiteRow.{SiteRow}
 -- ---- the rows
 
 -- one for each site of the function with the index
-abbrev pub rows_of : (function : ℕ) → List Site → List SiteRow
-rows_of function sites = map (λ (s : Site). record { function = function; operator_index = s.operator; change = change_number s.change }) sites
+abbrev pub site_rows_of : (function : ℕ) → List Site → List SiteRow
+site_rows_of function sites = map (λ (s : Site). record { function = function; operator_index = s.operator; change = change_number s.change }) sites
 
 -- those of so many code entries from one on, in their order. (An index has 64 bits.)
 abbrev pub AreRows : List Change → (bytes : List ℕ) → Module → Layout → (from count : ℕ) → List SiteRow → Type 0
@@ -28,10 +28,10 @@ AreRows changes bytes info layout from zero rows = rows ≡ []
 AreRows changes bytes info layout from (suc count) rows =
     (front : List SiteRow) × (sites : List Site) × AreRows changes bytes info layout from count front
     × AreSitesOf changes bytes info layout (from + count) sites
-    × (layout.imported_functions + (from + count) < 2 ^ 64 → rows ≡ front ++ rows_of (layout.imported_functions + (from + count)) sites)
+    × (layout.imported_functions + (from + count) < 2 ^ 64 → rows ≡ front ++ site_rows_of (layout.imported_functions + (from + count)) sites)
 
 -- Those of the functions that may be changed.
-pub record AreListed (options : ChangeOptions) (bytes : List ℕ) (rows : List SiteRow) : Type 0 where
+pub record SitesAreListed (options : ChangeOptions) (bytes : List ℕ) (rows : List SiteRow) : Type 0 where
   pub info : Module
   pub layout : Layout
   pub is : IsModule bytes info layout
@@ -62,6 +62,7 @@ IsWhyNone options bytes reason = ⊥
 
 -- What the call does: it lists the sites; or nothing, since the options are bad, or for such a reason, and the room is as it was.
 pub data ListsSites (options : ChangeOptions) (bytes : List ℕ) (old : List SiteRow) (result : ℕ) (new : List SiteRow) : Type 0 where
-  listed : (rows : List SiteRow) → ¬ (AreBad options) → AreListed options bytes rows → HoldsRows rows old result new → ListsSites options bytes old result new
+  listed : (rows : List SiteRow) → ¬ (AreBad options) → SitesAreListed options bytes rows → HoldsRows rows old result new →
+      ListsSites options bytes old result new
   bad : AreBad options → result ≡ 0 → new ≡ old → ListsSites options bytes old result new
   refused : (reason : Reason) → ¬ (AreBad options) → IsWhyNone options bytes reason → result ≡ 0 → new ≡ old → ListsSites options bytes old result new

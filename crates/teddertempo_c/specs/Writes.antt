@@ -69,11 +69,11 @@ pub record MutatesOnce (seed size : ℕ) (old : List ℕ) (result : ℕ) (new : 
 -- ---- for private functions
 
 -- the row of the table is one of a rule
-abbrev pub IsOfRule : (row : ℕ) → Type 0
-IsOfRule row = (number : ℕ) × (rule_of row ≡ Some number)
+abbrev pub IsOfSomeRule : (row : ℕ) → Type 0
+IsOfSomeRule row = (number : ℕ) × (rule_of row ≡ Some number)
 
 abbrev pub HasRule : MadeRewrite → Type 0
-HasRule m = IsOfRule m.rewrite.row
+HasRule m = IsOfSomeRule m.rewrite.row
 
 -- a module that rewrites made: there is one, each is by a rule, and its bytes are some, and at most so many
 pub record Fits (most : ℕ) (made : List MadeRewrite) (new : List ℕ) : Type 0 where
@@ -83,6 +83,6 @@ pub record Fits (most : ℕ) (made : List MadeRewrite) (new : List ℕ) : Type 0
   pub fits : length new ≤ most
 
 -- the bytes are written over the front of the buffer, and the result is how many they are
-pub record IsPut (bytes old : List ℕ) (result : ℕ) (new : List ℕ) : Type 0 where
+pub record IsPutInBuffer (bytes old : List ℕ) (result : ℕ) (new : List ℕ) : Type 0 where
   pub size : result ≡ length bytes
   pub is : new ≡ bytes ++ drop (length bytes) old

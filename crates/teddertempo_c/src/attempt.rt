@@ -3,7 +3,7 @@ ghost use Rattle.std.specs.Prelude.{◌≡◌, length, IfOk, IfErr};
 ghost use Rattle.module_rewrites.specs.Dose.{IsOneOrMore};
 ghost use Rattle.teddertempo_c.specs.Options.{AreBad, rules_of};
 ghost use Rattle.teddertempo_c.specs.Reported.{IsNone};
-ghost use Rattle.teddertempo_c.specs.Reports.{IsAttempt, IsOutcomeFor, asked_of};
+ghost use Rattle.teddertempo_c.specs.Reports.{IsAttempt, IsOutcomeFor, asked_of_options};
 ghost use Rattle.teddertempo_c.specs.Rules.{every_rule};
 ghost use Rattle.teddertempo_c.specs.Writes.{Fits, IsRefusedFor, IsRewrittenBy, once};
 
@@ -86,11 +86,11 @@ fn rewritten_by(
 ) -> Result<RewrittenModule, Reason>
     requires rules { rules.now ≡ rules_of options.now }
     ensures rewritten { IfOk result (λ m. IsRewrittenBy
-        (asked_of options.now (length bytes.now) room)
+        (asked_of_options options.now (length bytes.now) room)
         bytes.now m.made.items m.bytes.items) }
     ensures fits { IfOk result (λ m. Fits room m.made.items m.bytes.items) }
     ensures refused { IfErr result
-        (IsRefusedFor (asked_of options.now (length bytes.now) room) bytes.now) }
+        (IsRefusedFor (asked_of_options options.now (length bytes.now) room) bytes.now) }
 {
     let scope = Scope {
         rules,

@@ -2,8 +2,8 @@
 ghost use Rattle.std.specs.Prelude.{◌≡◌, ◌<◌, IfErr, IfOk, length};
 ghost use Rattle.module_changes.specs.Times.{IsRefusal};
 ghost use Rattle.module_rewrites.specs.Seeded.{seeded};
-ghost use Rattle.teddertempo_c.specs.ChangeOptions.{AreBad, changes_of, scope_of};
-ghost use Rattle.teddertempo_c.specs.ChangeReports.{ChangesWith, IsAttempt, IsChangedAs, IsOutcomeFor, TellsChanges};
+ghost use Rattle.teddertempo_c.specs.ChangeOptions.{AreBad, changes_of, scope_of_change_options};
+ghost use Rattle.teddertempo_c.specs.ChangeReports.{ChangesWith, IsAttempt, IsChangedBySeed, IsOutcomeFor, TellsChanges};
 ghost use Rattle.teddertempo_c.specs.Changes.{any_change, ChangesOnce, HasSize, IsChangedBy};
 ghost use Rattle.teddertempo_c.specs.Reported.{IsNone};
 
@@ -65,9 +65,9 @@ fn changed_by(
     room: usize,
 ) -> Result<ChangedModule, Refusal>
     requires changes { changes.now ≡ changes_of options.now }
-    ensures changed { IfOk result (λ m. IsChangedAs options.now (length bytes.now) room
+    ensures changed { IfOk result (λ m. IsChangedBySeed options.now (length bytes.now) room
         bytes.now m.made.items m.bytes.items) }
-    ensures refused { IfErr result (IsRefusal (scope_of options.now (length bytes.now) room)
+    ensures refused { IfErr result (IsRefusal (scope_of_change_options options.now (length bytes.now) room)
         bytes.now (seeded options.now.seed)) }
 {
     let scope = Scope {

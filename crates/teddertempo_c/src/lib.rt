@@ -1,5 +1,7 @@
 //! The calls by which fuzzers and other programs in C rewrite instructions of a module, in place, so that it does what it did, or change
 //! it, so that it stays valid and computes something else. They are those of the header `teddertempo.h`.
+//!
+//! Tests: `examples/run.sh` and `tools/package_test.sh`, which call it from C and Rust.
 #![tactic(auto)]
 
 ghost use Rattle.std.specs.Prelude.{◌≡◌, ◌≢◌, ℕ, ◌^◌, ◌<◌, List, IfNone, IfSome, Some, length, slice_get};
@@ -7,7 +9,7 @@ ghost use Rattle.std.specs.Borrow.{sem};
 ghost use Rattle.rewrite_rules.specs.Names.{names};
 ghost use Rattle.rewrite_rules.specs.Rule.{rule_name};
 ghost use Rattle.rewrite_rules.specs.declared.rule.Rule.{Rule};
-ghost use Rattle.teddertempo_c.specs.Buffer.{bytes_at};
+ghost use Rattle.teddertempo_c.specs.Buffer.{buffer_bytes_at};
 ghost use Rattle.teddertempo_c.specs.ChangeReports.{ChangesWith};
 ghost use Rattle.teddertempo_c.specs.Changes.{ChangesOnce};
 ghost use Rattle.teddertempo_c.specs.Either.{EitherOnce};
@@ -69,8 +71,8 @@ pub unsafe extern "C" fn teddertempo_mutate(
     seed: u64,
 ) -> usize
     ghost old: { List ℕ }
-    requires* { sem 𝓛 (bytes_at «data» max_size old) ∗ ⌜ max_size < 2 ^ 63 ⌝ }
-    ensures* { ∃ₛ (λ new. sem 𝓛 (bytes_at «data» max_size new) ∗
+    requires* { sem 𝓛 (buffer_bytes_at «data» max_size old) ∗ ⌜ max_size < 2 ^ 63 ⌝ }
+    ensures* { ∃ₛ (λ new. sem 𝓛 (buffer_bytes_at «data» max_size new) ∗
         ⌜ MutatesOnce seed size old result new ⌝) }
 {
     mutate_in(
@@ -96,8 +98,8 @@ pub unsafe extern "C" fn teddertempo_mutate_with(
     report: &mut Report,
 ) -> usize
     ghost old: { List ℕ }
-    requires* { sem 𝓛 (bytes_at «data» max_size old) ∗ ⌜ max_size < 2 ^ 63 ⌝ }
-    ensures* { ∃ₛ (λ new. sem 𝓛 (bytes_at «data» max_size new) ∗
+    requires* { sem 𝓛 (buffer_bytes_at «data» max_size old) ∗ ⌜ max_size < 2 ^ 63 ⌝ }
+    ensures* { ∃ₛ (λ new. sem 𝓛 (buffer_bytes_at «data» max_size new) ∗
         ⌜ MutatesWith options.now size old result new report.old report.new ⌝) }
 {
     mutate_with_in(
@@ -127,8 +129,8 @@ pub unsafe extern "C" fn teddertempo_change(
     seed: u64,
 ) -> usize
     ghost old: { List ℕ }
-    requires* { sem 𝓛 (bytes_at «data» max_size old) ∗ ⌜ max_size < 2 ^ 63 ⌝ }
-    ensures* { ∃ₛ (λ new. sem 𝓛 (bytes_at «data» max_size new) ∗
+    requires* { sem 𝓛 (buffer_bytes_at «data» max_size old) ∗ ⌜ max_size < 2 ^ 63 ⌝ }
+    ensures* { ∃ₛ (λ new. sem 𝓛 (buffer_bytes_at «data» max_size new) ∗
         ⌜ ChangesOnce seed size old result new ⌝) }
 {
     change_in(
@@ -162,8 +164,8 @@ pub unsafe extern "C" fn teddertempo_splice(
     seed: u64,
 ) -> usize
     ghost old: { List ℕ }
-    requires* { sem 𝓛 (bytes_at «data» max_size old) ∗ ⌜ max_size < 2 ^ 63 ⌝ }
-    ensures* { ∃ₛ (λ new. sem 𝓛 (bytes_at «data» max_size new) ∗
+    requires* { sem 𝓛 (buffer_bytes_at «data» max_size old) ∗ ⌜ max_size < 2 ^ 63 ⌝ }
+    ensures* { ∃ₛ (λ new. sem 𝓛 (buffer_bytes_at «data» max_size new) ∗
         ⌜ SplicesOnce seed size other.now old result new ⌝) }
 {
     splice_in(
@@ -190,8 +192,8 @@ pub unsafe extern "C" fn teddertempo_either(
     keep: u32,
 ) -> usize
     ghost old: { List ℕ }
-    requires* { sem 𝓛 (bytes_at «data» max_size old) ∗ ⌜ max_size < 2 ^ 63 ⌝ }
-    ensures* { ∃ₛ (λ new. sem 𝓛 (bytes_at «data» max_size new) ∗
+    requires* { sem 𝓛 (buffer_bytes_at «data» max_size old) ∗ ⌜ max_size < 2 ^ 63 ⌝ }
+    ensures* { ∃ₛ (λ new. sem 𝓛 (buffer_bytes_at «data» max_size new) ∗
         ⌜ EitherOnce seed keep size old result new ⌝) }
 {
     either_in(
@@ -218,8 +220,8 @@ pub unsafe extern "C" fn teddertempo_change_with(
     report: &mut Report,
 ) -> usize
     ghost old: { List ℕ }
-    requires* { sem 𝓛 (bytes_at «data» max_size old) ∗ ⌜ max_size < 2 ^ 63 ⌝ }
-    ensures* { ∃ₛ (λ new. sem 𝓛 (bytes_at «data» max_size new) ∗
+    requires* { sem 𝓛 (buffer_bytes_at «data» max_size old) ∗ ⌜ max_size < 2 ^ 63 ⌝ }
+    ensures* { ∃ₛ (λ new. sem 𝓛 (buffer_bytes_at «data» max_size new) ∗
         ⌜ ChangesWith options.now size old result new report.old report.new ⌝) }
 {
     change_with_in(
@@ -251,8 +253,8 @@ pub unsafe extern "C" fn teddertempo_change_at(
     report: &mut Report,
 ) -> usize
     ghost old: { List ℕ }
-    requires* { sem 𝓛 (bytes_at «data» max_size old) ∗ ⌜ max_size < 2 ^ 63 ⌝ }
-    ensures* { ∃ₛ (λ new. sem 𝓛 (bytes_at «data» max_size new) ∗
+    requires* { sem 𝓛 (buffer_bytes_at «data» max_size old) ∗ ⌜ max_size < 2 ^ 63 ⌝ }
+    ensures* { ∃ₛ (λ new. sem 𝓛 (buffer_bytes_at «data» max_size new) ∗
         ⌜ ChangesPlace place.now size old result new report.old report.new ⌝) }
 {
     change_at_in(

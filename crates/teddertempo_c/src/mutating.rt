@@ -4,7 +4,7 @@ ghost use Rattle.rewrite_rules.specs.Names.{rule_of};
 ghost use Rattle.teddertempo_c.specs.Outcome.{outcome_number};
 ghost use Rattle.teddertempo_c.specs.Reported.{TellsNone};
 ghost use Rattle.teddertempo_c.specs.Reports.{MutatesWith, TellsMade};
-ghost use Rattle.teddertempo_c.specs.Writes.{HasRule, IsOfRule, IsPut, MutatesOnce};
+ghost use Rattle.teddertempo_c.specs.Writes.{HasRule, IsOfSomeRule, IsPutInBuffer, MutatesOnce};
 
 use crate::attempt::{attempt, rewritten_once};
 use crate::options::Options;
@@ -18,7 +18,7 @@ use std::alloc::Global;
 /// Writes the bytes over the front of the buffer, and answers how many they are.
 pub(crate) fn put(buffer: &mut [u8], bytes: &[u8]) -> usize
     requires fits { length bytes.now ≤ length buffer.old }
-    ensures { IsPut bytes.now buffer.old result buffer.new }
+    ensures { IsPutInBuffer bytes.now buffer.old result buffer.new }
 {
     buffer[..bytes.len()].copy_from_slice(bytes);
     bytes.len()
@@ -45,7 +45,7 @@ pub fn mutate_in(alloc: Global, buffer: &mut [u8], size: usize, seed: u64) -> us
 
 // The number of the rule that a row of the table is of.
 fn rule_number(row: usize) -> u32
-    requires { IsOfRule row }
+    requires { IsOfSomeRule row }
     ensures { rule_of row ≡ Some result }
 {
     match Rule::of_row(row) {

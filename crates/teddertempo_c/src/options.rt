@@ -73,7 +73,7 @@ fn allows_number(options: &Options, number: usize) -> bool
     names_none(&options.rules) || named
 }
 
-// Those of the rules that may.
+// The rules that the options allow, in their order.
 fn allowed(alloc: Global, options: &Options, rules: &[Rule]) -> Result<Vec<Rule>, AllocError>
     ensures { IfOk result (λ r. r.items ≡ filter (allows options.now) rules.now) }
 {

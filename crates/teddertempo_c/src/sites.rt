@@ -1,6 +1,6 @@
 //! The operators of a buffer's module of which changes make anything, listed.
 ghost use Rattle.std.specs.Prelude.{◌≡◌, ◌↔◌, ◌++◌, IfErr, IfOk, IsTrue};
-ghost use Rattle.teddertempo_c.specs.Sites.{rows_of, AreBad, AreListed, HoldsRows, IsWhyNone, ListsSites};
+ghost use Rattle.teddertempo_c.specs.Sites.{site_rows_of, AreBad, SitesAreListed, HoldsRows, IsWhyNone, ListsSites};
 
 use crate::change_options::{
     CHANGE_OPTIONS_SIZE, ChangeOptions, change_number, changes_of, function_of,
@@ -28,7 +28,7 @@ const _: () = prove!(size_of::<SiteRow>() == 24);
 // Adds a row for each site of the function with the index.
 fn add_rows(function: usize, sites: &[Site], rows: &mut Vec<SiteRow>) -> Result<(), AllocError>
     ensures added { IfOk result (λ _. rows.new.items
-        ≡ rows.old.items ++ rows_of function sites.now) }
+        ≡ rows.old.items ++ site_rows_of function sites.now) }
 {
     for site in sites {
         rows.push(SiteRow {
@@ -42,7 +42,7 @@ fn add_rows(function: usize, sites: &[Site], rows: &mut Vec<SiteRow>) -> Result<
 
 // The rows of the functions that may be changed.
 fn rows_in(alloc: Global, bytes: &[u8], options: &ChangeOptions) -> Result<Vec<SiteRow>, Reason>
-    ensures listed { IfOk result (λ rows. AreListed options.now bytes.now rows.items) }
+    ensures listed { IfOk result (λ rows. SitesAreListed options.now bytes.now rows.items) }
     ensures none { IfErr result (IsWhyNone options.now bytes.now) }
 {
     let changes = changes_of(alloc, options)?;

@@ -40,7 +40,8 @@ pub any_known : (text : List ℕ) (x : Operator) → is_known x ≡ true → Spe
 any_known text x known s = subst (λ (v : Bool). SpellsBy v text x) known s
 
 -- an operator of another opcode isn't known
-byte_unknown : (b : ℕ) (u v w : Bool) → is_known (cond u (op.Block Reference) (cond v (op.Loop Reference) (cond w (op.If Reference) (op.Other (Byte b))))) ≡ false
+byte_unknown : (b : ℕ) (u v w : Bool) → is_known (cond u (op.Block Reference)
+    (cond v (op.Loop Reference) (cond w (op.If Reference) (op.Other (Byte b))))) ≡ false
 byte_unknown b true v w = refl
 byte_unknown b false true w = refl
 byte_unknown b false false true = refl
@@ -87,7 +88,8 @@ by_again : (v : Bool) (text rest : List ℕ) (x : Operator) → SpellsBy v text 
 unfolding reader.any_at
 by_again true text rest x s = ap (λ (k : Told). reader.either_at k (reader.other_at (text ++ rest))) (operator_exact.again text rest x s)
 by_again false text rest x s =
-    ap (reader.either_at (reader.operator_at (text ++ rest))) (other_exact.again text rest s.other s.spells) ∙ other_again text rest x (reader.operator_at (text ++ rest)) refl s
+    ap (reader.either_at (reader.operator_at (text ++ rest))) (other_exact.again text rest s.other s.spells)
+    ∙ other_again text rest x (reader.operator_at (text ++ rest)) refl s
 
 any_again : (text rest : List ℕ) (x : Operator) → SpellsAny text x → reader.any_at (text ++ rest) ≡ Ok (x, rest)
 any_again text rest x s = by_again (is_known x) text rest x s

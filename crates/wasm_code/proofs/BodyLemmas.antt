@@ -1,5 +1,6 @@
 -- The loop that reads a body, and that what it answers is the only answer.
-use Rattle.std.proofs.Common.{◌≡◌, ℕ, ◌+◌, ◌-◌, ◌<◌, ◌≤◌, Bool, true, false, cond, List, [], ◌∷◌, ◌++◌, length, drop, Result, Ok, Err, refl, sym, ap, subst, ◌∙◌, append_assoc, arith}
+use Rattle.std.proofs.Common.{◌≡◌, ℕ, ◌+◌, ◌-◌, ◌<◌, ◌≤◌, Bool, true, false, cond, List, [], ◌∷◌, ◌++◌, length, drop, Result, Ok, Err, refl}
+use Rattle.std.proofs.Common.{sym, ap, subst, ◌∙◌, append_assoc, arith}
 use Rattle.std.specs.Prelude.{IfOk, IfErr, MatchResult, slice_range}
 use Rattle.std.specs.Global.{Vec}
 use Rattle.wasm_code.specs.declared.fault.ReadKind.TheVariants as kinds
@@ -204,7 +205,8 @@ no_stop any (x ∷ xs) (y ∷ ops) start text front first back f p read parts be
     ∙ append_assoc before.front before.back (first ∷ back) in
     let n = next x.0 y.0 p.front p.back before.front (before.back ++ first ∷ back) text p.parts q p.spells before.spells in
     let len = same_len p.front p.back before.front (before.back ++ first ∷ back) (sym p.parts ∙ q) n.1 in
-    no_stop any xs ops (start + length p.front) p.back before.back first back f p.rest (first_read any x xs read).1 n.1 (subst (λ (k : ℕ). SpellsAll ops (start + k) before.back)
+    no_stop any xs ops (start + length p.front) p.back before.back first back f p.rest (first_read any x xs read).1 n.1
+    (subst (λ (k : ℕ). SpellsAll ops (start + k) before.back)
     (sym len) before.rest) cause
 
 no_fault : (any : Bool) (start to : ℕ) (text : List ℕ) (xs : List (Operator × ℕ)) (kind : ReadKind) (offset : ℕ) → SpellsCode start text xs →

@@ -1,13 +1,15 @@
 -- Reading a body as a function answers what the grammar says.
-use Rattle.std.proofs.Common.{◌≡◌, ◌≢◌, ℕ, zero, suc, ◌+◌, ◌-◌, ◌<◌, ◌≤◌, ◌⊎◌, inl, inr, Bool, true, false, List, [], ◌∷◌, ◌++◌, length, Result, Ok, Err, refl, sym, ap, subst, ◌∙◌, append_assoc, arith}
+use Rattle.std.proofs.Common.{◌≡◌, ◌≢◌, ℕ, zero, suc, ◌+◌, ◌-◌, ◌<◌, ◌≤◌, ◌⊎◌, inl, inr, Bool, true, false, List, [], ◌∷◌, ◌++◌, length}
+use Rattle.std.proofs.Common.{Result, Ok, Err, refl, sym, ap, subst, ◌∙◌, append_assoc, arith}
 use Rattle.std.proofs.lemmas.List.{length-append, append-nil}
 use Rattle.wasm_code.specs.declared.fault.Cause.{Cause}
 use Rattle.wasm_code.specs.declared.fault.Cause.TheVariants.{Truncated, UnknownOpcode, BadInteger, BadImmediate}
 use Rattle.wasm_code.specs.declared.fault.ReadKind.{ReadKind}
 use Rattle.wasm_code.specs.declared.fault.ReadKind.TheVariants as kinds
 use Rattle.wasm_code.specs.declared.operator.Operator.{Operator}
-use Rattle.wasm_code.specs.Body.{SpellsAll, SpellsCode, SpellsBody, is_read, are_read, StopsAt, LacksEnd, IsFaultOf, IsFault, IsCodeFault, is_end, ends, kind_of}
-use Rattle.wasm_code.specs.Reader.{Read, and_first, at_end, after, next_at, operators_at, read_at, body_at, code_at}
+use Rattle.wasm_code.specs.Body.{SpellsAll, SpellsCode, SpellsBody, is_read, are_read, StopsAt, LacksEnd, IsFaultOf, IsFault, IsCodeFault}
+use Rattle.wasm_code.specs.Body.{is_end, ends, kind_of}
+use Rattle.wasm_code.specs.Reader.{Read, and_first, at_end, after, next_at, operators_at, read_at, body_at, any_code_at}
 use Rattle.wasm_code.proofs.AnyLemmas.{SpellsRead, next_exact, some_any}
 use Rattle.wasm_code.proofs.BodyLemmas.{first_read, shrinks}
 
@@ -321,20 +323,20 @@ pub body_faults : (start : ℕ) (text : List ℕ) (kind : ReadKind) (offset : �
 unfolding body_at
 body_faults start text kind offset e = read_faults false start text kind offset e
 
-pub code_spelled : (start : ℕ) (text : List ℕ) (xs : List (Operator × ℕ)) → SpellsCode start text xs → code_at start text ≡ Ok xs
-unfolding code_at
+pub code_spelled : (start : ℕ) (text : List ℕ) (xs : List (Operator × ℕ)) → SpellsCode start text xs → any_code_at start text ≡ Ok xs
+unfolding any_code_at
 code_spelled start text xs s = read_spelled true start text xs s refl
 
 pub code_faulty : (start : ℕ) (text : List ℕ) (kind : ReadKind) (offset : ℕ) → IsCodeFault start (start + length text) text kind offset →
-    kind ≢ kinds.Memory → code_at start text ≡ Err (kind, offset)
-unfolding code_at
+    kind ≢ kinds.Memory → any_code_at start text ≡ Err (kind, offset)
+unfolding any_code_at
 code_faulty start text kind offset s other = read_faulty true start text kind offset s other
 
-pub code_answers : (start : ℕ) (text : List ℕ) (xs : List (Operator × ℕ)) → code_at start text ≡ Ok xs → SpellsCode start text xs
-unfolding code_at
+pub code_answers : (start : ℕ) (text : List ℕ) (xs : List (Operator × ℕ)) → any_code_at start text ≡ Ok xs → SpellsCode start text xs
+unfolding any_code_at
 code_answers start text xs e = (read_answers true start text xs e).0
 
-pub code_faults : (start : ℕ) (text : List ℕ) (kind : ReadKind) (offset : ℕ) → code_at start text ≡ Err (kind, offset) →
+pub code_faults : (start : ℕ) (text : List ℕ) (kind : ReadKind) (offset : ℕ) → any_code_at start text ≡ Err (kind, offset) →
     IsCodeFault start (start + length text) text kind offset × (kind ≢ kinds.Memory)
-unfolding code_at
+unfolding any_code_at
 code_faults start text kind offset e = read_faults true start text kind offset e

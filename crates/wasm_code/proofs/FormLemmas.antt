@@ -11,7 +11,8 @@ use Rattle.wasm_code.specs.Table.{row_at}
 use Rattle.wasm_code.specs.Finding.{row_with}
 use Rattle.wasm_code.specs.Operator.{IsOneOf, IsUnknown}
 use Rattle.wasm_code.specs.Reader.{row_form, byte_form, form_of, IsForm}
-use Rattle.wasm_code.proofs.TableLemmas.{has_opcode, is_by_opcode, without_row, val_opcode, none_0, none_2, none_3, none_4, none_5, none_11, none_12, none_13, none_14, none_15, none_17, typed_select, select_row}
+use Rattle.wasm_code.proofs.TableLemmas.{has_opcode, is_by_opcode, without_row, val_opcode, none_0, none_2, none_3, none_4, none_5, none_11}
+use Rattle.wasm_code.proofs.TableLemmas.{none_12, none_13, none_14, none_15, none_17, typed_select, select_row}
 
 -- the opcode of a form
 abbrev pub HasForm : Form → Opcode → Type 0

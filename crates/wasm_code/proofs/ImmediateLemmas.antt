@@ -10,9 +10,12 @@ use Rattle.wasm_code.specs.declared.immediate.AbstractHeapType.TheVariants.{Func
 use Rattle.wasm_code.specs.declared.immediate.Imm.TheVariants as imm
 use Rattle.wasm_code.specs.Grammar.{FailsTimes}
 use Rattle.wasm_code.specs.Number.{FailsUnsigned}
-use Rattle.wasm_code.specs.Immediate.{heap_type_code, SpellsValType, FailsValType, SpellsHeapType, FailsHeapType, SpellsOffset, SpellsMemArg, FailsMemArg, SpellsPair, FailsPair, SpellsLabels, FailsLabels, SpellsFirst, SpellsTypes, FailsTypes, SpellsImm, FailsImm}
+use Rattle.wasm_code.specs.Immediate.{heap_type_code, SpellsValType, FailsValType, SpellsHeapType, FailsHeapType, SpellsOffset}
+use Rattle.wasm_code.specs.Immediate.{SpellsMemArg, FailsMemArg, SpellsPair, FailsPair, SpellsLabels, FailsLabels, SpellsFirst, SpellsTypes}
+use Rattle.wasm_code.specs.Immediate.{FailsTypes, SpellsImm, FailsImm}
 use Rattle.wasm_code.specs.Reader.{heap_type_of, heap_type_at, offset_at, memarg_at, pair_at, labels_at, first_at, types_at, imm_at}
-use Rattle.wasm_code.specs.laws.GrammarLemmas.{Exact, exact_ends, exact_never, exact_of, exact_choose, exact_then, exact_code, exact_times, exact_at, byte_exact, bytes_exact}
+use Rattle.wasm_code.specs.laws.GrammarLemmas.{Exact, exact_ends, exact_never, exact_of, exact_choose, exact_then, exact_code, exact_times}
+use Rattle.wasm_code.specs.laws.GrammarLemmas.{exact_at, byte_exact, bytes_exact}
 use Rattle.wasm_code.specs.laws.NumberExact.{unsigned_exact, signed_exact}
 use Rattle.wasm_code.specs.laws.ValTypeLemmas.{listed, val_type_exact}
 

@@ -1,5 +1,6 @@
 -- Operators are read exactly.
-use Rattle.std.proofs.Common.{◌≡◌, ◌≢◌, ◌⊎◌, inl, inr, ℕ, zero, suc, Bool, true, false, cond, eqb, List, [], ◌∷◌, ◌++◌, Option, Some, None, Result, Ok, Err, refl, sym, ap, subst, ◌∙◌}
+use Rattle.std.proofs.Common.{◌≡◌, ◌≢◌, ◌⊎◌, inl, inr, ℕ, zero, suc, Bool, true, false, cond, eqb, List, [], ◌∷◌, ◌++◌, Option, Some, None}
+use Rattle.std.proofs.Common.{Result, Ok, Err, refl, sym, ap, subst, ◌∙◌}
 use Rattle.std.proofs.lemmas.Bool.{eqb-true, eqb-false, ne_eqb}
 use Rattle.wasm_code.specs.declared.fault.Cause.{Cause}
 use Rattle.wasm_code.specs.declared.fault.Cause.TheVariants.{UnknownOpcode}
@@ -16,7 +17,8 @@ use Rattle.wasm_code.specs.declared.parse.Form.TheVariants as form
 use Rattle.wasm_code.specs.Table.{row_at}
 use Rattle.wasm_code.specs.Grammar.{NoBytes, NeverFails, Of}
 use Rattle.wasm_code.specs.Number.{SpellsUnsigned, FailsUnsigned}
-use Rattle.wasm_code.specs.Immediate.{SpellsBlockType, FailsBlockType, SpellsPair, FailsPair, SpellsLabels, FailsLabels, SpellsFirst, SpellsTypes, FailsTypes, SpellsOneType, SpellsImm, FailsImm}
+use Rattle.wasm_code.specs.Immediate.{SpellsBlockType, FailsBlockType, SpellsPair, FailsPair, SpellsLabels, FailsLabels, SpellsFirst}
+use Rattle.wasm_code.specs.Immediate.{SpellsTypes, FailsTypes, SpellsOneType, SpellsImm, FailsImm}
 use Rattle.wasm_code.specs.Operator.{SpellsOpcode, FailsOpcode, SpellsBehind, FailsRow, IsOneOf, IsUnknown, FailsControl, FailsBehindOpcode, Spells, Fails}
 use Rattle.wasm_code.specs.Reader.{opcode_at, form_of, IsForm, select_of, behind_at, formed_at, operator_at}
 use Rattle.wasm_code.specs.laws.GrammarLemmas.{Exact, ok_is, byte_exact, exact_ends, exact_of, exact_choose, exact_then, exact_same}

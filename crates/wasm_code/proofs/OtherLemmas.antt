@@ -8,8 +8,10 @@ use Rattle.wasm_code.specs.declared.other.Shape.{Shape}
 use Rattle.wasm_code.specs.declared.other.Shape.TheVariants as shape
 use Rattle.wasm_code.specs.Number.{IsGroup}
 use Rattle.wasm_code.specs.Other as other
-use Rattle.wasm_code.specs.Reader.{◌>>=◌, byte_at, not_below_at, type_index_at, any_heap_type_at, any_val_type_at, any_block_type_at, any_types_at, catch_at, catches_at, cast_at, zero_at, shape_at, other_opcode_at, shaped_at, other_at}
-use Rattle.wasm_code.specs.laws.GrammarLemmas.{Reader, Exact, err_is, byte_exact, exact_ends, exact_never, exact_of, exact_choose, exact_then, exact_times, exact_at}
+use Rattle.wasm_code.specs.Reader.{◌>>=◌, byte_at, not_below_at, type_index_at, any_heap_type_at, any_val_type_at, any_block_type_at}
+use Rattle.wasm_code.specs.Reader.{any_types_at, catch_at, catches_at, cast_at, zero_at, shape_at, other_opcode_at, shaped_at, other_at}
+use Rattle.wasm_code.specs.laws.GrammarLemmas.{Reader, Exact, err_is, byte_exact, exact_ends, exact_never, exact_of, exact_choose}
+use Rattle.wasm_code.specs.laws.GrammarLemmas.{exact_then, exact_times, exact_at}
 use Rattle.wasm_code.specs.laws.NumberExact.{unsigned_exact, signed_exact}
 use Rattle.wasm_code.proofs.ImmediateLemmas.{memarg_exact, pair_exact}
 
@@ -64,15 +66,16 @@ heap_exact = exact_at same (exact_then byte_exact (λ b. exact_choose (other.is_
 
 val_exact : Exact other.SpellsAnyValType other.FailsAnyValType any_val_type_at
 unfolding any_val_type_at
-val_exact = exact_then byte_exact (λ b. exact_choose (other.is_type b) (exact_ends tt) (exact_choose (other.is_reference b) heap_exact exact_never))
+val_exact = exact_then byte_exact (λ b. exact_choose (other.is_type b) (exact_ends tt) (exact_choose (other.is_reference_type_byte b) heap_exact exact_never))
 
 block_exact : Exact other.SpellsAnyBlockType other.FailsAnyBlockType any_block_type_at
 unfolding any_block_type_at
 block_exact = exact_at same (exact_then byte_exact (λ b. exact_choose (eqb b 64) (exact_ends tt)
-    (exact_choose (other.is_type b) (exact_ends tt) (exact_choose (other.is_reference b) heap_exact (behind_exact b index_some index_exact)))))
+    (exact_choose (other.is_type b) (exact_ends tt) (exact_choose (other.is_reference_type_byte b) heap_exact (behind_exact b index_some index_exact)))))
   where
     same : (bytes : List ℕ) → (byte_at bytes >>= λ b. cond (eqb b.0 64) (Ok (tt, b.1))
-        (cond (other.is_type b.0) (Ok (tt, b.1)) (cond (other.is_reference b.0) (any_heap_type_at b.1) (type_index_at (b.0 ∷ b.1))))) ≡ any_block_type_at bytes
+        (cond (other.is_type b.0) (Ok (tt, b.1)) (cond (other.is_reference_type_byte b.0) (any_heap_type_at b.1) (type_index_at (b.0 ∷ b.1)))))
+        ≡ any_block_type_at bytes
     same [] = refl
     same (b ∷ bytes) = refl
 

@@ -1,5 +1,6 @@
 -- Where a known operator and another one begin the same bytes, the same follows both.
-use Rattle.std.proofs.Common.{◌≡◌, ◌⊎◌, inl, inr, ℕ, ℤ, pos, negsuc, zero, suc, ◌-◌, ◌<◌, ◌≤◌, Bool, true, false, cond, eqb, List, [], ◌∷◌, ◌++◌, Option, Some, None, Result, Ok, Err, refl, sym, ap, subst, ◌∙◌, arith}
+use Rattle.std.proofs.Common.{◌≡◌, ◌⊎◌, inl, inr, ℕ, ℤ, pos, negsuc, zero, suc, ◌-◌, ◌<◌, ◌≤◌, Bool, true, false, cond, eqb, List, [], ◌∷◌}
+use Rattle.std.proofs.Common.{◌++◌, Option, Some, None, Result, Ok, Err, refl, sym, ap, subst, ◌∙◌, arith}
 use Rattle.std.proofs.lemmas.Bool.{eqb-true, ne_eqb, le-ltb, lt-ltb}
 use Rattle.wasm_code.specs.declared.fault.Cause.{Cause}
 use Rattle.wasm_code.specs.declared.fault.Cause.TheVariants.{UnknownOpcode}
@@ -29,7 +30,7 @@ use Rattle.wasm_code.specs.Number.{SpellsSigned}
 use Rattle.wasm_code.specs.Immediate.{val_type_code, heap_type_code}
 use Rattle.wasm_code.specs.Table.{row_at, table}
 use Rattle.wasm_code.specs.Finding.{row_with}
-use Rattle.wasm_code.specs.Other.{is_abstract, is_type, is_reference, is_catching_byte, byte_shape, shape_of}
+use Rattle.wasm_code.specs.Other.{is_abstract, is_type, is_reference_type_byte, is_catching_byte, byte_shape, shape_of}
 use Rattle.wasm_code.specs.Dense.{dense_row}
 use Rattle.wasm_code.specs.Reader.{◌>>=◌}
 use Rattle.wasm_code.specs.Reader as reader
@@ -89,7 +90,8 @@ times_wider (suc n) bytes r e =
     let a = bind_ok (reader.val_type_at bytes) (λ x. reader.times_at n reader.val_type_at x.1) (tt, r) e in
     rw (val_wider bytes a.0.0 a.0.1 a.1) (times_wider n a.0.1 r a.2)
 
-first_wider : (n : ℕ) (bytes : List ℕ) (first : Option ValType) (r : List ℕ) → reader.first_at n bytes ≡ Ok (first, r) → reader.times_at n reader.any_val_type_at bytes ≡ rest_at r
+first_wider : (n : ℕ) (bytes : List ℕ) (first : Option ValType) (r : List ℕ) → reader.first_at n bytes ≡ Ok (first, r) →
+    reader.times_at n reader.any_val_type_at bytes ≡ rest_at r
 unfolding reader.times_at reader.first_at
 first_wider zero bytes first r e = let p = ok_is (None, bytes) (first, r) e in ap (λ (q : Option ValType × List ℕ). rest_at q.1) p
 first_wider (suc n) bytes first r e =
@@ -134,7 +136,7 @@ heap_wider [] t r e = absurd cc
 heap_wider (b ∷ bytes) t r e = heap_by b bytes (reader.heap_type_of b) t r refl e
 
 -- a byte that begins a number not below zero is no type
-no_type : (b : ℕ) → (b < 64) ⊎ (128 ≤ b) → (is_type b ≡ false) × (is_reference b ≡ false)
+no_type : (b : ℕ) → (b < 64) ⊎ (128 ≤ b) → (is_type b ≡ false) × (is_reference_type_byte b ≡ false)
 no_type b (inl h) = rw (lt-ltb b 105 (omega arith), ne_eqb b 99 (omega arith), ne_eqb b 100 (omega arith)) (refl, refl)
 no_type b (inr h) = rw (
   le-ltb b 105 (omega arith),
@@ -200,7 +202,8 @@ no_form d bytes x none e = not_both (reader.formed_at d bytes) UnknownOpcode x (
 
 -- where both are read behind that opcode, the same follows them
 abbrev Agrees : ℕ → Shape → Type 0
-Agrees b s = (bytes : List ℕ) (x : Operator) (r q : List ℕ) → reader.formed_at (reader.form_of (opcode.Byte b)) bytes ≡ Ok (x, r) → reader.shape_at s bytes ≡ Ok (tt, q) →
+Agrees b s = (bytes : List ℕ) (x : Operator) (r q : List ℕ) → reader.formed_at (reader.form_of (opcode.Byte b)) bytes ≡ Ok (x, r) →
+    reader.shape_at s bytes ≡ Ok (tt, q) →
     r ≡ q
 
 same_rest : (r q : List ℕ) → rest_at r ≡ rest_at q → r ≡ q
@@ -240,7 +243,8 @@ select_form = refl
 agrees_28 : Agrees 28 shape.Types
 unfolding reader.shape_at reader.behind_at
 agrees_28 bytes x r q e g =
-    let e' : (reader.types_at bytes >>= λ t. Ok (reader.select_of t.0.0 t.0.1, t.1)) ≡ Ok (x, r) = ap (λ (d : Option Form). reader.formed_at d bytes) (sym select_form) ∙ e in
+    let e' : (reader.types_at bytes >>= λ t. Ok (reader.select_of t.0.0 t.0.1, t.1)) ≡ Ok (x, r) =
+    ap (λ (d : Option Form). reader.formed_at d bytes) (sym select_form) ∙ e in
     let a = bind_ok (reader.types_at bytes) (λ t. Ok (reader.select_of t.0.0 t.0.1, t.1)) (x, r) e' in
     let p = ok_is (reader.select_of a.0.0.0 a.0.0.1, a.0.1) (x, r) a.2 in
     same_rest r q (ap (λ (y : Operator × List ℕ). rest_at y.1) (sym p) ∙ sym (types_wider bytes a.0.0 a.0.1 a.1) ∙ g)
@@ -294,8 +298,10 @@ byte_agrees b t e =
     (λ e. step _ b 21 shape.Index t _ refl e (unknown 21 _ (unled 21 refl refl)) (λ e. step _ b 24 shape.Index t _ refl e (unknown 24 _ (unled 24 refl refl))
     (λ e. step _ b 25 shape.Nothing t _ refl e (unknown 25 _ (unled 25 refl refl)) (λ e. step _ b 28 shape.Types t _ refl e agrees_28
     (λ e. step _ b 31 shape.Catches t _ refl e (unknown 31 _ (unled 31 refl refl)) (λ e. step _ b 208 shape.Heap t _ refl e agrees_208
-    (λ e. step _ b 211 shape.Nothing t _ refl e (unknown 211 _ (unled 211 refl refl)) (λ e. step _ b 212 shape.Nothing t _ refl e (unknown 212 _ (unled 212 refl refl))
-    (λ e. step _ b 213 shape.Index t _ refl e (unknown 213 _ (unled 213 refl refl)) (λ e. step _ b 214 shape.Index t _ refl e (unknown 214 _ (unled 214 refl refl))
+    (λ e. step _ b 211 shape.Nothing t _ refl e (unknown 211 _ (unled 211 refl refl))
+    (λ e. step _ b 212 shape.Nothing t _ refl e (unknown 212 _ (unled 212 refl refl))
+    (λ e. step _ b 213 shape.Index t _ refl e (unknown 213 _ (unled 213 refl refl))
+    (λ e. step _ b 214 shape.Index t _ refl e (unknown 214 _ (unled 214 refl refl))
     (λ e. absurd cc)))))))))))))))))))))
 
 -- ---- both are read from the same bytes
@@ -322,7 +328,8 @@ none_254 : reader.form_of (opcode.Byte 254) ≡ None
 unfolding dense_row
 none_254 = unled 254 refl refl
 
-not_at : (b : ℕ) (bytes : List ℕ) (x : Operator) (r : List ℕ) → reader.form_of (opcode.Byte b) ≡ None → reader.formed_at (reader.form_of (opcode.Byte b)) bytes ≡ Ok (x, r) → ⊥
+not_at : (b : ℕ) (bytes : List ℕ) (x : Operator) (r : List ℕ) → reader.form_of (opcode.Byte b) ≡ None →
+    reader.formed_at (reader.form_of (opcode.Byte b)) bytes ≡ Ok (x, r) → ⊥
 not_at b bytes x r none e = no_form (reader.form_of (opcode.Byte b)) bytes (x, r) none e
 
 not_shaped : (b : ℕ) (bytes : List ℕ) (o : Other) (q : List ℕ) → shape_of (Byte b) ≡ None → reader.shaped_at (shape_of (Byte b)) (Byte b) bytes ≡ Ok (o, q) → ⊥
@@ -363,7 +370,8 @@ agree_by true fd false true b bytes x r o q c d h k e f = absurd (omega (arith, 
 agree_by false true false true b bytes x r o q c d h k e f = absurd (omega (arith, eqb-true b 253 d, eqb-true b 254 k))
 
 -- where a known operator and another one begin the bytes, the same follows them
-pub agree : (bytes : List ℕ) (x : Operator) (r : List ℕ) (o : Other) (q : List ℕ) → reader.operator_at bytes ≡ Ok (x, r) → reader.other_at bytes ≡ Ok (o, q) → r ≡ q
+pub agree : (bytes : List ℕ) (x : Operator) (r : List ℕ) (o : Other) (q : List ℕ) → reader.operator_at bytes ≡ Ok (x, r) →
+    reader.other_at bytes ≡ Ok (o, q) → r ≡ q
 unfolding reader.operator_at reader.opcode_at reader.other_at reader.other_opcode_at
 agree [] x r o q e f = absurd cc
 agree (b ∷ bytes) x r o q e f = agree_by (eqb b 252) (eqb b 253) (eqb b 251) (eqb b 254) b bytes x r o q refl refl refl refl e f

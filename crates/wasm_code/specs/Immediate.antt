@@ -16,7 +16,8 @@ use Rattle.wasm_code.specs.declared.immediate.BlockType.TheVariants.{Empty, Valu
 use Rattle.wasm_code.specs.declared.immediate.MemArg.{MemArg}
 use Rattle.wasm_code.specs.declared.immediate.Imm.{Imm}
 use Rattle.wasm_code.specs.declared.immediate.Imm.TheVariants as imm
-use Rattle.wasm_code.specs.Grammar.{IsByte, LacksByte, AreBytes, LacksBytes, IsCode, FailsCode, NoBytes, NeverFails, Never, NamesNothing, Of, Choose, FailsChosen, Then, FailsThen, Times, FailsTimes}
+use Rattle.wasm_code.specs.Grammar.{IsByte, LacksByte, AreBytes, LacksBytes, IsCode, FailsCode, NoBytes, NeverFails, Never, NamesNothing}
+use Rattle.wasm_code.specs.Grammar.{Of, Choose, FailsChosen, Then, FailsThen, Times, FailsTimes}
 use Rattle.wasm_code.specs.Number.{SpellsUnsigned, SpellsSigned, FailsUnsigned, FailsSigned}
 
 -- ---- types

@@ -133,7 +133,8 @@ is_known _ = true
 
 -- the operator that another opcode stands for: a block, a loop or a conditional that gives a reference, or one of which the opcode alone is kept
 abbrev pub other_operator : Other → Operator
-other_operator (others.Byte b) = if b == 0x02 then op.Block Reference else if b == 0x03 then op.Loop Reference else if b == 0x04 then op.If Reference else op.Other (others.Byte b)
+other_operator (others.Byte b) = if b == 0x02 then op.Block Reference else if b == 0x03 then op.Loop Reference else if b == 0x04 then op.If Reference
+    else op.Other (others.Byte b)
 other_operator o = op.Other o
 
 -- the bytes spell no known operator, but another one

@@ -23,8 +23,8 @@ abbrev pub is_type : ℕ → Bool
 is_type b = if nat_lt b 0x69 then false else if nat_lt b 0x75 then true else if nat_lt b 0x7b then false else nat_lt b 0x80
 
 -- a reference that may be null, or that may not, to the heap type that follows
-abbrev pub is_reference : ℕ → Bool
-is_reference b = if b == 0x63 then true else b == 0x64
+abbrev pub is_reference_type_byte : ℕ → Bool
+is_reference_type_byte b = if b == 0x63 then true else b == 0x64
 
 -- a spelling that begins with that byte, without it
 abbrev pub Behind : {A : Type 0} → ℕ → (List ℕ → A → Type 0) → List ℕ → A → Type 0
@@ -62,21 +62,21 @@ FailsAnyHeapType = FailsThen LacksByte IsByte (λ b. FailsChosen (is_abstract b)
 
 -- a value type of one byte, or a reference type with its heap type
 abbrev pub SpellsAnyValType : List ℕ → Unit {0} → Type 0
-SpellsAnyValType = Then IsByte (λ b. Choose (is_type b) (NoBytes tt) (Choose (is_reference b) SpellsAnyHeapType Never))
+SpellsAnyValType = Then IsByte (λ b. Choose (is_type b) (NoBytes tt) (Choose (is_reference_type_byte b) SpellsAnyHeapType Never))
 
 -- there is no byte, or it begins neither, or the heap type fails
 abbrev pub FailsAnyValType : List ℕ → Cause → Type 0
-FailsAnyValType = FailsThen LacksByte IsByte (λ b. FailsChosen (is_type b) NeverFails (FailsChosen (is_reference b) FailsAnyHeapType NamesNothing))
+FailsAnyValType = FailsThen LacksByte IsByte (λ b. FailsChosen (is_type b) NeverFails (FailsChosen (is_reference_type_byte b) FailsAnyHeapType NamesNothing))
 
 -- the type of a block: the byte 40, a value type, or the index of a function type
 abbrev pub SpellsAnyBlockType : List ℕ → Unit {0} → Type 0
 SpellsAnyBlockType = Then IsByte (λ b. Choose (b == 0x40) (NoBytes tt)
-    (Choose (is_type b) (NoBytes tt) (Choose (is_reference b) SpellsAnyHeapType (Behind b SpellsTypeIndex))))
+    (Choose (is_type b) (NoBytes tt) (Choose (is_reference_type_byte b) SpellsAnyHeapType (Behind b SpellsTypeIndex))))
 
 -- there is no byte, or it begins none of these
 abbrev pub FailsAnyBlockType : List ℕ → Cause → Type 0
 FailsAnyBlockType = FailsThen LacksByte IsByte (λ b. FailsChosen (b == 0x40) NeverFails
-    (FailsChosen (is_type b) NeverFails (FailsChosen (is_reference b) FailsAnyHeapType (FailsFrom b FailsTypeIndex))))
+    (FailsChosen (is_type b) NeverFails (FailsChosen (is_reference_type_byte b) FailsAnyHeapType (FailsFrom b FailsTypeIndex))))
 
 -- ---- lists
 
@@ -214,7 +214,7 @@ is_catching (Byte b) = is_catching_byte b
 is_catching o = false
 
 -- Behind an opcode that is read; none where no such operator has it. Those that catch exceptions aren't read: a run goes on behind them from inside a
--- piece, of which `peephole_programs` says nothing yet.
+-- piece, of which `wasm_equivalence` says nothing yet.
 abbrev pub shape_of : Other → Option Shape
 shape_of (Byte b) = if is_catching_byte b then None else byte_shape b
 shape_of (Fb n) = fb_shape n

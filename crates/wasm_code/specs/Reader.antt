@@ -1,6 +1,7 @@
 -- Reading as functions (this project): for proofs, and for programs that answer what reading answers.
 -- The contracts go by the grammar; `laws` joins the two.
-use Rattle.std.specs.Prelude.{◌≡◌, ◌≢◌, ℕ, ℤ, pos, negsuc, zero, suc, ◌+◌, ◌-◌, ◌^◌, ◌==◌, nat_lt, if◌then◌else◌, Bool, true, false, List, [], ◌∷◌, length, take, drop, Option, Some, None, Result, Ok, Err}
+use Rattle.std.specs.Prelude.{◌≡◌, ◌≢◌, ℕ, ℤ, pos, negsuc, zero, suc, ◌+◌, ◌-◌, ◌^◌, ◌==◌, nat_lt, if◌then◌else◌, Bool, true, false, List}
+use Rattle.std.specs.Prelude.{[], ◌∷◌, length, take, drop, Option, Some, None, Result, Ok, Err}
 use Rattle.wasm_code.specs.declared.fault.Cause.{Cause}
 use Rattle.wasm_code.specs.declared.fault.Cause.TheVariants.{Truncated, UnknownOpcode, BadInteger, BadImmediate}
 use Rattle.wasm_code.specs.declared.fault.ReadKind.{ReadKind}
@@ -30,7 +31,7 @@ use Rattle.wasm_code.specs.declared.other.Shape.TheVariants as shape
 use Rattle.wasm_code.specs.declared.parse.Form.{Form}
 use Rattle.wasm_code.specs.declared.parse.Form.TheVariants as form
 use Rattle.wasm_code.specs.Number.{value, signed_value, most_bytes}
-use Rattle.wasm_code.specs.Other.{is_abstract, is_type, is_reference, shape_of}
+use Rattle.wasm_code.specs.Other.{is_abstract, is_type, is_reference_type_byte, shape_of}
 use Rattle.wasm_code.specs.Operator.{other_operator, cause_of}
 use Rattle.wasm_code.specs.Body.{is_end, kind_of}
 use Rattle.wasm_code.specs.Table.{row_at}
@@ -105,7 +106,8 @@ named_at (Some x) rest = Ok (x, rest)
 
 -- the value type that has this byte
 unfoldable pub val_type_of : ℕ → Option ValType
-val_type_of b = if b == 0x7f then Some I32 else if b == 0x7e then Some I64 else if b == 0x7d then Some F32 else if b == 0x7c then Some F64 else if b == 0x7b then Some V128 else if b == 0x70 then Some FuncRef else if b == 0x6f then Some ExternRef else None
+val_type_of b = if b == 0x7f then Some I32 else if b == 0x7e then Some I64 else if b == 0x7d then Some F32 else if b == 0x7c then Some F64 else if b
+    == 0x7b then Some V128 else if b == 0x70 then Some FuncRef else if b == 0x6f then Some ExternRef else None
 
 -- the heap type that has this byte
 unfoldable pub heap_type_of : ℕ → Option HeapType
@@ -259,13 +261,13 @@ any_heap_type_at bytes = byte_at bytes >>= λ b. if is_abstract b.0 then Ok (tt,
 -- a value type: in one byte, or with its heap type
 unfoldable pub any_val_type_at : List ℕ → Result (Unit {0} × List ℕ) Cause
 any_val_type_at bytes = byte_at bytes >>= λ b.
-    if is_type b.0 then Ok (tt, b.1) else if is_reference b.0 then any_heap_type_at b.1 else Err BadImmediate
+    if is_type b.0 then Ok (tt, b.1) else if is_reference_type_byte b.0 then any_heap_type_at b.1 else Err BadImmediate
 
 -- a block type: the byte 40, a value type, or else an index
 unfoldable pub any_block_type_at : List ℕ → Result (Unit {0} × List ℕ) Cause
 any_block_type_at bytes = byte_at bytes >>= λ b.
     if b.0 == 0x40 then Ok (tt, b.1) else if is_type b.0 then Ok (tt, b.1)
-    else if is_reference b.0 then any_heap_type_at b.1 else type_index_at bytes
+    else if is_reference_type_byte b.0 then any_heap_type_at b.1 else type_index_at bytes
 
 -- a count, and as many value types
 unfoldable pub any_types_at : List ℕ → Result (Unit {0} × List ℕ) Cause
@@ -361,7 +363,8 @@ after next offset (Err cause) = Err (kind_of cause, offset)
 unfoldable pub operators_at : (any : Bool) (most to : ℕ) (ended : Bool) → List ℕ → Read
 operators_at any most to ended [] = at_end ended to
 operators_at any zero to ended (b ∷ bytes) = at_end ended to
-operators_at any (suc most) to ended (b ∷ bytes) = after (λ x rest. and_first (x, to - length (b ∷ bytes)) (operators_at any most to (is_end x) rest)) (to - length (b ∷ bytes)) (next_at any (b ∷ bytes))
+operators_at any (suc most) to ended (b ∷ bytes) = after (λ x rest. and_first (x, to - length (b ∷ bytes)) (operators_at any most to (is_end x) rest))
+    (to - length (b ∷ bytes)) (next_at any (b ∷ bytes))
 
 -- what reading known operators, or any, answers; the first byte has the offset `start` (each operator has a byte or more)
 abbrev pub read_at : (any : Bool) (start : ℕ) → List ℕ → Read
@@ -372,5 +375,5 @@ unfoldable pub body_at : (start : ℕ) → List ℕ → Read
 body_at start text = read_at false start text
 
 -- The same where any operators are read.
-unfoldable pub code_at : (start : ℕ) → List ℕ → Read
-code_at start text = read_at true start text
+unfoldable pub any_code_at : (start : ℕ) → List ℕ → Read
+any_code_at start text = read_at true start text

@@ -16,7 +16,8 @@ use Rattle.wasm_code.specs.declared.table.RowInfo.{RowInfo}
 abbrev span : (ℕ → Opcode) → (first count : ℕ) → Kind → Option ℕ → ResultKind → ℕ → List Row
 span made first zero kind operands result change = []
 span made first (suc count) kind operands result change =
-    record { opcode = made first; kind = kind; info = record { operands = operands; result = result; change = change } } ∷ span made (suc first) count kind operands result change
+    record { opcode = made first; kind = kind; info = record { operands = operands; result = result; change = change } }
+    ∷ span made (suc first) count kind operands result change
 
 -- of one byte
 abbrev bytes : (first count : ℕ) → Kind → Option ℕ → ResultKind → ℕ → List Row

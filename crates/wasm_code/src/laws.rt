@@ -7,7 +7,7 @@ ghost use Rattle.wasm_code.specs.Immediate.{SpellsValType, FailsValType};
 ghost use Rattle.wasm_code.specs.laws.GrammarLemmas.{Exact};
 ghost use Rattle.wasm_code.specs.Code.{shortest, shortest_signed, code};
 ghost use Rattle.wasm_code.specs.Body.{SpellsBody, SpellsCode, IsFault, IsCodeFault, SpellsAll, AreSpelled, bytes_of, with_offsets, move_by, IsCut};
-ghost use Rattle.wasm_code.specs.Reader.{body_at, code_at, operator_at, any_at, unsigned_at, signed_at, val_type_at};
+ghost use Rattle.wasm_code.specs.Reader.{body_at, any_code_at, operator_at, any_at, unsigned_at, signed_at, val_type_at};
 ghost use Rattle.std.specs.Bool.{Decides};
 ghost use Rattle.wasm_code.specs.Order.{IsOrderedBy, val_type_place};
 ghost use Rattle.wasm_code.specs.contracts.immediate.ValTypePartialEq.TheImpl as val_type_eq;
@@ -64,14 +64,14 @@ pub fn body_at_reads()
 /// known operators alone.
 pub fn code_at_reads()
     ensures spelled { (start : ℕ) (text : List ℕ) (xs : List (Operator × ℕ))
-        → SpellsCode start text xs → code_at start text ≡ Ok xs }
+        → SpellsCode start text xs → any_code_at start text ≡ Ok xs }
     ensures faulty { (start : ℕ) (text : List ℕ) (kind : ReadKind) (offset : ℕ)
         → IsCodeFault start (start + length text) text kind offset → kind ≢ Memory
-        → code_at start text ≡ Err (kind, offset) }
+        → any_code_at start text ≡ Err (kind, offset) }
     ensures answers { (start : ℕ) (text : List ℕ) (xs : List (Operator × ℕ))
-        → code_at start text ≡ Ok xs → SpellsCode start text xs }
+        → any_code_at start text ≡ Ok xs → SpellsCode start text xs }
     ensures faults { (start : ℕ) (text : List ℕ) (kind : ReadKind) (offset : ℕ)
-        → code_at start text ≡ Err (kind, offset)
+        → any_code_at start text ≡ Err (kind, offset)
         → IsCodeFault start (start + length text) text kind offset × (kind ≢ Memory) }
 {}
 

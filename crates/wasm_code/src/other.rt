@@ -1,7 +1,7 @@
 //! Operators of the standard that are neither instructions of the table nor control operators of `Operator`: their
 //! opcodes, and what stands behind these, of which nothing is kept.
 ghost use Rattle.std.specs.Prelude.{◌≡◌};
-ghost use Rattle.wasm_code.specs.Other.{is_abstract, is_type, is_reference, is_catching_byte, byte_shape, fb_shape, fe_shape, shape_of};
+ghost use Rattle.wasm_code.specs.Other.{is_abstract, is_type, is_reference_type_byte, is_catching_byte, byte_shape, fb_shape, fe_shape, shape_of};
 ghost use Rattle.wasm_code.specs.declared.other.Other.TheVariants as others;
 ghost use Rattle.wasm_code.specs.Reader.{Gives, times_at, type_index_at, any_heap_type_at, any_val_type_at, any_block_type_at, any_types_at, catch_at, catches_at, cast_at, zero_at, shape_at, other_opcode_at, other_at};
 
@@ -69,7 +69,7 @@ fn is_type_byte(b: u8) -> bool
 
 /// Whether the byte begins a reference type whose heap type follows.
 fn is_reference_byte(b: u8) -> bool
-    ensures { result ≡ is_reference b }
+    ensures { result ≡ is_reference_type_byte b }
 {
     if b == 0x63 { true } else { b == 0x64 }
 }

@@ -15,13 +15,16 @@ use Rattle.wasm_sections.specs.Section.{preamble}
 use Rattle.wasm_sections.specs.Find.{LackId}
 use Rattle.wasm_sections.specs.Writing.{section_code}
 use Rattle.wasm_sections.specs.lemmas.ChangeLemmas.{spliced}
-use Rattle.wasm_sections.specs.lemmas.PieceLemmas.{Piece, code_of, joined, AreSorted, contents_at, end_at, placed, all_placed, of_module, range_is, joined-append, length-code, end_is}
-use Rattle.wasm_declarations.specs.Globals.{SpellsGlobal, FailsGlobal}
-use Rattle.wasm_declarations.specs.Known.{Known, nothing, IsWhole, IsKnown, SpellsKnown}
+use Rattle.wasm_sections.specs.lemmas.PieceLemmas.{Piece, code_of, joined, AreSorted, contents_at, end_at, placed, all_placed, of_module}
+use Rattle.wasm_sections.specs.lemmas.PieceLemmas.{range_is, joined-append, length-code, end_is}
+use Rattle.wasm_lists.specs.Globals.{SpellsGlobal, FailsGlobal}
+use Rattle.wasm_lists.specs.Known.{Known, nothing_listed, IsWhole, IsKnown, SpellsKnown}
 use Rattle.wasm_module.specs.Module.{Layout, IsModule}
-use Rattle.wasm_module.specs.Rewritten.{new_globals, GrowsContents, code_with, IsRewritten}
+use Rattle.wasm_module.specs.Rewritten.{new_globals, GrowsContents, code_section_with, IsRewritten}
 use Rattle.wasm_module.proofs.PieceLemmas.{written, AreWhole, swapped, split}
-use Rattle.wasm_module.proofs.AgainLemmas.{Short, AreNew, Growth, growth, growth_pieces, growth_global, growth_code, growth_new, Addition, addition, addition_pieces, addition_code, addition_new}
+use Rattle.wasm_module.proofs.AgainLemmas.{Short, AreNew}
+use Rattle.wasm_module.proofs.GrownLemmas.{Growth, growth, growth_pieces, growth_global, growth_code, growth_new, Addition}
+use Rattle.wasm_module.proofs.GrownLemmas.{addition, addition_pieces, addition_code, addition_new}
 use Rattle.wasm_module.proofs.HeldLemmas.{HeldBy, LackPiece, held_none, held_before, held_at, held_there, lacks_before, lacks_from, lacks_again, lacks_pieces}
 use Rattle.wasm_module.proofs.NewGlobalLemmas.{grown, grown_whole, new_whole}
 
@@ -52,7 +55,7 @@ abbrev pub AreSome : List PrimitiveTypeInfo → Type 0
 AreSome more = AllByRecursion (λ t. t ≡ primitives.Empty → ⊥) more
 
 abbrev pub HasGlobals : List Piece → Known PrimitiveTypeInfo → Type 0
-HasGlobals ps k = HeldBy nothing (SpellsKnown SpellsGlobal FailsGlobal) 8 ps ids.Global k
+HasGlobals ps k = HeldBy nothing_listed (SpellsKnown SpellsGlobal FailsGlobal) 8 ps ids.Global k
 
 -- what stands from the global section on has no section with an id of a smaller rank
 abbrev pub AreLate : List Piece → Type 0
@@ -90,9 +93,9 @@ none_grown k e =
 -- no globals more
 alone : (bytes : List ℕ) (info : Module) (layout : Layout) (n : ℕ) (contents new : List ℕ) → Short → IsModule bytes info layout →
     (r : IsRewritten bytes layout n contents [] new)
-    → ArePiecesAgain bytes layout.sections layout.own_globals [] r.code (code_with bytes r.code r.entry contents) new
+    → ArePiecesAgain bytes layout.sections layout.own_globals [] r.code (code_section_with bytes r.code r.entry contents) new
 alone bytes info layout n contents new short m r =
-    let c = code_with bytes r.code r.entry contents in
+    let c = code_section_with bytes r.code r.entry contents in
     let y = written ids.Code c in
     let v = of_module bytes layout.sections m.spells in
     let d = split r.code_is.before r.code_is.behind r.code 8 v.pieces (sym r.code_is.parts ∙ v.are) in
@@ -128,16 +131,16 @@ alone bytes info layout n contents new short m r =
       late = λ id' some lt. late id' some (omega (arith, lt));
       late_again = λ id' some lt. late_again id' some (omega (arith, lt));
       globals = λ k e same h. subst (HasGlobals (d.first ++ y ∷ d.second)) (none_grown k e)
-          (held_before nothing (SpellsKnown SpellsGlobal FailsGlobal) bytes ids.Global k d.first (d.x ∷ d.second) (y ∷ d.second) 8
+          (held_before nothing_listed (SpellsKnown SpellsGlobal FailsGlobal) bytes ids.Global k d.first (d.x ∷ d.second) (y ∷ d.second) 8
           (late ids.Global (omega arith) (omega arith)) (late_again ids.Global (omega arith) (omega arith)) h);
     }
 
 -- the global section grows
 grows : (bytes : List ℕ) (layout : Layout) (n : ℕ) (contents : List ℕ) (t : PrimitiveTypeInfo) (ts : List PrimitiveTypeInfo) (new : List ℕ) → Short →
     AreSome (t ∷ ts) → (g : Growth bytes layout n contents t ts new)
-    → ArePiecesAgain bytes layout.sections layout.own_globals (t ∷ ts) g.r.code (code_with bytes g.r.code g.r.entry contents) new
+    → ArePiecesAgain bytes layout.sections layout.own_globals (t ∷ ts) g.r.code (code_section_with bytes g.r.code g.r.entry contents) new
 grows bytes layout n contents t ts new short some g =
-    let c = code_with bytes g.r.code g.r.entry contents in
+    let c = code_section_with bytes g.r.code g.r.entry contents in
     let y = written ids.Code c in
     let fresh = written ids.Global g.g.contents in
     let a = g.a in
@@ -175,17 +178,19 @@ grows bytes layout n contents t ts new short some g =
       late = λ id some lt. lacks_from a.first (d.first ++ d.x ∷ d.second) a.x 0 id sorted some (omega (arith, lt, ap rank_of global_is));
       late_again = λ id some lt. lacks_from a.first (d.first ++ y ∷ d.second) fresh 0 id is.whole.sorted some (omega (arith, lt));
       globals = λ k e same h.
-          let old = held_at nothing (SpellsKnown SpellsGlobal FailsGlobal) bytes ids.Global k a.first (d.first ++ d.x ∷ d.second) a.x 8 global_is lack h in
-          held_there nothing (SpellsKnown SpellsGlobal FailsGlobal) bytes ids.Global (grown k (t ∷ ts)) a.first (d.first ++ y ∷ d.second) fresh 8 refl lack
+          let old = held_at nothing_listed (SpellsKnown SpellsGlobal FailsGlobal) bytes ids.Global k a.first (d.first ++ d.x
+          ∷ d.second) a.x 8 global_is lack h in
+          held_there nothing_listed (SpellsKnown SpellsGlobal FailsGlobal) bytes ids.Global (grown k (t ∷ ts)) a.first (d.first ++ y
+          ∷ d.second) fresh 8 refl lack
           (grown_whole layout.own_globals a.x.contents g.g.contents (t ∷ ts) k grow counts some same (known_whole k _ a.x.contents e old));
     }
 
 -- a global section stands between the others
 adds : (bytes : List ℕ) (layout : Layout) (n : ℕ) (contents : List ℕ) (t : PrimitiveTypeInfo) (ts : List PrimitiveTypeInfo) (new : List ℕ) → Short →
     AreSome (t ∷ ts) → (g : Addition bytes layout n contents t ts new)
-    → ArePiecesAgain bytes layout.sections layout.own_globals (t ∷ ts) g.r.code (code_with bytes g.r.code g.r.entry contents) new
+    → ArePiecesAgain bytes layout.sections layout.own_globals (t ∷ ts) g.r.code (code_section_with bytes g.r.code g.r.entry contents) new
 adds bytes layout n contents t ts new short some g =
-    let c = code_with bytes g.r.code g.r.entry contents in
+    let c = code_section_with bytes g.r.code g.r.entry contents in
     let y = written ids.Code c in
     let more = t ∷ ts in
     let fresh = written ids.Global (new_globals more) in
@@ -209,8 +214,9 @@ adds bytes layout n contents t ts new short some g =
     let whole : IsWhole SpellsGlobal (new_globals more) (0 + length more) (map (merged true) more) =
     subst (λ (m : ℕ). IsWhole SpellsGlobal (new_globals more) m (map (merged true) more)) zero
     (new_whole more (short (length more) g.g.few) some) in
-    let there : HasGlobals (a.first ++ fresh ∷ (d.first ++ y ∷ d.second)) (grown nothing more) =
-    held_there nothing (SpellsKnown SpellsGlobal FailsGlobal) bytes ids.Global (grown nothing more) a.first (d.first ++ y ∷ d.second) fresh 8 refl lack whole in
+    let there : HasGlobals (a.first ++ fresh ∷ (d.first ++ y ∷ d.second)) (grown nothing_listed more) =
+    held_there nothing_listed (SpellsKnown SpellsGlobal FailsGlobal) bytes ids.Global (grown nothing_listed more) a.first (d.first ++ y
+    ∷ d.second) fresh 8 refl lack whole in
     record {
       first = a.first;
       old = d.first;
@@ -226,13 +232,13 @@ adds bytes layout n contents t ts new short some g =
       late = λ id some lt. lacks_again d.first d.second y d.x id (sym code_id) (late_again id some lt).1;
       late_again = late_again;
       globals = λ k e same h.
-          let is_none = held_none nothing (SpellsKnown SpellsGlobal FailsGlobal) bytes ids.Global k (a.first ++ (d.first ++ d.x ∷ d.second)) 8 none h in
+          let is_none = held_none nothing_listed (SpellsKnown SpellsGlobal FailsGlobal) bytes ids.Global k (a.first ++ (d.first ++ d.x ∷ d.second)) 8 none h in
           subst (λ (j : Known PrimitiveTypeInfo). HasGlobals (a.first ++ fresh ∷ (d.first ++ y ∷ d.second)) (grown j more)) (sym is_none) there;
     }
 
 pub pieces_again : (bytes : List ℕ) (info : Module) (layout : Layout) (n : ℕ) (contents : List ℕ) (more : List PrimitiveTypeInfo) (new : List ℕ) → Short →
     AreSome more → IsModule bytes info layout → (r : IsRewritten bytes layout n contents more new)
-    → ArePiecesAgain bytes layout.sections layout.own_globals more r.code (code_with bytes r.code r.entry contents) new
+    → ArePiecesAgain bytes layout.sections layout.own_globals more r.code (code_section_with bytes r.code r.entry contents) new
 pieces_again bytes info layout n contents [] new short some m r = alone bytes info layout n contents new short m r
 pieces_again bytes info layout n contents (t ∷ ts) new short some m r =
     elim r.front_is [

@@ -5,7 +5,7 @@ use Rattle.wasm_code.specs.Number.{SpellsUnsigned}
 use Rattle.wasm_code.specs.Reader.{unsigned_at}
 use Rattle.wasm_code.specs.laws.GrammarLemmas.{ok_is}
 use Rattle.wasm_code.specs.laws.NumberExact.{unsigned_exact}
-use Rattle.wasm_module.specs.Room.{HasCount}
+use Rattle.wasm_module.specs.Room.{CountBeginsText}
 
 one_rest : (r : Result (ℕ × List ℕ) Cause) (m n : ℕ) (a b : List ℕ) → r ≡ Ok (m, a) → r ≡ Ok (n, b) → a ≡ b
 one_rest r m n a b p q = ap (λ (z : ℕ × List ℕ). z.1) (ok_is (m, a) (n, b) (sym p ∙ q))
@@ -23,7 +23,7 @@ rest_is bytes count items behind m n r e s = one_rest (unsigned_at 32 bytes) m n
 one_number : (r : Result (ℕ × List ℕ) Cause) (m n : ℕ) (a b : List ℕ) → r ≡ Ok (m, a) → r ≡ Ok (n, b) → m ≡ n
 one_number r m n a b p q = ap (λ (z : ℕ × List ℕ). z.0) (ok_is (m, a) (n, b) (sym p ∙ q))
 
-pub number_is : (bytes behind : List ℕ) (m n : ℕ) → unsigned_at 32 bytes ≡ Ok (m, behind) → HasCount bytes n → m ≡ n
+pub number_is : (bytes behind : List ℕ) (m n : ℕ) → unsigned_at 32 bytes ≡ Ok (m, behind) → CountBeginsText bytes n → m ≡ n
 number_is bytes behind m n r h = one_number (unsigned_at 32 bytes) m n behind h.items r (reads bytes h.count h.items n h.parts h.counts)
 
 -- a text begins with one number at most
@@ -31,5 +31,5 @@ pub one_count : (bytes count items size rest : List ℕ) (m n : ℕ) → bytes �
     SpellsUnsigned 32 size n → ◌≡◌ {A = ℕ × List ℕ} (m, items) (n, rest)
 one_count bytes count items size rest m n e s f t = ok_is (m, items) (n, rest) (sym (reads bytes count items m e s) ∙ reads bytes size rest n f t)
 
-pub counts : (bytes : List ℕ) (n : ℕ) (cause : Cause) → HasCount bytes n → unsigned_at 32 bytes ≡ Err cause → ⊥
+pub counts : (bytes : List ℕ) (n : ℕ) (cause : Cause) → CountBeginsText bytes n → unsigned_at 32 bytes ≡ Err cause → ⊥
 counts bytes n cause h e = no_error (unsigned_at 32 bytes) n h.items cause (reads bytes h.count h.items n h.parts h.counts) e

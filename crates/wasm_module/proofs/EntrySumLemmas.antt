@@ -9,16 +9,16 @@ use Rattle.wasm_sections.specs.declared.section.Section.{Section}
 use Rattle.wasm_sections.specs.declared.id.SectionId.TheVariants as ids
 use Rattle.wasm_sections.specs.Laws.{IsWithin}
 use Rattle.wasm_sections.specs.Find.{IsFirstWith}
-use Rattle.wasm_declarations.specs.declared.entries.Entry.{Entry}
-use Rattle.wasm_declarations.specs.List.{Each}
-use Rattle.wasm_declarations.specs.Entries.{SpellsSized, entries_from, SpellsEntries}
+use Rattle.wasm_lists.specs.declared.entries.Entry.{Entry}
+use Rattle.wasm_lists.specs.List.{Each}
+use Rattle.wasm_lists.specs.Entries.{SpellsMeasuredSize, entries_from, SpellsEntries}
 use Rattle.wasm_module.specs.Module.{Layout, IsModule, Lists}
 use Rattle.wasm_module.proofs.InsideLemmas.{range_long, sized_text}
 
 abbrev own_size : Entry → ℕ
 own_size entry = entry.end - entry.contents
 
-sizes_few : (n : ℕ) (text : List ℕ) (sizes : List (ℕ × ℕ)) (start : ℕ) → Each n SpellsSized text sizes →
+sizes_few : (n : ℕ) (text : List ℕ) (sizes : List (ℕ × ℕ)) (start : ℕ) → Each n SpellsMeasuredSize text sizes →
     sum_by own_size (entries_from start sizes) ≤ length text
 sizes_few zero text sizes start p =
     subst (λ (l : List (ℕ × ℕ)). sum_by own_size (entries_from start l) ≤ length text) p.1 (omega arith)

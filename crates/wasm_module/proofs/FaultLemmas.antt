@@ -11,15 +11,15 @@ use Rattle.wasm_sections.specs.declared.fault.ModuleFault.TheVariants as faults
 use Rattle.wasm_sections.specs.Section.{SpellsModule}
 use Rattle.wasm_sections.specs.Sections.{IsSectionFault}
 use Rattle.wasm_sections.specs.Find.{IsFirstWith}
-use Rattle.wasm_declarations.specs.Known.{nothing, SpellsKnown, IsKnownFault}
-use Rattle.wasm_declarations.specs.List.{SpellsList, IsListFault}
-use Rattle.wasm_declarations.specs.Types.{SpellsTypeGroup, FailsTypeGroup}
-use Rattle.wasm_declarations.specs.Imports.{SpellsImport, FailsImport}
-use Rattle.wasm_declarations.specs.Tables.{SpellsTable, FailsTable, SpellsMemoryType, FailsMemoryType}
-use Rattle.wasm_declarations.specs.Globals.{SpellsGlobal, FailsGlobal}
-use Rattle.wasm_declarations.specs.Entries.{SpellsSized, FailsSized, SpellsEntries}
+use Rattle.wasm_lists.specs.Known.{nothing_listed, SpellsKnown, IsKnownFault}
+use Rattle.wasm_lists.specs.List.{SpellsList, IsListFault}
+use Rattle.wasm_lists.specs.Types.{SpellsTypeGroup, FailsTypeGroup}
+use Rattle.wasm_lists.specs.Imports.{SpellsImport, FailsImport}
+use Rattle.wasm_lists.specs.Tables.{SpellsTable, FailsTable, SpellsMemoryType, FailsMemoryType}
+use Rattle.wasm_lists.specs.Globals.{SpellsGlobal, FailsGlobal}
+use Rattle.wasm_lists.specs.Entries.{SpellsMeasuredSize, FailsSized, SpellsEntries}
 use Rattle.wasm_module.specs.Module.{Layout, Holds, IsModule}
-use Rattle.wasm_module.specs.Fault.{IsFaultOf, HasListFault, HasOtherCount, IsModuleFault}
+use Rattle.wasm_module.specs.Fault.{IsSectionFaultOf, HasListFault, HasOtherCount, IsModuleFault}
 use Rattle.wasm_module.specs.Fault.IsModuleFault.{of_sections, of_a_list, of_the_count, of_memory}
 use Rattle.wasm_module.proofs.FindLemmas.{lists_at}
 use Rattle.wasm_module.proofs.OneLemmas.{AreOne, one_listing}
@@ -37,7 +37,7 @@ pub record HaveNone : Type 0 where
   pub tables : HasNone (SpellsKnown SpellsTable FailsTable) (IsKnownFault SpellsTable FailsTable)
   pub memories : HasNone (SpellsKnown SpellsMemoryType FailsMemoryType) (IsKnownFault SpellsMemoryType FailsMemoryType)
   pub globals : HasNone (SpellsKnown SpellsGlobal FailsGlobal) (IsKnownFault SpellsGlobal FailsGlobal)
-  pub entries : HasNone SpellsEntries (IsListFault SpellsSized FailsSized)
+  pub entries : HasNone SpellsEntries (IsListFault SpellsMeasuredSize FailsSized)
 
 held : {X : Type 0} (none : X) (Spells : ℕ → List ℕ → X → Type 0) (IsFault : ℕ → List ℕ → ModuleFault → ℕ → Type 0) → HasNone Spells IsFault →
     (bytes : List ℕ) (ss : List Section) (id : SectionId) (x : X) (s : Section) → Holds none Spells bytes ss id x → IsFirstWith ss id s →
@@ -47,27 +47,28 @@ held none Spells IsFault clean bytes ss id x s h is fault offset f =
 
 no_list_fault : (bytes : List ℕ) (info : Module) (layout : Layout) (m : IsModule bytes info layout) (c : HaveNone) (id : SectionId) (s : Section) →
     IsFirstWith layout.sections id s → (fault : ModuleFault) (offset : ℕ)
-    → IsFaultOf id s.contents (slice_range bytes s.contents s.end) fault offset → fault ≡ faults.Memory
+    → IsSectionFaultOf id s.contents (slice_range bytes s.contents s.end) fault offset → fault ≡ faults.Memory
 no_list_fault bytes info layout m c ids.Type s is fault offset f =
-    held nothing (SpellsKnown SpellsTypeGroup FailsTypeGroup) (IsKnownFault SpellsTypeGroup FailsTypeGroup) c.types bytes layout.sections
+    held nothing_listed (SpellsKnown SpellsTypeGroup FailsTypeGroup) (IsKnownFault SpellsTypeGroup FailsTypeGroup) c.types bytes layout.sections
     ids.Type m.types s m.types_are is fault offset f
 no_list_fault bytes info layout m c ids.Import s is fault offset f =
-    held nothing (SpellsKnown SpellsImport FailsImport) (IsKnownFault SpellsImport FailsImport) c.imports bytes layout.sections ids.Import m.imports s
+    held nothing_listed (SpellsKnown SpellsImport FailsImport) (IsKnownFault SpellsImport FailsImport) c.imports bytes layout.sections ids.Import m.imports s
     m.imports_are is fault offset f
 no_list_fault bytes info layout m c ids.Function s is fault offset f =
     held [] (λ _. SpellsList (SpellsUnsigned 32)) (IsListFault (SpellsUnsigned 32) (FailsUnsigned 32)) c.functions bytes layout.sections ids.Function
     m.functions s m.functions_are is fault offset f
 no_list_fault bytes info layout m c ids.Table s is fault offset f =
-    held nothing (SpellsKnown SpellsTable FailsTable) (IsKnownFault SpellsTable FailsTable) c.tables bytes layout.sections ids.Table
+    held nothing_listed (SpellsKnown SpellsTable FailsTable) (IsKnownFault SpellsTable FailsTable) c.tables bytes layout.sections ids.Table
     m.tables s m.tables_are is fault offset f
 no_list_fault bytes info layout m c ids.Memory s is fault offset f =
-    held nothing (SpellsKnown SpellsMemoryType FailsMemoryType) (IsKnownFault SpellsMemoryType FailsMemoryType) c.memories bytes layout.sections ids.Memory
+    held nothing_listed (SpellsKnown SpellsMemoryType FailsMemoryType) (IsKnownFault SpellsMemoryType FailsMemoryType) c.memories bytes
+    layout.sections ids.Memory
     m.memories s m.memories_are is fault offset f
 no_list_fault bytes info layout m c ids.Global s is fault offset f =
-    held nothing (SpellsKnown SpellsGlobal FailsGlobal) (IsKnownFault SpellsGlobal FailsGlobal) c.globals bytes layout.sections ids.Global m.globals s
+    held nothing_listed (SpellsKnown SpellsGlobal FailsGlobal) (IsKnownFault SpellsGlobal FailsGlobal) c.globals bytes layout.sections ids.Global m.globals s
     m.globals_are is fault offset f
 no_list_fault bytes info layout m c ids.Code s is fault offset f =
-    held [] SpellsEntries (IsListFault SpellsSized FailsSized) c.entries bytes layout.sections ids.Code layout.entries s m.entries_are is fault offset f
+    held [] SpellsEntries (IsListFault SpellsMeasuredSize FailsSized) c.entries bytes layout.sections ids.Code layout.entries s m.entries_are is fault offset f
 no_list_fault bytes info layout m c _ s is fault offset f = absurd f
 
 no_other_count : (bytes : List ℕ) (info : Module) (layout : Layout) (m : IsModule bytes info layout) (one : AreOne) (offset : ℕ)

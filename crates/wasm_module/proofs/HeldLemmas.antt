@@ -4,7 +4,7 @@ use Rattle.std.specs.Prelude.{max, slice_range}
 use Rattle.wasm_sections.specs.declared.id.SectionId.{SectionId}
 use Rattle.wasm_sections.specs.declared.section.Section.{Section}
 use Rattle.wasm_sections.specs.Id.{rank_of}
-use Rattle.wasm_sections.specs.Section.{parts_of}
+use Rattle.wasm_sections.specs.Section.{section_parts_of}
 use Rattle.wasm_sections.specs.Find.{LackId, IsFirstWith}
 use Rattle.wasm_sections.specs.lemmas.PieceLemmas.{Piece, joined, AreSorted, contents_at, end_at, placed, all_placed, part, parts, last_of, sorted_cut, end_is}
 use Rattle.wasm_module.specs.Module.{Holds}
@@ -33,7 +33,7 @@ module _ {X : Type 0} (none : X) (Spells : ℕ → List ℕ → X → Type 0) (b
   lacking [] start lack e = e
   lacking (p ∷ ps) start lack e = inr (lack.0, lacking ps (end_at start p) lack.1 e)
 
-  found : (ps : List Piece) (start : ℕ) (before after : List Section) (s : Section) → parts_of bytes (all_placed start ps) ≡ parts ps →
+  found : (ps : List Piece) (start : ℕ) (before after : List Section) (s : Section) → section_parts_of bytes (all_placed start ps) ≡ parts ps →
       all_placed start ps ≡ before ++ s ∷ after → s.id ≡ id → LackId before id → Spells s.contents (slice_range bytes s.contents s.end) x
       → HeldBy none Spells start ps id x
   found [] start [] after s same e is lack spells = absurd cc
@@ -50,7 +50,7 @@ module _ {X : Type 0} (none : X) (Spells : ℕ → List ℕ → X → Type 0) (b
         found ps (end_at start p) before after s (split_parts _ (part p) _ (parts ps) same).1 h.1 is lack.1 spells,
       )
 
-  pub held : (ps : List Piece) (start : ℕ) (ss : List Section) → parts_of bytes (all_placed start ps) ≡ parts ps → ss ≡ all_placed start ps →
+  pub held : (ps : List Piece) (start : ℕ) (ss : List Section) → section_parts_of bytes (all_placed start ps) ≡ parts ps → ss ≡ all_placed start ps →
       Holds none Spells bytes ss id x → HeldBy none Spells start ps id x
   held ps start ss same e (inl h) = found ps start h.1.before h.1.behind h.0 same (sym e ∙ h.1.parts) h.1.has h.1.none h.2
   held ps start ss same e (inr h) = lacking ps start (subst (λ (l : List Section). LackId l id) e h.0) h.1
@@ -69,7 +69,7 @@ module _ {X : Type 0} (none : X) (Spells : ℕ → List ℕ → X → Type 0) (b
   )
   next_holds s ss differ (inr h) = inr ((differ, h.0), h.1)
 
-  pub holds : (ps : List Piece) (start : ℕ) → parts_of bytes (all_placed start ps) ≡ parts ps → HeldBy none Spells start ps id x →
+  pub holds : (ps : List Piece) (start : ℕ) → section_parts_of bytes (all_placed start ps) ≡ parts ps → HeldBy none Spells start ps id x →
       Holds none Spells bytes (all_placed start ps) id x
   holds [] start same h = inr (tt, h)
   holds (p ∷ ps) start same (inl h) =

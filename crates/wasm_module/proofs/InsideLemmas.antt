@@ -9,9 +9,9 @@ use Rattle.wasm_sections.specs.declared.id.SectionId.{SectionId}
 use Rattle.wasm_sections.specs.declared.id.SectionId.TheVariants as ids
 use Rattle.wasm_sections.specs.Laws.{IsWithin}
 use Rattle.wasm_sections.specs.Find.{IsFirstWith}
-use Rattle.wasm_declarations.specs.declared.entries.Entry.{Entry}
-use Rattle.wasm_declarations.specs.List.{Each}
-use Rattle.wasm_declarations.specs.Entries.{SpellsSized, entries_from, SpellsEntries}
+use Rattle.wasm_lists.specs.declared.entries.Entry.{Entry}
+use Rattle.wasm_lists.specs.List.{Each}
+use Rattle.wasm_lists.specs.Entries.{SpellsMeasuredSize, entries_from, SpellsEntries}
 use Rattle.wasm_module.specs.Module.{Lists}
 use Rattle.wasm_module.specs.Inside.{IsInside}
 use Rattle.wasm_module.specs.Contents.{AreContents}
@@ -27,7 +27,7 @@ pub record IsSizedText (text : List ℕ) (x : ℕ × ℕ) : Type 0 where
   pub long : 0 < x.1
   pub whole : length text ≡ x.1 + x.0
 
-pub sized_text : (text : List ℕ) (x : ℕ × ℕ) → SpellsSized text x → IsSizedText text x
+pub sized_text : (text : List ℕ) (x : ℕ × ℕ) → SpellsMeasuredSize text x → IsSizedText text x
 sized_text text x p =
     let long : 0 < length p.front = group_long p.front p.first.spells.group in
     let at : length p.front ≡ p.value.1 = p.first.bytes in
@@ -61,7 +61,7 @@ nothing start k entry e = cc
 there : (start mid to : ℕ) (entry : Entry) → start ≤ mid → IsEntryWithin mid to entry → IsEntryWithin start to entry
 there start mid to entry le w = record { first = omega (arith, w.first); sized = w.sized; ordered = w.ordered; last = w.last }
 
-pub entry_within : (n : ℕ) (text : List ℕ) (sizes : List (ℕ × ℕ)) (start k : ℕ) (entry : Entry) → Each n SpellsSized text sizes →
+pub entry_within : (n : ℕ) (text : List ℕ) (sizes : List (ℕ × ℕ)) (start k : ℕ) (entry : Entry) → Each n SpellsMeasuredSize text sizes →
     slice_get (entries_from start sizes) k ≡ Some entry → IsEntryWithin start (start + length text) entry
 entry_within zero text sizes start k entry p e =
     absurd (nothing start k entry (ap (λ (l : List (ℕ × ℕ)). slice_get (entries_from start l) k) p.1 ∙ e))

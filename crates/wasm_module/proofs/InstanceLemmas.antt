@@ -11,20 +11,21 @@ use Rattle.wasm_sections.specs.declared.id.SectionId.{SectionId}
 use Rattle.wasm_sections.specs.declared.id.SectionId.TheVariants as ids
 use Rattle.wasm_sections.specs.declared.section.Section.{Section}
 use Rattle.wasm_sections.specs.Id.{id_code}
-use Rattle.wasm_sections.specs.Section.{SpellsModule, parts_of}
+use Rattle.wasm_sections.specs.Section.{SpellsModule, section_parts_of}
 use Rattle.wasm_sections.specs.Find.{LackId}
 use Rattle.wasm_sections.specs.Laws.{SpellsParts}
 use Rattle.wasm_sections.specs.lemmas.IdLemmas.{one_id}
-use Rattle.wasm_declarations.specs.Globals.{SpellsGlobal, FailsGlobal}
+use Rattle.wasm_lists.specs.Globals.{SpellsGlobal, FailsGlobal}
 use Rattle.wasm_module.specs.Module.{Layout, Holds, IsModule}
-use Rattle.wasm_module.specs.Rewritten.{globals_code, new_globals, GrowsContents, GrowsGlobals, AddsGlobals, code_with, IsRewritten}
+use Rattle.wasm_module.specs.Rewritten.{globals_code, new_globals, GrowsContents, GrowsGlobals, AddsGlobals, code_section_with, IsRewritten}
 use Rattle.wasm_module.specs.Again.{ArePartsWith, AreSectionsAgain}
 use Rattle.wasm_module.specs.Instance.{is_read_whole, HasSection, CountsGlobals, HasOwnGlobals, Making, IsMadeOf, with_more_globals}
 use Rattle.wasm_module.proofs.FindLemmas.{lists_at, lists_nothing}
 use Rattle.wasm_module.proofs.CountLemmas.{one_count}
 use Rattle.wasm_module.proofs.HeldLemmas.{next_holds}
 use Rattle.wasm_module.proofs.RoomLemmas.{known_counted}
-use Rattle.wasm_module.proofs.AgainLemmas.{Parts, Short, growth, growth_parts, addition, addition_parts, module_again}
+use Rattle.wasm_module.proofs.AgainLemmas.{Parts, Short}
+use Rattle.wasm_module.proofs.GrownLemmas.{growth, growth_parts, addition, addition_parts, module_again}
 use Rattle.wasm_module.proofs.StaysLemmas.{Stay, held_still}
 
 -- ---- what sections hold, by their ids and contents
@@ -34,29 +35,29 @@ abbrev HeldIn : {X : Type 0} → (none : X) → (List ℕ → X → Type 0) → 
 HeldIn none Spells [] id x = x ≡ none
 HeldIn none Spells (p ∷ ps) id x = ((p.0 ≡ id) × Spells p.1 x) ⊎ ((p.0 ≡ id → ⊥) × HeldIn none Spells ps id x)
 
-parts-append : (bytes : List ℕ) (u w : List Section) → parts_of bytes (u ++ w) ≡ parts_of bytes u ++ parts_of bytes w
+parts-append : (bytes : List ℕ) (u w : List Section) → section_parts_of bytes (u ++ w) ≡ section_parts_of bytes u ++ section_parts_of bytes w
 parts-append bytes u w = map-append (λ (s : Section). (s.id, slice_range bytes s.contents s.end)) u w
 
 module _ {X : Type 0} (none : X) (Spells : List ℕ → X → Type 0) (id : SectionId) (x : X) where
   -- what the first with the id holds
   held_there : (bytes text : List ℕ) (before : List Section) (w : Parts) (i : SectionId) → i ≡ id → LackId before id → Spells text x →
-      HeldIn none Spells (parts_of bytes before ++ (i, text) ∷ w) id x
+      HeldIn none Spells (section_parts_of bytes before ++ (i, text) ∷ w) id x
   held_there bytes text [] w i is lack spells = inl (is, spells)
   held_there bytes text (s ∷ before) w i is lack spells = inr (lack.0, held_there bytes text before w i is lack.1 spells)
 
-  held_nowhere : (bytes : List ℕ) (ss : List Section) → LackId ss id → x ≡ none → HeldIn none Spells (parts_of bytes ss) id x
+  held_nowhere : (bytes : List ℕ) (ss : List Section) → LackId ss id → x ≡ none → HeldIn none Spells (section_parts_of bytes ss) id x
   held_nowhere bytes [] lack e = e
   held_nowhere bytes (s ∷ ss) lack e = inr (lack.0, held_nowhere bytes ss lack.1 e)
 
-  held_in : (bytes : List ℕ) (ss : List Section) → Holds none (λ start. Spells) bytes ss id x → HeldIn none Spells (parts_of bytes ss) id x
+  held_in : (bytes : List ℕ) (ss : List Section) → Holds none (λ start. Spells) bytes ss id x → HeldIn none Spells (section_parts_of bytes ss) id x
   held_in bytes ss (inl h) =
       let f = h.1 in
       subst (λ (l : Parts). HeldIn none Spells l id x)
-      (sym (ap (parts_of bytes) f.parts ∙ parts-append bytes f.before (h.0 ∷ f.behind)))
-      (held_there bytes (slice_range bytes h.0.contents h.0.end) f.before (parts_of bytes f.behind) h.0.id f.has f.none h.2)
+      (sym (ap (section_parts_of bytes) f.parts ∙ parts-append bytes f.before (h.0 ∷ f.behind)))
+      (held_there bytes (slice_range bytes h.0.contents h.0.end) f.before (section_parts_of bytes f.behind) h.0.id f.has f.none h.2)
   held_in bytes ss (inr h) = held_nowhere bytes ss h.0 h.1
 
-  holds_in : (bytes : List ℕ) (ss : List Section) → HeldIn none Spells (parts_of bytes ss) id x → Holds none (λ start. Spells) bytes ss id x
+  holds_in : (bytes : List ℕ) (ss : List Section) → HeldIn none Spells (section_parts_of bytes ss) id x → Holds none (λ start. Spells) bytes ss id x
   holds_in bytes [] h = inr (tt, h)
   holds_in bytes (s ∷ ss) (inl h) = inl (s, record { before = []; behind = ss; parts = refl; has = h.0; none = tt }, h.1)
   holds_in bytes (s ∷ ss) (inr h) = next_holds none (λ start. Spells) bytes id x s ss h.0 (holds_in bytes ss h.1)
@@ -84,14 +85,14 @@ module _ {X : Type 0} (none : X) (Spells : List ℕ → X → Type 0) (id : Sect
 
   -- more globals before the code leave the other sections
   front_held : (bytes : List ℕ) (layout : Layout) (more : List PrimitiveTypeInfo) (before : List Section) (front rest : Parts) → (ids.Global ≡ id → ⊥) →
-      ArePartsWith bytes layout more before front → HeldIn none Spells (parts_of bytes before ++ rest) id x → HeldIn none Spells (front ++ rest) id x
+      ArePartsWith bytes layout more before front → HeldIn none Spells (section_parts_of bytes before ++ rest) id x → HeldIn none Spells (front ++ rest) id x
   front_held bytes layout [] before front rest differ e h = subst (λ (l : Parts). HeldIn none Spells (l ++ rest) id x) (sym e) h
   front_held bytes layout (t ∷ ts) before front rest differ (inl g) h =
-      let first = parts_of bytes g.before in
-      let behind = parts_of bytes g.behind in
+      let first = section_parts_of bytes g.before in
+      let behind = section_parts_of bytes g.behind in
       let text = slice_range bytes g.section.contents g.section.end in
-      let was : parts_of bytes before ++ rest ≡ first ++ (g.section.id, text) ∷ (behind ++ rest) =
-      ap (λ (l : List Section). parts_of bytes l ++ rest) g.sections_are
+      let was : section_parts_of bytes before ++ rest ≡ first ++ (g.section.id, text) ∷ (behind ++ rest) =
+      ap (λ (l : List Section). section_parts_of bytes l ++ rest) g.sections_are
       ∙ ap (λ (l : Parts). l ++ rest) (parts-append bytes g.before (g.section ∷ g.behind))
       ∙ append_assoc first ((g.section.id, text) ∷ behind) rest in
       let now : front ++ rest ≡ first ++ (ids.Global, g.contents) ∷ (behind ++ rest) = ap (λ (l : Parts). l ++ rest) g.parts_are
@@ -100,10 +101,10 @@ module _ {X : Type 0} (none : X) (Spells : List ℕ → X → Type 0) (id : Sect
       (held_beside first (behind ++ rest) g.section.id ids.Global text g.contents (λ same. differ (sym g.is ∙ same)) differ
       (subst (λ (l : Parts). HeldIn none Spells l id x) was h))
   front_held bytes layout (t ∷ ts) before front rest differ (inr g) h =
-      let first = parts_of bytes g.before in
-      let behind = parts_of bytes g.behind in
-      let was : parts_of bytes before ++ rest ≡ first ++ (behind ++ rest) =
-      ap (λ (l : List Section). parts_of bytes l ++ rest) g.sections_are ∙ ap (λ (l : Parts). l ++ rest) (parts-append bytes g.before g.behind)
+      let first = section_parts_of bytes g.before in
+      let behind = section_parts_of bytes g.behind in
+      let was : section_parts_of bytes before ++ rest ≡ first ++ (behind ++ rest) =
+      ap (λ (l : List Section). section_parts_of bytes l ++ rest) g.sections_are ∙ ap (λ (l : Parts). l ++ rest) (parts-append bytes g.before g.behind)
       ∙ append_assoc first behind rest in
       let now : front ++ rest ≡ first ++ (ids.Global, new_globals (t ∷ ts)) ∷ (behind ++ rest) = ap (λ (l : Parts). l ++ rest) g.parts_are
       ∙ append_assoc first ((ids.Global, new_globals (t ∷ ts)) ∷ behind) rest in
@@ -113,12 +114,13 @@ module _ {X : Type 0} (none : X) (Spells : List ℕ → X → Type 0) (id : Sect
   -- other contents of the code leave the other sections
   code_held : (bytes c : List ℕ) (before behind : List Section) (code : Section) (sections : List Section) → sections ≡ before ++ code ∷ behind →
       code.id ≡ ids.Code → (ids.Code ≡ id → ⊥) → Holds none (λ start. Spells) bytes sections id x
-      → HeldIn none Spells (parts_of bytes before ++ (ids.Code, c) ∷ parts_of bytes behind) id x
+      → HeldIn none Spells (section_parts_of bytes before ++ (ids.Code, c) ∷ section_parts_of bytes behind) id x
   code_held bytes c before behind code sections e is differ h =
       let text = slice_range bytes code.contents code.end in
-      let was : parts_of bytes sections ≡ parts_of bytes before ++ (code.id, text) ∷ parts_of bytes behind = ap (parts_of bytes) e
+      let was : section_parts_of bytes sections ≡ section_parts_of bytes before ++ (code.id, text) ∷ section_parts_of bytes behind =
+      ap (section_parts_of bytes) e
       ∙ parts-append bytes before (code ∷ behind) in
-      held_beside (parts_of bytes before) (parts_of bytes behind) code.id ids.Code text c (λ same. differ (sym is ∙ same)) differ
+      held_beside (section_parts_of bytes before) (section_parts_of bytes behind) code.id ids.Code text c (λ same. differ (sym is ∙ same)) differ
       (subst (λ (l : Parts). HeldIn none Spells l id x) was (held_in bytes sections h))
 
   -- a module with another code entry and more globals holds in its other sections what it held
@@ -126,9 +128,9 @@ module _ {X : Type 0} (none : X) (Spells : List ℕ → X → Type 0) (id : Sect
       (sections : List Section) → (a : AreSectionsAgain bytes layout n contents more new) → a.spells.sections ≡ sections → (ids.Code ≡ id → ⊥)
       → (ids.Global ≡ id → ⊥) → Holds none (λ start. Spells) bytes layout.sections id x → Holds none (λ start. Spells) new sections id x
   again_held bytes layout n contents more new sections a same code global h =
-      let c = code_with bytes a.code a.entry contents in
-      spelled_holds new (a.front ++ (ids.Code, c) ∷ parts_of bytes a.behind) sections a.spells same
-      (front_held bytes layout more a.before a.front ((ids.Code, c) ∷ parts_of bytes a.behind) global a.front_is
+      let c = code_section_with bytes a.code a.entry contents in
+      spelled_holds new (a.front ++ (ids.Code, c) ∷ section_parts_of bytes a.behind) sections a.spells same
+      (front_held bytes layout more a.before a.front ((ids.Code, c) ∷ section_parts_of bytes a.behind) global a.front_is
       (code_held bytes c a.before a.behind a.code layout.sections a.sections_are a.is code h))
 
 -- ---- globals
@@ -162,10 +164,10 @@ module _ (bytes : List ℕ) (info : Module) (layout : Layout) (n : ℕ) (content
       GrowsGlobals bytes layout (t ∷ ts) r.code.start r.front → HasOwnGlobals new sections (more_globals (t ∷ ts) g)
   grown_held t ts r w =
       let k = growth bytes info layout n contents t ts new m r w in
-      let c = code_with bytes r.code r.entry contents in
-      let first = parts_of bytes w.is.before in
-      let mid = parts_of bytes k.b.mid in
-      let rest = (ids.Code, c) ∷ parts_of bytes r.code_is.behind in
+      let c = code_section_with bytes r.code r.entry contents in
+      let first = section_parts_of bytes w.is.before in
+      let mid = section_parts_of bytes k.b.mid in
+      let rest = (ids.Code, c) ∷ section_parts_of bytes r.code_is.behind in
       let p = growth_parts bytes layout n contents t ts new k short in
       let text = slice_range bytes w.section.contents w.section.end in
       let was = lists_at (0, []) (λ start. CountsGlobals) bytes layout.sections ids.Global g w.section held w.is in
@@ -182,10 +184,10 @@ module _ (bytes : List ℕ) (info : Module) (layout : Layout) (n : ℕ) (content
   added_held t ts r w =
       let more = t ∷ ts in
       let k = addition bytes info layout n contents t ts new m r w in
-      let c = code_with bytes r.code r.entry contents in
-      let first = parts_of bytes w.is.before in
-      let mid = parts_of bytes k.b.mid in
-      let rest = (ids.Code, c) ∷ parts_of bytes r.code_is.behind in
+      let c = code_section_with bytes r.code r.entry contents in
+      let first = section_parts_of bytes w.is.before in
+      let mid = section_parts_of bytes k.b.mid in
+      let rest = (ids.Code, c) ∷ section_parts_of bytes r.code_is.behind in
       let p = addition_parts bytes layout n contents t ts new k short in
       let none : g ≡ (0, []) = lists_nothing (0, []) (λ start. CountsGlobals) bytes layout.sections ids.Global g held w.none in
       let zero : length more ≡ 0 + length more = omega arith in
@@ -209,8 +211,8 @@ module _ (bytes : List ℕ) (info : Module) (layout : Layout) (n : ℕ) (content
   globals_held : (more : List PrimitiveTypeInfo) → IsRewritten bytes layout n contents more new → HasOwnGlobals new sections (more_globals more g)
   globals_held [] r =
       let a = module_again bytes info layout n contents [] new short m r in
-      let c = code_with bytes a.code a.entry contents in
-      let rest = (ids.Code, c) ∷ parts_of bytes a.behind in
+      let c = code_section_with bytes a.code a.entry contents in
+      let rest = (ids.Code, c) ∷ section_parts_of bytes a.behind in
       let here = code_held (0, []) CountsGlobals ids.Global g bytes c a.before a.behind a.code layout.sections a.sections_are a.is (λ same. absurd cc)
       held in
       subst (HasOwnGlobals new sections) (none_more g)

@@ -1,5 +1,6 @@
 pub mod FaultLemmas
 pub mod BodyLemmas
+pub mod RewrittenBody
 pub mod HeldLemmas
 pub mod FindLemmas
 pub mod NewGlobalLemmas
@@ -11,6 +12,7 @@ pub mod RoomLemmas
 pub mod RewrittenLemmas
 pub mod PieceLemmas
 pub mod AgainLemmas
+pub mod GrownLemmas
 pub mod AgainPieces
 pub mod RereadLemmas
 pub mod MovedLemmas

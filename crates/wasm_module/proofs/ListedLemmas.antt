@@ -8,8 +8,8 @@ use Rattle.wasm_sections.specs.declared.fault.ModuleFault.TheVariants.{Memory}
 use Rattle.wasm_code.specs.Number.{SpellsUnsigned}
 use Rattle.wasm_types.specs.Module.{Module}
 use Rattle.wasm_sections.specs.declared.id.SectionId.TheVariants as ids
-use Rattle.wasm_declarations.specs.List.{SpellsList}
-use Rattle.wasm_declarations.specs.Entries.{SpellsEntries}
+use Rattle.wasm_lists.specs.List.{SpellsList}
+use Rattle.wasm_lists.specs.Entries.{SpellsEntries}
 use Rattle.wasm_module.specs.Module.{Layout, Holds, IsModule}
 use Rattle.wasm_module.specs.Lists.{Listed, AreListed}
 use Rattle.wasm_module.proofs.OneLemmas.{AreOne, one_listing}

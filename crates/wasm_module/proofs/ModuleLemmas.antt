@@ -9,9 +9,9 @@ use Rattle.wasm_sections.specs.declared.section.Section.{Section}
 use Rattle.wasm_sections.specs.declared.fault.ModuleError.{ModuleError}
 use Rattle.wasm_sections.specs.declared.id.SectionId.TheVariants as ids
 use Rattle.wasm_sections.specs.Section.{SpellsModule}
-use Rattle.wasm_declarations.specs.Entries.{SpellsEntries}
-use Rattle.wasm_declarations.specs.Types.{types_in}
-use Rattle.wasm_declarations.specs.declared.entries.Entry.{Entry}
+use Rattle.wasm_lists.specs.Entries.{SpellsEntries}
+use Rattle.wasm_lists.specs.Types.{types_in}
+use Rattle.wasm_lists.specs.declared.entries.Entry.{Entry}
 use Rattle.wasm_module.specs.declared.unknown.Unknown.{Unknown}
 use Rattle.wasm_module.specs.Module.{Layout, Lists, space, functions_of, tables_of, memories_of, globals_of, IsModule}
 use Rattle.wasm_module.specs.Lists.{Listed, AreListed, unknown_in}

@@ -1,5 +1,6 @@
 -- The entries of a module's code, moved along with its code section.
-use Rattle.std.proofs.Common.{◌≡◌, inl, inr, ℕ, zero, suc, ◌+◌, ◌-◌, ◌<◌, ◌≤◌, ◌^◌, List, [], ◌∷◌, ◌++◌, length, get_or, take, drop, set, map, Some, Result, Ok, Err, refl, sym, ap, ap₂, subst, ◌∙◌, arith}
+use Rattle.std.proofs.Common.{◌≡◌, inl, inr, ℕ, zero, suc, ◌+◌, ◌-◌, ◌<◌, ◌≤◌, ◌^◌, List, [], ◌∷◌, ◌++◌, length, get_or, take, drop, set}
+use Rattle.std.proofs.Common.{map, Some, Result, Ok, Err, refl, sym, ap, ap₂, subst, ◌∙◌, arith}
 use Rattle.std.specs.Prelude.{IfErr, MatchResult, slice_get, slice_range}
 use Rattle.std.specs.List.{All, AllByRecursion}
 use Rattle.std.proofs.lemmas.List.{append-nil, take_all, drop_all, length-append, length-map, length-take, length-drop, get_or_default}
@@ -12,17 +13,17 @@ use Rattle.wasm_types.specs.declared.types.PrimitiveTypeInfo.{PrimitiveTypeInfo}
 use Rattle.wasm_sections.specs.declared.section.Section.{Section}
 use Rattle.wasm_sections.specs.declared.id.SectionId.TheVariants as ids
 use Rattle.wasm_sections.specs.Find.{IsFirstWith, LackId}
-use Rattle.wasm_declarations.specs.declared.entries.Entry.{Entry}
-use Rattle.wasm_declarations.specs.Entries.{entries_from, SpellsEntries}
-use Rattle.wasm_declarations.specs.Globals.{SpellsGlobal, FailsGlobal}
-use Rattle.wasm_declarations.specs.Known.{Known, nothing, SpellsKnown}
+use Rattle.wasm_lists.specs.declared.entries.Entry.{Entry}
+use Rattle.wasm_lists.specs.Entries.{entries_from, SpellsEntries}
+use Rattle.wasm_lists.specs.Globals.{SpellsGlobal, FailsGlobal}
+use Rattle.wasm_lists.specs.Known.{Known, nothing_listed, SpellsKnown}
 use Rattle.wasm_module.specs.declared.unknown.Unknown.{Unknown}
 use Rattle.wasm_module.specs.Contents.{AreContents}
 use Rattle.wasm_module.specs.Inside.{IsInside}
 use Rattle.wasm_module.specs.Module.{Layout, IsModule}
 use Rattle.wasm_module.specs.Moved.{moved, AreMoved, CanMove, CanMoveAround}
 use Rattle.wasm_module.specs.Reread.{IsReread, IsMoving}
-use Rattle.wasm_module.specs.Room.{HasCount, IsCodePlace}
+use Rattle.wasm_module.specs.Room.{CountBeginsText, IsCodePlace}
 use Rattle.wasm_module.proofs.AgainLemmas.{Short}
 use Rattle.wasm_module.proofs.FindLemmas.{lists_at, lists_nothing}
 use Rattle.wasm_module.proofs.InsideLemmas.{range_long}
@@ -219,7 +220,8 @@ move_at bytes new layout again info n contents code place old short sized small 
       };
     })
 
-pub move_of : (layout : Layout) (sections : List Section) (n : ℕ) (new : List ℕ) (m : IsMoving layout sections n new) → AreInside → Short → length new < 2 ^ 64 →
+pub move_of : (layout : Layout) (sections : List Section) (n : ℕ) (new : List ℕ) (m : IsMoving layout sections n new) → AreInside → Short →
+    length new < 2 ^ 64 →
     (code place : Section) (old : Entry) → IsCodePlace m.bytes layout n code old → IsFirstWith sections ids.Code place
     → IsMove layout.entries n m.contents new code place old m.reread.again.entries
 move_of layout sections n new m within short small code place old p is =
@@ -242,18 +244,18 @@ has_code layout sections n new m =
 -- ---- the globals
 
 pub globals_counted : (bytes : List ℕ) (info : Module) (layout : Layout) (sections : List Section) (start : ℕ) (text : List ℕ) → IsModule bytes info layout →
-    layout.sections ≡ sections → AreContents bytes sections ids.Global start text → HasCount text layout.own_globals
+    layout.sections ≡ sections → AreContents bytes sections ids.Global start text → CountBeginsText text layout.own_globals
 globals_counted bytes info layout sections start text m e a =
     let is = subst (λ (l : List Section). IsFirstWith l ids.Global a.section) (sym e) a.is in
-    subst (λ (l : List ℕ). HasCount l layout.own_globals) (sym a.text_is)
+    subst (λ (l : List ℕ). CountBeginsText l layout.own_globals) (sym a.text_is)
     (known_counted SpellsGlobal FailsGlobal a.section.contents (slice_range bytes a.section.contents a.section.end) m.globals.count layout.own_globals
     m.globals.items m.globals.unknown
-    (lists_at nothing (SpellsKnown SpellsGlobal FailsGlobal) bytes layout.sections ids.Global m.globals a.section m.globals_are is) m.own)
+    (lists_at nothing_listed (SpellsKnown SpellsGlobal FailsGlobal) bytes layout.sections ids.Global m.globals a.section m.globals_are is) m.own)
 
 pub no_globals : (bytes : List ℕ) (info : Module) (layout : Layout) (sections : List Section) → IsModule bytes info layout → layout.sections ≡ sections →
     LackId sections ids.Global → 0 ≡ layout.own_globals
 no_globals bytes info layout sections m e lack =
-    let none = lists_nothing nothing (SpellsKnown SpellsGlobal FailsGlobal) bytes layout.sections ids.Global m.globals m.globals_are
+    let none = lists_nothing nothing_listed (SpellsKnown SpellsGlobal FailsGlobal) bytes layout.sections ids.Global m.globals m.globals_are
     (subst (λ (l : List Section). LackId l ids.Global) (sym e) lack) in
     sym (m.own ∙ ap (λ (k : Known PrimitiveTypeInfo). k.count) none)
 

@@ -21,11 +21,11 @@ use Rattle.wasm_code.specs.laws.NumberExact.{unsigned_exact}
 use Rattle.wasm_types.specs.declared.types.PrimitiveTypeInfo.{PrimitiveTypeInfo}
 use Rattle.wasm_types.specs.declared.types.PrimitiveTypeInfo.TheVariants as primitives
 use Rattle.wasm_types.specs.Module.{merged}
-use Rattle.wasm_declarations.specs.ValueTypes.{SpellsPrimitive}
-use Rattle.wasm_declarations.specs.Constants.{SpellsConstant}
-use Rattle.wasm_declarations.specs.Globals.{SpellsGlobal}
-use Rattle.wasm_declarations.specs.Known.{Known, IsWhole}
-use Rattle.wasm_declarations.specs.List.{Each}
+use Rattle.wasm_lists.specs.ValueTypes.{SpellsPrimitive}
+use Rattle.wasm_lists.specs.Constants.{SpellsConstant}
+use Rattle.wasm_lists.specs.Globals.{SpellsGlobal}
+use Rattle.wasm_lists.specs.Known.{Known, IsWhole}
+use Rattle.wasm_lists.specs.List.{Each}
 use Rattle.wasm_module.specs.Rewritten.{zeros, global_of, global_code, globals_code, new_globals, GrowsContents}
 use Rattle.wasm_module.proofs.CountLemmas.{rest_is}
 

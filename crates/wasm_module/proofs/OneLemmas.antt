@@ -10,15 +10,15 @@ use Rattle.wasm_sections.specs.declared.section.Section.{Section}
 use Rattle.wasm_sections.specs.declared.fault.ModuleError.{ModuleError}
 use Rattle.wasm_sections.specs.declared.id.SectionId.{SectionId}
 use Rattle.wasm_sections.specs.declared.id.SectionId.TheVariants as ids
-use Rattle.wasm_declarations.specs.declared.import.Import.{Import}
-use Rattle.wasm_declarations.specs.declared.entries.Entry.{Entry}
-use Rattle.wasm_declarations.specs.Known.{Known, nothing, SpellsKnown}
-use Rattle.wasm_declarations.specs.List.{SpellsList}
-use Rattle.wasm_declarations.specs.Types.{SpellsTypeGroup, FailsTypeGroup, types_in}
-use Rattle.wasm_declarations.specs.Imports.{SpellsImport, FailsImport}
-use Rattle.wasm_declarations.specs.Tables.{SpellsTable, FailsTable, SpellsMemoryType, FailsMemoryType}
-use Rattle.wasm_declarations.specs.Globals.{SpellsGlobal, FailsGlobal}
-use Rattle.wasm_declarations.specs.Entries.{SpellsEntries}
+use Rattle.wasm_lists.specs.declared.import.Import.{Import}
+use Rattle.wasm_lists.specs.declared.entries.Entry.{Entry}
+use Rattle.wasm_lists.specs.Known.{Known, nothing_listed, SpellsKnown}
+use Rattle.wasm_lists.specs.List.{SpellsList}
+use Rattle.wasm_lists.specs.Types.{SpellsTypeGroup, FailsTypeGroup, types_in}
+use Rattle.wasm_lists.specs.Imports.{SpellsImport, FailsImport}
+use Rattle.wasm_lists.specs.Tables.{SpellsTable, FailsTable, SpellsMemoryType, FailsMemoryType}
+use Rattle.wasm_lists.specs.Globals.{SpellsGlobal, FailsGlobal}
+use Rattle.wasm_lists.specs.Entries.{SpellsEntries}
 use Rattle.wasm_module.specs.declared.unknown.Unknown.{Unknown}
 use Rattle.wasm_module.specs.Module.{Layout, Holds, space, functions_of, tables_of, memories_of, globals_of, IsModule}
 use Rattle.wasm_module.proofs.FindLemmas.{lists_at, lists_nothing}
@@ -94,17 +94,17 @@ items_of {A} k j same = ap (λ (x : Known A). x.items) same
 pub one_module : (bytes : List ℕ) (i j : Module) (k l : Layout) → AreOne → k.sections ≡ l.sections → IsModule bytes i k → IsModule bytes j l →
     i.exact ≡ j.exact → (i ≡ j) × (k ≡ l)
 one_module bytes i j k l one same m n mark =
-    let types = one_listing nothing (SpellsKnown SpellsTypeGroup FailsTypeGroup) one.types bytes k.sections l.sections
+    let types = one_listing nothing_listed (SpellsKnown SpellsTypeGroup FailsTypeGroup) one.types bytes k.sections l.sections
     ids.Type m.types n.types same m.types_are n.types_are in
-    let imports = one_listing nothing (SpellsKnown SpellsImport FailsImport) one.imports bytes k.sections l.sections
+    let imports = one_listing nothing_listed (SpellsKnown SpellsImport FailsImport) one.imports bytes k.sections l.sections
     ids.Import m.imports n.imports same m.imports_are n.imports_are in
     let functions = one_listing [] (λ _. SpellsList (SpellsUnsigned 32)) (λ _. one.functions) bytes k.sections l.sections
     ids.Function m.functions n.functions same m.functions_are n.functions_are in
-    let tables = one_listing nothing (SpellsKnown SpellsTable FailsTable) one.tables bytes k.sections l.sections
+    let tables = one_listing nothing_listed (SpellsKnown SpellsTable FailsTable) one.tables bytes k.sections l.sections
     ids.Table m.tables n.tables same m.tables_are n.tables_are in
-    let memories = one_listing nothing (SpellsKnown SpellsMemoryType FailsMemoryType) one.memories bytes k.sections l.sections
+    let memories = one_listing nothing_listed (SpellsKnown SpellsMemoryType FailsMemoryType) one.memories bytes k.sections l.sections
     ids.Memory m.memories n.memories same m.memories_are n.memories_are in
-    let globals = one_listing nothing (SpellsKnown SpellsGlobal FailsGlobal) one.globals bytes k.sections l.sections
+    let globals = one_listing nothing_listed (SpellsKnown SpellsGlobal FailsGlobal) one.globals bytes k.sections l.sections
     ids.Global m.globals n.globals same m.globals_are n.globals_are in
     let entries = one_listing [] SpellsEntries one.entries bytes k.sections l.sections
     ids.Code k.entries l.entries same m.entries_are n.entries_are in (

@@ -10,14 +10,14 @@ use Rattle.wasm_sections.specs.declared.id.SectionId.{SectionId}
 use Rattle.wasm_sections.specs.declared.id.SectionId.TheVariants as ids
 use Rattle.wasm_sections.specs.Find.{IsFirstWith, IsPlaceOf, LackId}
 use Rattle.wasm_sections.specs.Writing.{section_code}
-use Rattle.wasm_declarations.specs.declared.entries.Entry.{Entry}
-use Rattle.wasm_declarations.specs.Globals.{SpellsGlobal, FailsGlobal}
-use Rattle.wasm_declarations.specs.Known.{Known, nothing, SpellsKnown}
+use Rattle.wasm_lists.specs.declared.entries.Entry.{Entry}
+use Rattle.wasm_lists.specs.Globals.{SpellsGlobal, FailsGlobal}
+use Rattle.wasm_lists.specs.Known.{Known, nothing_listed, SpellsKnown}
 use Rattle.wasm_module.specs.Limits.{HasTooManyGlobals, IsTooLarge}
 use Rattle.wasm_module.specs.Limits.HasTooManyGlobals.{by_growth, by_number, from_nothing}
 use Rattle.wasm_module.specs.Limits.IsTooLarge.{by_code, by_entry, by_globals}
 use Rattle.wasm_module.specs.Module.{Layout, IsModule}
-use Rattle.wasm_module.specs.Rewritten.{AddsGlobals, GrowsContents, GrowsGlobals, IsFront, IsRewritten, code_with, globals_code, new_globals}
+use Rattle.wasm_module.specs.Rewritten.{AddsGlobals, GrowsContents, GrowsGlobals, IsFront, IsRewritten, code_section_with, globals_code, new_globals}
 use Rattle.wasm_module.proofs.CountLemmas.{one_count}
 use Rattle.wasm_module.proofs.FindLemmas.{first_unique, lists_nothing, not_lacking}
 
@@ -75,8 +75,8 @@ module _ (one : OnePlace) (bytes : List ℕ) (layout : Layout) (n : ℕ) (conten
       let there = subst (λ (s : Section). IsFront bytes layout more s.start b.front) (sym code) b.front_is in
       let front = one_front one bytes layout more a.code.start a.front b.front a.front_is there in
       a.new_is
-      ∙ ap (λ (text : List ℕ). text ++ section_code ids.Code (code_with bytes a.code a.entry contents) ++ drop a.code.end bytes) front
-      ∙ ap₂ (λ (s : Section) (e : Entry). b.front ++ section_code ids.Code (code_with bytes s e contents) ++ drop s.end bytes) code entry
+      ∙ ap (λ (text : List ℕ). text ++ section_code ids.Code (code_section_with bytes a.code a.entry contents) ++ drop a.code.end bytes) front
+      ∙ ap₂ (λ (s : Section) (e : Entry). b.front ++ section_code ids.Code (code_section_with bytes s e contents) ++ drop s.end bytes) code entry
       ∙ sym b.new_is
 
 -- ---- or it is too large
@@ -86,7 +86,7 @@ module _ (bytes : List ℕ) (info : Module) (layout : Layout) (is : IsModule byt
   no_own : LackId layout.sections ids.Global → layout.own_globals ≡ 0
   no_own lack =
       is.own ∙ ap (λ (k : Known PrimitiveTypeInfo). k.count)
-      (lists_nothing nothing (SpellsKnown SpellsGlobal FailsGlobal) bytes layout.sections ids.Global is.globals is.globals_are lack)
+      (lists_nothing nothing_listed (SpellsKnown SpellsGlobal FailsGlobal) bytes layout.sections ids.Global is.globals is.globals_are lack)
 
   grows_fit : (more : List PrimitiveTypeInfo) (to : ℕ) (front : List ℕ) → GrowsGlobals bytes layout more to front → HasTooManyGlobals bytes layout more → ⊥
   grows_fit more to front a (by_number many) = omega (arith, many, a.few)
@@ -112,6 +112,6 @@ module _ (bytes : List ℕ) (info : Module) (layout : Layout) (is : IsModule byt
   fits n contents more new a (by_code h) =
       let code = first_unique layout.sections ids.Code a.code h.code a.code_is h.code_is in
       let entry = same_Some a.entry h.entry (sym a.entry_is ∙ h.entry_is) in
-      let same = ap₂ (λ (s : Section) (e : Entry). length (code_with bytes s e contents)) code entry in
+      let same = ap₂ (λ (s : Section) (e : Entry). length (code_section_with bytes s e contents)) code entry in
       omega (arith, same, a.code_sized, h.large)
   fits n contents more new a (by_globals some large) = front_fits more a.code.start a.front a.front_is some large

@@ -12,7 +12,9 @@ use Rattle.wasm_sections.specs.Section.{SpellsModule, AreFinal, preamble}
 use Rattle.wasm_sections.specs.Find.{AreBefore, AreBehind}
 use Rattle.wasm_sections.specs.Laws.{SpellsParts}
 use Rattle.wasm_sections.specs.lemmas.SectionLemmas.{has_rank}
-use Rattle.wasm_sections.specs.lemmas.PieceLemmas.{Piece, code_of, joined, AreCounted, AreSorted, end_at, placed, all_placed, parts, last_of, of_pieces, module_parts, range_is, joined-append, parts-append, counted-append, counted_cut, sorted-append, sorted_cut, final-append, final_cut, end_is}
+use Rattle.wasm_sections.specs.lemmas.PieceLemmas.{Piece, code_of, joined, AreCounted, AreSorted, end_at, placed, all_placed, parts}
+use Rattle.wasm_sections.specs.lemmas.PieceLemmas.{last_of, of_pieces, module_parts, range_is, joined-append, parts-append, counted-append}
+use Rattle.wasm_sections.specs.lemmas.PieceLemmas.{counted_cut, sorted-append, sorted_cut, final-append, final_cut, end_is}
 
 abbrev pub written : SectionId → List ℕ → Piece
 written id contents = record { id = id; size = shortest (length contents); contents = contents }

@@ -9,24 +9,24 @@ use Rattle.wasm_sections.specs.declared.id.SectionId.TheVariants as ids
 use Rattle.wasm_sections.specs.declared.section.Section.{Section}
 use Rattle.wasm_sections.specs.declared.fault.ModuleError.{ModuleError}
 use Rattle.wasm_sections.specs.Id.{rank_of}
-use Rattle.wasm_sections.specs.Section.{SpellsModule, preamble, parts_of}
+use Rattle.wasm_sections.specs.Section.{SpellsModule, preamble, section_parts_of}
 use Rattle.wasm_sections.specs.Find.{IsFirstWith}
 use Rattle.wasm_sections.specs.lemmas.PieceLemmas.{Piece, joined, AreSorted, contents_at, placed, all_placed, parts, of_pieces, module_parts}
-use Rattle.wasm_declarations.specs.Known.{nothing, SpellsKnown}
-use Rattle.wasm_declarations.specs.List.{SpellsList}
-use Rattle.wasm_declarations.specs.Types.{SpellsTypeGroup, FailsTypeGroup}
-use Rattle.wasm_declarations.specs.Imports.{SpellsImport, FailsImport}
-use Rattle.wasm_declarations.specs.Tables.{SpellsTable, FailsTable, SpellsMemoryType, FailsMemoryType}
-use Rattle.wasm_declarations.specs.Globals.{SpellsGlobal, FailsGlobal}
-use Rattle.wasm_declarations.specs.Entries.{SpellsEntries}
+use Rattle.wasm_lists.specs.Known.{nothing_listed, SpellsKnown}
+use Rattle.wasm_lists.specs.List.{SpellsList}
+use Rattle.wasm_lists.specs.Types.{SpellsTypeGroup, FailsTypeGroup}
+use Rattle.wasm_lists.specs.Imports.{SpellsImport, FailsImport}
+use Rattle.wasm_lists.specs.Tables.{SpellsTable, FailsTable, SpellsMemoryType, FailsMemoryType}
+use Rattle.wasm_lists.specs.Globals.{SpellsGlobal, FailsGlobal}
+use Rattle.wasm_lists.specs.Entries.{SpellsEntries}
 use Rattle.wasm_module.specs.Module.{Layout, Holds, Lists, space, globals_of, IsModule}
-use Rattle.wasm_module.specs.Rewritten.{code_with, IsRewritten}
+use Rattle.wasm_module.specs.Rewritten.{code_section_with, IsRewritten}
 use Rattle.wasm_module.specs.Moved.{AreMoved}
 use Rattle.wasm_module.specs.Reread.{IsReread}
 use Rattle.wasm_module.proofs.PieceLemmas.{written}
 use Rattle.wasm_module.proofs.AgainLemmas.{Short}
 use Rattle.wasm_module.proofs.AgainPieces.{ArePiecesAgain, AreSome, pieces_again, is_placed}
-use Rattle.wasm_module.proofs.BodyLemmas.{AreEntriesAgain, text_with, entries_again}
+use Rattle.wasm_module.proofs.RewrittenBody.{AreEntriesAgain, text_with, entries_again}
 use Rattle.wasm_module.proofs.FindLemmas.{first_unique}
 use Rattle.wasm_module.proofs.HeldLemmas.{HeldBy, LackPiece, held, holds, held_before, held_at, held_there, lacks_before, first_placed}
 use Rattle.wasm_module.proofs.NewGlobalLemmas.{grown}
@@ -45,10 +45,10 @@ module _ (bytes : List ℕ) (sections : List Section) (own : ℕ) (more : List P
   abbrev now : List Piece
   now = k.first ++ (k.fresh ++ written ids.Code c ∷ k.second)
 
-  was_parts : parts_of bytes (all_placed 8 was) ≡ parts was
+  was_parts : section_parts_of bytes (all_placed 8 was) ≡ parts was
   was_parts = module_parts bytes was k.bytes_are
 
-  now_parts : parts_of new (all_placed 8 now) ≡ parts now
+  now_parts : section_parts_of new (all_placed 8 now) ≡ parts now
   now_parts = module_parts new now k.new_is.spelled
 
   spells : SpellsModule new (all_placed 8 now)
@@ -67,15 +67,15 @@ module _ (bytes : List ℕ) (sections : List Section) (own : ℕ) (more : List P
 -- the entries of the code
 code_again : (bytes : List ℕ) (info : Module) (layout : Layout) (n : ℕ) (contents : List ℕ) (more : List PrimitiveTypeInfo) (new : List ℕ) → Short →
     (m : IsModule bytes info layout) (r : IsRewritten bytes layout n contents more new)
-    (k : ArePiecesAgain bytes layout.sections layout.own_globals more r.code (code_with bytes r.code r.entry contents) new)
-    → (e : AreEntriesAgain bytes layout.entries n r.code.contents r.code.end contents new (code_with bytes r.code r.entry contents)
-    (contents_at (8 + length (joined (k.first ++ k.fresh))) (written ids.Code (code_with bytes r.code r.entry contents))))
-    × IsFirstWith (all_placed 8 (k.first ++ (k.fresh ++ written ids.Code (code_with bytes r.code r.entry contents) ∷ k.second))) ids.Code
-    (placed (8 + length (joined (k.first ++ k.fresh))) (written ids.Code (code_with bytes r.code r.entry contents)))
-    × Lists SpellsEntries new (all_placed 8 (k.first ++ (k.fresh ++ written ids.Code (code_with bytes r.code r.entry contents) ∷ k.second)))
+    (k : ArePiecesAgain bytes layout.sections layout.own_globals more r.code (code_section_with bytes r.code r.entry contents) new)
+    → (e : AreEntriesAgain bytes layout.entries n r.code.contents r.code.end contents new (code_section_with bytes r.code r.entry contents)
+    (contents_at (8 + length (joined (k.first ++ k.fresh))) (written ids.Code (code_section_with bytes r.code r.entry contents))))
+    × IsFirstWith (all_placed 8 (k.first ++ (k.fresh ++ written ids.Code (code_section_with bytes r.code r.entry contents) ∷ k.second))) ids.Code
+    (placed (8 + length (joined (k.first ++ k.fresh))) (written ids.Code (code_section_with bytes r.code r.entry contents)))
+    × Lists SpellsEntries new (all_placed 8 (k.first ++ (k.fresh ++ written ids.Code (code_section_with bytes r.code r.entry contents) ∷ k.second)))
     ids.Code e.entries_again
 code_again bytes info layout n contents more new short m r k =
-    let c = code_with bytes r.code r.entry contents in
+    let c = code_section_with bytes r.code r.entry contents in
     let y = written ids.Code c in
     let u = k.first ++ k.old in
     let u' = k.first ++ k.fresh in
@@ -95,7 +95,8 @@ code_again bytes info layout n contents more new short m r k =
     held_at [] SpellsEntries bytes ids.Code layout.entries u k.second k.x 8 k.is_code lack listed in
     let here = is_placed bytes u k.second k.x (k.bytes_are ∙ ap (λ (l : List Piece). preamble ++ joined l) (sym was_is)) in
     let there = is_placed new u' k.second y (k.new_is.spelled ∙ ap (λ (l : List Piece). preamble ++ joined l) (sym now_is)) in
-    let c_is : c ≡ text_with bytes start r.entry (start + length k.x.contents) contents = ap (λ (z : Section). code_with bytes z r.entry contents) k.code_is in
+    let c_is : c ≡ text_with bytes start r.entry (start + length k.x.contents) contents =
+    ap (λ (z : Section). code_section_with bytes z r.entry contents) k.code_is in
     let start' : ℕ = contents_at (8 + length (joined u')) y in
     let again = entries_again bytes here.before (joined k.second) k.x.contents new there.before (joined k.second) start start' n layout.entries r.entry
     contents here.parts here.at spelled r.entry_is (there.parts ∙ ap (λ (l : List ℕ). there.before ++ (l ++ joined k.second)) c_is) there.at
@@ -119,7 +120,7 @@ pub reread : (bytes : List ℕ) (info : Module) (layout : Layout) (n : ℕ) (con
     IsModule bytes info layout → IsRewritten bytes layout n contents more new → layout.unknown.imports ≡ None → layout.unknown.globals ≡ None
     → AreSome more → IsReread bytes info layout n contents more new
 reread bytes info layout n contents more new short m r imports globals some =
-    let c = code_with bytes r.code r.entry contents in
+    let c = code_section_with bytes r.code r.entry contents in
     let own = layout.own_globals in
     let k = pieces_again bytes info layout n contents more new short some m r in
     let y = written ids.Code c in
@@ -130,7 +131,7 @@ reread bytes info layout n contents more new short m r imports globals some =
     let parts_were = module_parts bytes before k.bytes_are in
     let parts_are = module_parts new after k.new_is.spelled in
     let wider = k.globals m.globals (sym m.unknown_globals ∙ globals) m.own
-    (held nothing (SpellsKnown SpellsGlobal FailsGlobal) bytes ids.Global m.globals before 8 layout.sections parts_were k.sections_are m.globals_are) in
+    (held nothing_listed (SpellsKnown SpellsGlobal FailsGlobal) bytes ids.Global m.globals before 8 layout.sections parts_were k.sections_are m.globals_are) in
     record {
       again = record {
         sections = all_placed 8 after;
@@ -148,17 +149,17 @@ reread bytes info layout n contents more new short m r imports globals some =
         tables = m.tables;
         memories = m.memories;
         globals = grown m.globals more;
-        types_are = kept bytes layout.sections own more r.code c new k nothing (SpellsKnown SpellsTypeGroup FailsTypeGroup) ids.Type m.types
+        types_are = kept bytes layout.sections own more r.code c new k nothing_listed (SpellsKnown SpellsTypeGroup FailsTypeGroup) ids.Type m.types
             (omega arith) (omega arith) m.types_are;
-        imports_are = kept bytes layout.sections own more r.code c new k nothing (SpellsKnown SpellsImport FailsImport) ids.Import m.imports
+        imports_are = kept bytes layout.sections own more r.code c new k nothing_listed (SpellsKnown SpellsImport FailsImport) ids.Import m.imports
             (omega arith) (omega arith) m.imports_are;
         functions_are = kept bytes layout.sections own more r.code c new k [] (λ _. SpellsList (SpellsUnsigned 32)) ids.Function m.functions
             (omega arith) (omega arith) m.functions_are;
-        tables_are = kept bytes layout.sections own more r.code c new k nothing (SpellsKnown SpellsTable FailsTable) ids.Table m.tables
+        tables_are = kept bytes layout.sections own more r.code c new k nothing_listed (SpellsKnown SpellsTable FailsTable) ids.Table m.tables
             (omega arith) (omega arith) m.tables_are;
-        memories_are = kept bytes layout.sections own more r.code c new k nothing (SpellsKnown SpellsMemoryType FailsMemoryType) ids.Memory m.memories
+        memories_are = kept bytes layout.sections own more r.code c new k nothing_listed (SpellsKnown SpellsMemoryType FailsMemoryType) ids.Memory m.memories
             (omega arith) (omega arith) m.memories_are;
-        globals_are = holds nothing (SpellsKnown SpellsGlobal FailsGlobal) new ids.Global (grown m.globals more) after 8 parts_are wider;
+        globals_are = holds nothing_listed (SpellsKnown SpellsGlobal FailsGlobal) new ids.Global (grown m.globals more) after 8 parts_are wider;
         entries_are = code.2;
         all_types = m.all_types;
         all_functions = m.all_functions;

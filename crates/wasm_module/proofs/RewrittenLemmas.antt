@@ -1,5 +1,6 @@
 -- A module with another code entry and more globals, from its parts.
-use Rattle.std.proofs.Common.{◌≡◌, ℕ, ◌-◌, ◌<◌, ◌≤◌, ◌^◌, List, ◌∷◌, ◌++◌, length, drop, sym, ap, subst, ◌∙◌, append_assoc, arith, length-append, length-take, length-drop}
+use Rattle.std.proofs.Common.{◌≡◌, ℕ, ◌-◌, ◌<◌, ◌≤◌, ◌^◌, List, ◌∷◌, ◌++◌, length, drop, sym, ap, subst, ◌∙◌, append_assoc, arith}
+use Rattle.std.proofs.Common.{length-append, length-take, length-drop}
 use Rattle.std.specs.Prelude.{slice_range}
 use Rattle.wasm_code.specs.Code.{shortest}
 use Rattle.wasm_types.specs.declared.types.PrimitiveTypeInfo.{PrimitiveTypeInfo}
@@ -8,9 +9,9 @@ use Rattle.wasm_sections.specs.declared.id.SectionId.{SectionId}
 use Rattle.wasm_sections.specs.declared.id.SectionId.TheVariants as ids
 use Rattle.wasm_sections.specs.Id.{id_code}
 use Rattle.wasm_sections.specs.Writing.{section_code}
-use Rattle.wasm_declarations.specs.declared.entries.Entry.{Entry}
+use Rattle.wasm_lists.specs.declared.entries.Entry.{Entry}
 use Rattle.wasm_module.specs.Module.{Layout}
-use Rattle.wasm_module.specs.Rewritten.{IsFront, code_with, IsRewritten}
+use Rattle.wasm_module.specs.Rewritten.{IsFront, code_section_with, IsRewritten}
 use Rattle.wasm_module.specs.Limits.{IsTooLarge}
 use Rattle.wasm_module.specs.Limits.IsTooLarge.{by_code}
 use Rattle.wasm_module.specs.Room.{IsEntryOf, IsCodePlace, size_with}
@@ -30,7 +31,7 @@ range_length : (bytes : List ℕ) (from to : ℕ) → from ≤ to → to ≤ len
 range_length bytes from to order inside = grind (arith, length-take, length-drop)
 
 code_length : (bytes : List ℕ) (code : Section) (entry : Entry) (contents : List ℕ) (size : ℕ) → IsEntryOf bytes code.contents entry.start entry.end code.end →
-    size ≡ length contents → size_with code entry size ≡ length (code_with bytes code entry contents)
+    size ≡ length contents → size_with code entry size ≡ length (code_section_with bytes code entry contents)
 code_length bytes code entry contents size placed e =
     let before = slice_range bytes code.contents entry.start in
     let behind = slice_range bytes entry.end code.end in
@@ -43,7 +44,7 @@ code_length bytes code entry contents size placed e =
 pub rewrites : (bytes : List ℕ) (layout : Layout) (n : ℕ) (body : List ℕ) (more : List PrimitiveTypeInfo) (code : Section) (entry : Entry)
     (front head new : List ℕ) (size whole : ℕ) → IsCodePlace bytes layout n code entry → size ≡ length body → size < 2 ^ 32
     → whole ≡ size_with code entry size → whole < 2 ^ 32 → IsFront bytes layout more code.start front
-    → head ≡ front ++ id_code ids.Code ∷ shortest whole → new ≡ head ++ (code_with bytes code entry body ++ drop code.end bytes)
+    → head ≡ front ++ id_code ids.Code ∷ shortest whole → new ≡ head ++ (code_section_with bytes code entry body ++ drop code.end bytes)
     → IsRewritten bytes layout n body more new
 rewrites bytes layout n body more code entry front head new size whole place e small f sized is h w =
     let s = f ∙ code_length bytes code entry body size place.placed e in
@@ -56,7 +57,7 @@ rewrites bytes layout n body more code entry front head new size whole place e s
       code_sized = subst (λ (m : ℕ). m < 2 ^ 32) s sized;
       front = front;
       front_is = is;
-      new_is = w ∙ section_is ids.Code front (code_with bytes code entry body) (drop code.end bytes) head whole s h;
+      new_is = w ∙ section_is ids.Code front (code_section_with bytes code entry body) (drop code.end bytes) head whole s h;
     }
 
 pub too_large : (bytes : List ℕ) (layout : Layout) (n : ℕ) (body : List ℕ) (more : List PrimitiveTypeInfo) (code : Section) (entry : Entry)

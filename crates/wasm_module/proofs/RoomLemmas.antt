@@ -1,5 +1,6 @@
 -- Where globals may be appended before the code, and where an entry of the code stands.
-use Rattle.std.proofs.Common.{◌≡◌, ℕ, zero, suc, ◌+◌, ◌<◌, ◌^◌, List, [], ◌++◌, length, take, Option, Result, Ok, Err, Some, None, sym, ap, subst, ◌∙◌, zero-add, arith}
+use Rattle.std.proofs.Common.{◌≡◌, ℕ, zero, suc, ◌+◌, ◌<◌, ◌^◌, List, [], ◌++◌, length, take, Option, Result, Ok, Err, Some, None, sym, ap}
+use Rattle.std.proofs.Common.{subst, ◌∙◌, zero-add, arith}
 use Rattle.std.specs.Prelude.{IfOk, OnOk, slice_get, slice_range}
 use Rattle.std.proofs.lemmas.List.{append-nil}
 use Rattle.wasm_code.specs.declared.fault.Cause.{Cause}
@@ -16,21 +17,21 @@ use Rattle.wasm_sections.specs.Section.{SpellsModule}
 use Rattle.wasm_sections.specs.Find.{LackId, IsFirstWith, IsPlaceOf}
 use Rattle.wasm_sections.specs.Laws.{IsWithin, AreJoined}
 use Rattle.wasm_sections.specs.Writing.{section_code}
-use Rattle.wasm_declarations.specs.declared.entries.Entry.{Entry}
-use Rattle.wasm_declarations.specs.Known.{nothing, IsKnown, SpellsKnown}
-use Rattle.wasm_declarations.specs.List.{Each}
-use Rattle.wasm_declarations.specs.Globals.{SpellsGlobal, FailsGlobal}
-use Rattle.wasm_declarations.specs.Entries.{SpellsEntries}
+use Rattle.wasm_lists.specs.declared.entries.Entry.{Entry}
+use Rattle.wasm_lists.specs.Known.{nothing_listed, IsKnown, SpellsKnown}
+use Rattle.wasm_lists.specs.List.{Each}
+use Rattle.wasm_lists.specs.Globals.{SpellsGlobal, FailsGlobal}
+use Rattle.wasm_lists.specs.Entries.{SpellsEntries}
 use Rattle.wasm_module.specs.Module.{Layout, IsModule}
 use Rattle.wasm_module.specs.Rewritten.{globals_code, new_globals, AddsGlobals}
-use Rattle.wasm_module.specs.Room.{HasCount, HasRoom, IsCodePlace, globals_with}
+use Rattle.wasm_module.specs.Room.{CountBeginsText, HasRoom, IsCodePlace, globals_with}
 use Rattle.wasm_module.proofs.FindLemmas.{lists_at, lists_nothing, first_before, place_before}
 use Rattle.wasm_module.proofs.InsideLemmas.{code_entry}
 
 -- ---- the global section
 
 pub known_counted : {A : Type 0} (Spells : List ℕ → A → Type 0) (Fails : List ℕ → Cause → Type 0) (start : ℕ) (text : List ℕ) (n m : ℕ) (xs : List A)
-    (o : Option ModuleError) → IsKnown Spells Fails start text n xs o → m ≡ n → HasCount text m
+    (o : Option ModuleError) → IsKnown Spells Fails start text n xs o → m ≡ n → CountBeginsText text m
 known_counted Spells Fails start text n m xs None k e =
     let l = k.list in
     record {
@@ -103,7 +104,7 @@ room bytes info layout code joined within m is =
             before = first_before layout.sections ids.Global ids.Code s code (length bytes) m.spells.ordered joined g is (omega arith) (omega arith);
             counted = known_counted SpellsGlobal FailsGlobal s.contents (slice_range bytes s.contents s.end) m.globals.count layout.own_globals
                 m.globals.items m.globals.unknown
-                (lists_at nothing (SpellsKnown SpellsGlobal FailsGlobal) bytes layout.sections ids.Global m.globals s m.globals_are g) m.own;
+                (lists_at nothing_listed (SpellsKnown SpellsGlobal FailsGlobal) bytes layout.sections ids.Global m.globals s m.globals_are g) m.own;
           };
       place = λ place p. place_before layout.sections ids.Global ids.Code place code (length bytes) joined p is (omega arith);
     }

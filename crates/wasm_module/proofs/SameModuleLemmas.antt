@@ -13,18 +13,18 @@ use Rattle.wasm_sections.specs.Section.{SpellsModule}
 use Rattle.wasm_sections.specs.Find.{IsFirstWith}
 use Rattle.wasm_sections.specs.Laws.{IsWithin}
 use Rattle.wasm_sections.specs.Debug.{IsWithoutDebug}
-use Rattle.wasm_declarations.specs.declared.entries.Entry.{Entry}
-use Rattle.wasm_declarations.specs.Known.{Known, IsKnown}
-use Rattle.wasm_declarations.specs.List.{SpellsList}
-use Rattle.wasm_declarations.specs.Types.{SpellsTypeGroup, FailsTypeGroup}
-use Rattle.wasm_declarations.specs.Imports.{SpellsImport, FailsImport}
-use Rattle.wasm_declarations.specs.Tables.{SpellsTable, FailsTable, SpellsMemoryType, FailsMemoryType}
-use Rattle.wasm_declarations.specs.Globals.{SpellsGlobal, FailsGlobal}
-use Rattle.wasm_declarations.specs.Entries.{SpellsEntries}
+use Rattle.wasm_lists.specs.declared.entries.Entry.{Entry}
+use Rattle.wasm_lists.specs.Known.{Known, IsKnown}
+use Rattle.wasm_lists.specs.List.{SpellsList}
+use Rattle.wasm_lists.specs.Types.{SpellsTypeGroup, FailsTypeGroup}
+use Rattle.wasm_lists.specs.Imports.{SpellsImport, FailsImport}
+use Rattle.wasm_lists.specs.Tables.{SpellsTable, FailsTable, SpellsMemoryType, FailsMemoryType}
+use Rattle.wasm_lists.specs.Globals.{SpellsGlobal, FailsGlobal}
+use Rattle.wasm_lists.specs.Entries.{SpellsEntries}
 use Rattle.wasm_module.specs.Module.{Layout, Lists, Knows, space, functions_of, tables_of, memories_of, globals_of, IsModule}
 use Rattle.wasm_module.specs.Reread.{HasContents}
 use Rattle.wasm_module.specs.SameModule.{IsSameModule}
-use Rattle.wasm_module.proofs.BodyLemmas.{entries_moved}
+use Rattle.wasm_module.proofs.RewrittenBody.{entries_moved}
 use Rattle.wasm_module.proofs.InsideLemmas.{no_entry}
 use Rattle.wasm_module.proofs.StaysLemmas.{Stay, held_still}
 

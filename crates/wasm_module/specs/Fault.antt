@@ -10,34 +10,34 @@ use Rattle.wasm_sections.specs.declared.fault.ModuleFault.TheVariants as faults
 use Rattle.wasm_sections.specs.Section.{SpellsModule}
 use Rattle.wasm_sections.specs.Sections.{IsSectionFault}
 use Rattle.wasm_sections.specs.Find.{IsFirstWith, LackId}
-use Rattle.wasm_declarations.specs.declared.entries.Entry.{Entry}
-use Rattle.wasm_declarations.specs.Known.{IsKnownFault}
-use Rattle.wasm_declarations.specs.List.{SpellsList, IsListFault}
-use Rattle.wasm_declarations.specs.Types.{SpellsTypeGroup, FailsTypeGroup}
-use Rattle.wasm_declarations.specs.Imports.{SpellsImport, FailsImport}
-use Rattle.wasm_declarations.specs.Tables.{SpellsTable, FailsTable, SpellsMemoryType, FailsMemoryType}
-use Rattle.wasm_declarations.specs.Globals.{SpellsGlobal, FailsGlobal}
-use Rattle.wasm_declarations.specs.Entries.{SpellsSized, FailsSized, SpellsEntries}
+use Rattle.wasm_lists.specs.declared.entries.Entry.{Entry}
+use Rattle.wasm_lists.specs.Known.{IsKnownFault}
+use Rattle.wasm_lists.specs.List.{SpellsList, IsListFault}
+use Rattle.wasm_lists.specs.Types.{SpellsTypeGroup, FailsTypeGroup}
+use Rattle.wasm_lists.specs.Imports.{SpellsImport, FailsImport}
+use Rattle.wasm_lists.specs.Tables.{SpellsTable, FailsTable, SpellsMemoryType, FailsMemoryType}
+use Rattle.wasm_lists.specs.Globals.{SpellsGlobal, FailsGlobal}
+use Rattle.wasm_lists.specs.Entries.{SpellsMeasuredSize, FailsSized, SpellsEntries}
 use Rattle.wasm_module.specs.Module.{Lists}
 
 -- ---- a section's list
 
 -- The contents of a section with the id, whose first byte has the offset `start`, have that fault. Of other sections the contents aren't read.
-abbrev pub IsFaultOf : SectionId → (start : ℕ) → List ℕ → ModuleFault → (offset : ℕ) → Type 0
-IsFaultOf ids.Type = IsKnownFault SpellsTypeGroup FailsTypeGroup
-IsFaultOf ids.Import = IsKnownFault SpellsImport FailsImport
-IsFaultOf ids.Function = IsListFault (SpellsUnsigned 32) (FailsUnsigned 32)
-IsFaultOf ids.Table = IsKnownFault SpellsTable FailsTable
-IsFaultOf ids.Memory = IsKnownFault SpellsMemoryType FailsMemoryType
-IsFaultOf ids.Global = IsKnownFault SpellsGlobal FailsGlobal
-IsFaultOf ids.Code = IsListFault SpellsSized FailsSized
-IsFaultOf _ = λ start text fault offset. ⊥
+abbrev pub IsSectionFaultOf : SectionId → (start : ℕ) → List ℕ → ModuleFault → (offset : ℕ) → Type 0
+IsSectionFaultOf ids.Type = IsKnownFault SpellsTypeGroup FailsTypeGroup
+IsSectionFaultOf ids.Import = IsKnownFault SpellsImport FailsImport
+IsSectionFaultOf ids.Function = IsListFault (SpellsUnsigned 32) (FailsUnsigned 32)
+IsSectionFaultOf ids.Table = IsKnownFault SpellsTable FailsTable
+IsSectionFaultOf ids.Memory = IsKnownFault SpellsMemoryType FailsMemoryType
+IsSectionFaultOf ids.Global = IsKnownFault SpellsGlobal FailsGlobal
+IsSectionFaultOf ids.Code = IsListFault SpellsMeasuredSize FailsSized
+IsSectionFaultOf _ = λ start text fault offset. ⊥
 
 -- the section with the id is there, and its contents have that fault
 pub record HasFault (bytes : List ℕ) (sections : List Section) (id : SectionId) (fault : ModuleFault) (offset : ℕ) : Type 0 where
   pub section : Section
   pub is : IsFirstWith sections id section
-  pub fails : IsFaultOf id section.contents (slice_range bytes section.contents section.end) fault offset
+  pub fails : IsSectionFaultOf id section.contents (slice_range bytes section.contents section.end) fault offset
 
 -- the bytes are sections, and one of those that are read has a fault
 pub record HasListFault (bytes : List ℕ) (fault : ModuleFault) (offset : ℕ) : Type 0 where

@@ -4,9 +4,9 @@ use Rattle.wasm_types.specs.declared.types.PrimitiveTypeInfo.{PrimitiveTypeInfo}
 use Rattle.wasm_sections.specs.declared.section.Section.{Section}
 use Rattle.wasm_sections.specs.declared.id.SectionId.TheVariants as ids
 use Rattle.wasm_sections.specs.Find.{IsFirstWith, LackId}
-use Rattle.wasm_declarations.specs.declared.entries.Entry.{Entry}
+use Rattle.wasm_lists.specs.declared.entries.Entry.{Entry}
 use Rattle.wasm_module.specs.Module.{Layout}
-use Rattle.wasm_module.specs.Rewritten.{new_globals, GrowsContents, code_with}
+use Rattle.wasm_module.specs.Rewritten.{new_globals, GrowsContents, code_section_with}
 
 -- what the code section contains has 2 ^ 32 bytes or more with these contents of the n-th entry
 pub record HasLargeCode (bytes : List ℕ) (layout : Layout) (n : ℕ) (contents : List ℕ) : Type 0 where
@@ -14,7 +14,7 @@ pub record HasLargeCode (bytes : List ℕ) (layout : Layout) (n : ℕ) (contents
   pub code_is : IsFirstWith layout.sections ids.Code code
   pub entry : Entry
   pub entry_is : slice_get layout.entries n ≡ Some entry
-  pub large : 2 ^ 32 ≤ length (code_with bytes code entry contents)
+  pub large : 2 ^ 32 ≤ length (code_section_with bytes code entry contents)
 
 -- what the global section contains has 2 ^ 32 bytes or more with these globals
 pub record GrowsTooLarge (bytes : List ℕ) (layout : Layout) (more : List PrimitiveTypeInfo) : Type 0 where

@@ -7,15 +7,15 @@ use Rattle.wasm_types.specs.declared.types.TableType.{TableType}
 use Rattle.wasm_types.specs.declared.types.MemoryType.{MemoryType}
 use Rattle.wasm_sections.specs.declared.section.Section.{Section}
 use Rattle.wasm_sections.specs.declared.id.SectionId.TheVariants as ids
-use Rattle.wasm_declarations.specs.declared.import.Import.{Import}
-use Rattle.wasm_declarations.specs.declared.entries.Entry.{Entry}
-use Rattle.wasm_declarations.specs.Known.{Known}
-use Rattle.wasm_declarations.specs.List.{SpellsList}
-use Rattle.wasm_declarations.specs.Types.{SpellsTypeGroup, FailsTypeGroup}
-use Rattle.wasm_declarations.specs.Imports.{SpellsImport, FailsImport}
-use Rattle.wasm_declarations.specs.Tables.{SpellsTable, FailsTable, SpellsMemoryType, FailsMemoryType}
-use Rattle.wasm_declarations.specs.Globals.{SpellsGlobal, FailsGlobal}
-use Rattle.wasm_declarations.specs.Entries.{SpellsEntries}
+use Rattle.wasm_lists.specs.declared.import.Import.{Import}
+use Rattle.wasm_lists.specs.declared.entries.Entry.{Entry}
+use Rattle.wasm_lists.specs.Known.{Known}
+use Rattle.wasm_lists.specs.List.{SpellsList}
+use Rattle.wasm_lists.specs.Types.{SpellsTypeGroup, FailsTypeGroup}
+use Rattle.wasm_lists.specs.Imports.{SpellsImport, FailsImport}
+use Rattle.wasm_lists.specs.Tables.{SpellsTable, FailsTable, SpellsMemoryType, FailsMemoryType}
+use Rattle.wasm_lists.specs.Globals.{SpellsGlobal, FailsGlobal}
+use Rattle.wasm_lists.specs.Entries.{SpellsEntries}
 use Rattle.wasm_module.specs.declared.unknown.Unknown.{Unknown}
 use Rattle.wasm_module.specs.Module.{Lists, Knows}
 

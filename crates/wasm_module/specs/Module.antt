@@ -14,17 +14,17 @@ use Rattle.wasm_sections.specs.declared.id.SectionId.{SectionId}
 use Rattle.wasm_sections.specs.declared.id.SectionId.TheVariants as ids
 use Rattle.wasm_sections.specs.Section.{SpellsModule}
 use Rattle.wasm_sections.specs.Find.{IsFirstWith, LackId}
-use Rattle.wasm_declarations.specs.declared.import.Import.{Import}
-use Rattle.wasm_declarations.specs.declared.import.Import.TheVariants as imports
-use Rattle.wasm_declarations.specs.declared.entries.Entry.{Entry}
+use Rattle.wasm_lists.specs.declared.import.Import.{Import}
+use Rattle.wasm_lists.specs.declared.import.Import.TheVariants as imports
+use Rattle.wasm_lists.specs.declared.entries.Entry.{Entry}
 use Rattle.wasm_module.specs.declared.unknown.Unknown.{Unknown}
-use Rattle.wasm_declarations.specs.Known.{Known, nothing, SpellsKnown}
-use Rattle.wasm_declarations.specs.List.{SpellsList}
-use Rattle.wasm_declarations.specs.Types.{SpellsTypeGroup, FailsTypeGroup, types_in}
-use Rattle.wasm_declarations.specs.Imports.{SpellsImport, FailsImport}
-use Rattle.wasm_declarations.specs.Tables.{SpellsTable, FailsTable, SpellsMemoryType, FailsMemoryType}
-use Rattle.wasm_declarations.specs.Globals.{SpellsGlobal, FailsGlobal}
-use Rattle.wasm_declarations.specs.Entries.{SpellsEntries}
+use Rattle.wasm_lists.specs.Known.{Known, nothing_listed, SpellsKnown}
+use Rattle.wasm_lists.specs.List.{SpellsList}
+use Rattle.wasm_lists.specs.Types.{SpellsTypeGroup, FailsTypeGroup, types_in}
+use Rattle.wasm_lists.specs.Imports.{SpellsImport, FailsImport}
+use Rattle.wasm_lists.specs.Tables.{SpellsTable, FailsTable, SpellsMemoryType, FailsMemoryType}
+use Rattle.wasm_lists.specs.Globals.{SpellsGlobal, FailsGlobal}
+use Rattle.wasm_lists.specs.Entries.{SpellsEntries}
 
 -- Where things stand in a module: its sections, how many functions are imported, how many globals are its own, the entries of its code, and what of it
 -- isn't known.
@@ -47,7 +47,7 @@ Lists Spells = Holds [] Spells
 
 -- Of what the section with the id lists this is known; nothing is listed where it isn't there.
 abbrev pub Knows : {A : Type 0} → (List ℕ → A → Type 0) → (List ℕ → Cause → Type 0) → (bytes : List ℕ) → List Section → SectionId → Known A → Type 0
-Knows Spells Fails = Holds nothing (SpellsKnown Spells Fails)
+Knows Spells Fails = Holds nothing_listed (SpellsKnown Spells Fails)
 
 -- ---- what is imported, by its kind
 

@@ -2,7 +2,7 @@
 use Rattle.std.specs.Prelude.{◌≡◌, ℕ, ◌+◌, ◌-◌, ◌≤◌, ◌<◌, ◌^◌, List, ◌∷◌, ◌++◌, All, length, map, slice_range}
 use Rattle.wasm_code.specs.Code.{shortest}
 use Rattle.wasm_sections.specs.declared.section.Section.{Section}
-use Rattle.wasm_declarations.specs.declared.entries.Entry.{Entry}
+use Rattle.wasm_lists.specs.declared.entries.Entry.{Entry}
 
 -- the entry, moved as what stands at the offset `from` is moved to the offset `to`
 abbrev pub moved : (from to : ℕ) → Entry → Entry

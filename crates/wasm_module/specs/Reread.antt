@@ -6,7 +6,7 @@ use Rattle.wasm_types.specs.declared.types.PrimitiveTypeInfo.TheVariants as prim
 use Rattle.wasm_sections.specs.declared.section.Section.{Section}
 use Rattle.wasm_sections.specs.declared.id.SectionId.TheVariants as ids
 use Rattle.wasm_sections.specs.Find.{IsFirstWith}
-use Rattle.wasm_declarations.specs.declared.entries.Entry.{Entry}
+use Rattle.wasm_lists.specs.declared.entries.Entry.{Entry}
 use Rattle.wasm_module.specs.Module.{Layout, IsModule}
 use Rattle.wasm_module.specs.Moved.{AreMoved}
 use Rattle.wasm_module.specs.Rewritten.{IsRewritten}

@@ -9,7 +9,7 @@ use Rattle.wasm_sections.specs.declared.section.Section.{Section}
 use Rattle.wasm_sections.specs.declared.id.SectionId.TheVariants as ids
 use Rattle.wasm_sections.specs.Find.{IsFirstWith, IsPlaceOf, LackId}
 use Rattle.wasm_sections.specs.Writing.{section_code}
-use Rattle.wasm_declarations.specs.declared.entries.Entry.{Entry}
+use Rattle.wasm_lists.specs.declared.entries.Entry.{Entry}
 use Rattle.wasm_module.specs.Module.{Layout}
 
 -- ---- globals that are appended
@@ -77,8 +77,8 @@ IsFront bytes layout (t ∷ ts) to front = GrowsGlobals bytes layout (t ∷ ts) 
 -- ---- a code entry that is replaced
 
 -- what the code section contains, with other contents of the entry
-abbrev pub code_with : (bytes : List ℕ) → Section → Entry → (contents : List ℕ) → List ℕ
-code_with bytes code entry contents =
+abbrev pub code_section_with : (bytes : List ℕ) → Section → Entry → (contents : List ℕ) → List ℕ
+code_section_with bytes code entry contents =
     slice_range bytes code.contents entry.start ++ shortest (length contents) ++ contents ++ slice_range bytes entry.end code.end
 
 -- The new bytes are the module's with other contents of the n-th code entry, and with more globals: the sizes of the two sections and of the entry, and the
@@ -89,7 +89,7 @@ pub record IsRewritten (bytes : List ℕ) (layout : Layout) (n : ℕ) (contents 
   pub entry : Entry
   pub entry_is : slice_get layout.entries n ≡ Some entry
   pub entry_sized : length contents < 2 ^ 32
-  pub code_sized : length (code_with bytes code entry contents) < 2 ^ 32
+  pub code_sized : length (code_section_with bytes code entry contents) < 2 ^ 32
   pub front : List ℕ
   pub front_is : IsFront bytes layout more code.start front
-  pub new_is : new ≡ front ++ section_code ids.Code (code_with bytes code entry contents) ++ drop code.end bytes
+  pub new_is : new ≡ front ++ section_code ids.Code (code_section_with bytes code entry contents) ++ drop code.end bytes

@@ -1,7 +1,7 @@
 -- Where globals may be appended before an offset of a module, and where an entry of its code stands (this project): for proofs.
 use Rattle.std.specs.Prelude.{◌≡◌, ℕ, ◌≤◌, ◌+◌, ◌-◌, List, ◌++◌, length, Some, slice_get, slice_range}
 use Rattle.wasm_types.specs.declared.types.PrimitiveTypeInfo.{PrimitiveTypeInfo}
-use Rattle.wasm_declarations.specs.declared.entries.Entry.{Entry}
+use Rattle.wasm_lists.specs.declared.entries.Entry.{Entry}
 use Rattle.wasm_module.specs.Rewritten.{globals_code}
 use Rattle.wasm_code.specs.Code.{shortest}
 use Rattle.wasm_code.specs.Number.{SpellsUnsigned}
@@ -12,7 +12,7 @@ use Rattle.wasm_sections.specs.Section.{SpellsModule}
 use Rattle.wasm_module.specs.Module.{Layout}
 
 -- that number begins the text
-pub record HasCount (text : List ℕ) (n : ℕ) : Type 0 where
+pub record CountBeginsText (text : List ℕ) (n : ℕ) : Type 0 where
   pub count : List ℕ
   pub items : List ℕ
   pub parts : text ≡ count ++ items
@@ -23,7 +23,7 @@ pub record HasGlobals (bytes : List ℕ) (own to : ℕ) (section : Section) : Ty
   pub start : section.start ≤ section.contents
   pub order : section.contents ≤ section.end
   pub before : section.end ≤ to
-  pub counted : HasCount (slice_range bytes section.contents section.end) own
+  pub counted : CountBeginsText (slice_range bytes section.contents section.end) own
 
 -- the global section, or the place of one, is before the offset
 pub record HasRoom (bytes : List ℕ) (layout : Layout) (to : ℕ) : Type 0 where

@@ -1,7 +1,7 @@
 -- Other bytes that are the same module (this project).
 use Rattle.std.specs.Prelude.{◌≡◌, ◌↔◌, ℕ, List, length, Some, None, slice_get, slice_range}
 use Rattle.wasm_types.specs.Module.{Module}
-use Rattle.wasm_declarations.specs.declared.entries.Entry.{Entry}
+use Rattle.wasm_lists.specs.declared.entries.Entry.{Entry}
 use Rattle.wasm_module.specs.Module.{Layout, IsModule}
 use Rattle.wasm_module.specs.Reread.{HasContents}
 

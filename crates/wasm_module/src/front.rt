@@ -7,7 +7,7 @@ ghost use Rattle.wasm_sections.specs.Writing.{section_code};
 ghost use Rattle.wasm_sections.specs.declared.writing.WriteError.TheVariants.{TooLarge};
 ghost use Rattle.wasm_module.specs.Rewritten.{GrowsGlobals, AddsGlobals, IsFront};
 ghost use Rattle.wasm_module.specs.Limits.{HasTooManyGlobals};
-ghost use Rattle.wasm_module.specs.Room.{globals_with, HasCount, HasRoom};
+ghost use Rattle.wasm_module.specs.Room.{globals_with, CountBeginsText, HasRoom};
 
 use crate::contents::contents_of;
 use crate::globals::{globals_size, put_globals};
@@ -22,7 +22,7 @@ use wasm_types::PrimitiveTypeInfo;
 
 /// What follows the number that begins the bytes.
 pub fn past_count(bytes: &[u8]) -> &[u8]
-    requires { (n : ℕ) × HasCount bytes.now n }
+    requires { (n : ℕ) × CountBeginsText bytes.now n }
     ensures { (count items : List ℕ) (n : ℕ) → bytes.now ≡ count ++ items
         → SpellsUnsigned 32 count n → result.now ≡ items }
 {

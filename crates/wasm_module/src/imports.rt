@@ -3,7 +3,7 @@ ghost use Rattle.std.specs.Prelude.{◌≡◌, IfOk};
 ghost use Rattle.wasm_module.specs.Module.{functions_of, tables_of, memories_of, globals_of};
 
 use std::alloc::{AllocError, Global};
-use wasm_declarations::Import;
+use wasm_lists::Import;
 use wasm_types::{MemoryType, PrimitiveTypeInfo, TableType};
 
 /// Of each imported function the index of its type.

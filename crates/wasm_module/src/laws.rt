@@ -2,7 +2,7 @@
 ghost use Rattle.std.specs.Prelude.{◌≡◌, ◌≢◌, ◌-◌, ◌≤◌, ℕ, List, All, Some, None, length, slice_get};
 ghost use Rattle.std.specs.List.{sum_by};
 ghost use Rattle.wasm_types.specs.Module.{Module};
-ghost use Rattle.wasm_declarations.specs.declared.entries.Entry.{Entry};
+ghost use Rattle.wasm_lists.specs.declared.entries.Entry.{Entry};
 ghost use Rattle.wasm_module.specs.Module.{Layout, IsModule};
 ghost use Rattle.wasm_types.specs.declared.types.PrimitiveTypeInfo.{PrimitiveTypeInfo};
 ghost use Rattle.wasm_sections.specs.declared.fault.ModuleFault.{ModuleFault};
@@ -21,7 +21,7 @@ ghost use Rattle.wasm_module.specs.SameModule.{IsSameModule};
 ghost use Rattle.wasm_module.specs.Instance.{Making, IsMadeOf, with_more_globals};
 
 use wasm_code::laws::shortest_is_a_spelling;
-use wasm_declarations::laws::{lists_have_no_fault, one_list};
+use wasm_lists::laws::{lists_have_no_fault, one_list};
 use wasm_sections::laws::{
     modules_have_no_section_fault, one_module, one_place, other_sections_stay,
     sections_fill_the_module,

@@ -2,7 +2,7 @@
 
 use crate::unknown::Unknown;
 use std::marker::Model;
-use wasm_declarations::Entry;
+use wasm_lists::Entry;
 use wasm_sections::Section;
 use wasm_types::ModuleInfo;
 

@@ -1,5 +1,7 @@
 //! Modules of WebAssembly: what they declare, where their function bodies stand, and the module with another body and more
 //! globals.
+//!
+//! Tests: `reading_tests::module`; whole modules in `tests/modules.sh`.
 #![tactic(auto)]
 
 mod contents;
@@ -23,6 +25,6 @@ pub use module::{read_marked, read_module};
 pub use moved::read_again;
 pub use refusal::WriteError;
 pub use unknown::Unknown;
-pub use wasm_declarations::{Entry, Locals, read_locals};
+pub use wasm_lists::{Entry, Locals, read_locals};
 pub use wasm_sections::{ModuleError, ModuleFault, Section, SectionId};
 pub use writing::with_body;

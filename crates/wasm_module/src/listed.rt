@@ -1,6 +1,6 @@
 //! What the sections of a module list, as values.
 use std::marker::Model;
-use wasm_declarations::{Entry, Import, Known, TypeGroup};
+use wasm_lists::{Entry, Import, Known, TypeGroup};
 use wasm_types::{MemoryType, PrimitiveTypeInfo, TableType};
 
 /// What is known of the lists of a module's sections; nothing is listed where a section isn't there.

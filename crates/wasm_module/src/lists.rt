@@ -5,18 +5,18 @@ ghost use Rattle.wasm_sections.specs.Section.{SpellsModule};
 ghost use Rattle.wasm_sections.specs.declared.id.SectionId.TheVariants as ids;
 ghost use Rattle.wasm_sections.specs.declared.fault.ModuleFault.{ModuleFault};
 ghost use Rattle.wasm_sections.specs.declared.fault.ModuleFault.TheVariants.{Memory};
-ghost use Rattle.wasm_declarations.specs.Known.{Known as Knowledge, IsKnownFault};
-ghost use Rattle.wasm_declarations.specs.List.{SpellsList};
-ghost use Rattle.wasm_declarations.specs.Entries.{SpellsEntries};
-ghost use Rattle.wasm_declarations.specs.declared.entries.Entry.{Entry};
+ghost use Rattle.wasm_lists.specs.Known.{Known as Knowledge, IsKnownFault};
+ghost use Rattle.wasm_lists.specs.List.{SpellsList};
+ghost use Rattle.wasm_lists.specs.Entries.{SpellsEntries};
+ghost use Rattle.wasm_lists.specs.declared.entries.Entry.{Entry};
 ghost use Rattle.wasm_module.specs.Module.{Lists, Knows};
 ghost use Rattle.wasm_module.specs.Lists.{Listed as Listing, AreListed};
-ghost use Rattle.wasm_module.specs.Fault.{IsFaultOf, HasFault, HasListFault};
+ghost use Rattle.wasm_module.specs.Fault.{IsSectionFaultOf, HasFault, HasListFault};
 
 use crate::contents::contents_with;
 use crate::listed::Listed;
 use std::alloc::Global;
-use wasm_declarations::{
+use wasm_lists::{
     Entry, Globals, Imports, Indices, Item, Known, Memories, Tables, TypeGroups, read_entries,
     read_known, read_list,
 };
@@ -32,7 +32,7 @@ fn list_in<T: Item>(
     requires sections { SpellsModule bytes.now sections.now }
     requires faults { (start : ℕ) (text : List ℕ) (kind : ModuleFault) (offset : ℕ)
         → IsKnownFault T.Spells T.Fails start text kind offset
-        → IsFaultOf id start text kind offset }
+        → IsSectionFaultOf id start text kind offset }
     ensures found { IfOk result (Knows T.Spells T.Fails bytes.now sections.now id) }
     ensures only { (known : Knowledge T.Value)
         → Knows T.Spells T.Fails bytes.now sections.now id known

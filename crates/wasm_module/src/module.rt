@@ -15,7 +15,7 @@ use crate::spaces::{
     function_space, global_count, global_space, memory_space, table_space, type_space, unknown_of,
 };
 use std::alloc::{AllocError, Global};
-use wasm_declarations::laws::one_list;
+use wasm_lists::laws::one_list;
 use wasm_sections::{ModuleError, ModuleFault, Section, SectionId, find_section, read_sections};
 use wasm_types::ModuleInfo;
 
@@ -95,7 +95,7 @@ fn module_of<'a>(
 /// Modules).
 ///
 /// It accepts exactly modules of which these are known: the sections are told apart by `read_sections`; those of types, imports,
-/// functions, tables, memories, globals and code are read, each as its items in `wasm_declarations` say; and there are as many code
+/// functions, tables, memories, globals and code are read, each as its items in `wasm_lists` say; and there are as many code
 /// entries as functions of the module's own. The contents of the other sections and the bodies aren't read, and whether the module is
 /// valid isn't asked.
 ///
@@ -107,7 +107,7 @@ fn module_of<'a>(
 ///
 /// Bytes don't say whether what runs the module is exact: `exact` is false, and `read_marked` sets it.
 ///
-/// An error names a fault that is there: as `read_sections` refuses the bytes; as `wasm_declarations` refuses one of those lists; or
+/// An error names a fault that is there: as `read_sections` refuses the bytes; as `wasm_lists` refuses one of those lists; or
 /// `CodeCount` where the numbers differ, at the start of the code section, or at the end of the bytes where there is none. `Memory`
 /// where no memory was left.
 pub fn read_module<'a>(alloc: Global, bytes: &'a [u8]) -> Result<Module<'a>, ModuleError>

@@ -6,11 +6,11 @@ ghost use Rattle.wasm_sections.specs.declared.fault.ModuleFault.TheVariants.{Mem
 ghost use Rattle.wasm_sections.specs.declared.id.SectionId.TheVariants as ids;
 ghost use Rattle.wasm_sections.specs.declared.section.Section.{Section as Span};
 ghost use Rattle.wasm_sections.specs.Find.{IsFirstWith};
-ghost use Rattle.wasm_declarations.specs.declared.entries.Entry.{Entry as Place};
+ghost use Rattle.wasm_lists.specs.declared.entries.Entry.{Entry as Place};
 ghost use Rattle.wasm_module.specs.Module.{Layout as Places, IsModule};
 ghost use Rattle.wasm_module.specs.Moved.{moved, CanMove, CanMoveAround};
 ghost use Rattle.wasm_module.specs.Reread.{IsMoving, WasRewritten};
-ghost use Rattle.wasm_module.specs.Room.{HasCount};
+ghost use Rattle.wasm_module.specs.Room.{CountBeginsText};
 
 use crate::contents::contents_with;
 use crate::front::past_count;
@@ -21,14 +21,14 @@ use crate::writing::code_place;
 use std::alloc::Global;
 use wasm_code::laws::shortest_is_a_spelling;
 use wasm_code::u32_of;
-use wasm_declarations::Entry;
+use wasm_lists::Entry;
 use wasm_sections::{ModuleError, Section, SectionId, find_section, read_sections};
 use wasm_types::ModuleInfo;
 
 /// The number that begins the bytes.
 fn count_of(bytes: &[u8]) -> usize
-    requires { (n : ℕ) × HasCount bytes.now n }
-    ensures { (n : ℕ) → HasCount bytes.now n → result ≡ n }
+    requires { (n : ℕ) × CountBeginsText bytes.now n }
+    ensures { (n : ℕ) → CountBeginsText bytes.now n → result ≡ n }
 {
     match u32_of(bytes) {
         Ok((count, _items)) => count as usize,
@@ -53,7 +53,7 @@ fn own_globals(bytes: &[u8], sections: &[Section]) -> usize
 fn entry_between(bytes: &[u8], start: usize, end: usize) -> Entry
     requires order { start ≤ end }
     requires inside { end ≤ length bytes.now }
-    requires sized { (n : ℕ) × HasCount (slice_range bytes.now start end) n }
+    requires sized { (n : ℕ) × CountBeginsText (slice_range bytes.now start end) n }
     ensures start { result.start ≡ start }
     ensures end { result.end ≡ end }
     ensures contents { (size contents : List ℕ) (n : ℕ)

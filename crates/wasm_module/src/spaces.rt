@@ -1,6 +1,6 @@
 //! The index spaces of a module: its types, group by group; and of all else what it imports first, and then what it has of its own.
 ghost use Rattle.std.specs.Prelude.{◌≡◌, ◌↔◌, length, None, IfOk, IsTrue};
-ghost use Rattle.wasm_declarations.specs.Types.{types_in};
+ghost use Rattle.wasm_lists.specs.Types.{types_in};
 ghost use Rattle.wasm_module.specs.Lists.{unknown_in};
 ghost use Rattle.wasm_module.specs.Module.{functions_of, tables_of, memories_of, globals_of, space};
 
@@ -8,7 +8,7 @@ use crate::imports::{imported_functions, imported_globals, imported_memories, im
 use crate::listed::Listed;
 use crate::unknown::Unknown;
 use std::alloc::{AllocError, Global};
-use wasm_declarations::{Import, Known, TypeGroup};
+use wasm_lists::{Import, Known, TypeGroup};
 use wasm_types::{MemoryType, PrimitiveTypeInfo, TableType, TypeInfo};
 
 /// Whether every import is of a form that is known, so that the indices behind them are.

@@ -4,7 +4,7 @@ ghost use Rattle.wasm_types.specs.Module.{Module};
 ghost use Rattle.wasm_types.specs.declared.types.PrimitiveTypeInfo.TheVariants.{Empty};
 ghost use Rattle.wasm_module.specs.declared.refusal.WriteError.TheVariants.{EmptyType, TooLarge};
 ghost use Rattle.wasm_module.specs.Module.{IsModule};
-ghost use Rattle.wasm_module.specs.Rewritten.{code_with, IsRewritten};
+ghost use Rattle.wasm_module.specs.Rewritten.{code_section_with, IsRewritten};
 ghost use Rattle.wasm_module.specs.Limits.{IsTooLarge};
 ghost use Rattle.wasm_module.specs.Room.{IsEntryOf, IsCodePlace, size_with};
 
@@ -15,7 +15,7 @@ use crate::refusal::WriteError;
 use crate::sizes::{number_size, section_size, sum};
 use std::alloc::{AllocError, Global};
 use wasm_code::put_unsigned;
-use wasm_declarations::Entry;
+use wasm_lists::Entry;
 use wasm_sections::laws::sections_fill_the_module;
 use wasm_sections::{Section, SectionId, WriteError as SectionError, find_section, put_head};
 use wasm_types::PrimitiveTypeInfo;
@@ -46,7 +46,7 @@ fn put_code(
     requires placed { IsEntryOf bytes.now code.contents entry.start entry.end code.end }
     requires sized { size ≡ length (locals.now ++ expression.now) }
     ensures { OnOk result (out.new.items ≡ out.old.items
-        ++ (code_with bytes.now code entry (locals.now ++ expression.now)
+        ++ (code_section_with bytes.now code entry (locals.now ++ expression.now)
         ++ drop code.end bytes.now)) }
 {
     out.extend_from_slice(&bytes[code.contents..entry.start])?;

@@ -10,7 +10,7 @@ use Rattle.wasm_code.specs.Reader.{unsigned_at}
 use Rattle.wasm_code.specs.laws.GrammarLemmas.{ok_is}
 use Rattle.wasm_code.specs.laws.NumberExact.{unsigned_exact}
 use Rattle.wasm_sections.specs.Section.{BeginsWithName, IsLinkingName, IsLinkable}
-use Rattle.wasm_sections.specs.Reader.{kind_of, IsCounted, IsShort, FailsCounted}
+use Rattle.wasm_sections.specs.Reader.{size_fault_of, IsCounted, IsShort, FailsCounted}
 
 split_is : (rest front back : List ℕ) (n : ℕ) → IsSplitAt rest n front back → rest ≡ front ++ back
 split_is rest front back n s = rw (s.1, s.2) (sym (take-append-drop n rest))
@@ -29,7 +29,7 @@ short text rest n e lt =
     let t = (unsigned_exact 32).takes text n rest e in
     record { size = t.0; back = rest; count = n; parts = t.1; counts = t.2; short = lt }
 
-pub fails_counted : (text : List ℕ) (cause : Cause) → unsigned_at 32 text ≡ Err cause → FailsCounted (kind_of cause) text
+pub fails_counted : (text : List ℕ) (cause : Cause) → unsigned_at 32 text ≡ Err cause → FailsCounted (size_fault_of cause) text
 fails_counted text causes.Truncated e = inl ((unsigned_exact 32).stops text causes.Truncated e)
 fails_counted text causes.BadInteger e = (unsigned_exact 32).stops text causes.BadInteger e
 fails_counted text causes.UnknownOpcode e = absurd ((unsigned_exact 32).stops text causes.UnknownOpcode e)

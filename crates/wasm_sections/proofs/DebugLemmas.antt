@@ -6,10 +6,11 @@ use Rattle.wasm_sections.specs.declared.id.SectionId.{SectionId}
 use Rattle.wasm_sections.specs.declared.id.SectionId.TheVariants as ids
 use Rattle.wasm_sections.specs.declared.section.Section.{Section}
 use Rattle.wasm_sections.specs.Id.{id_code, rank_of}
-use Rattle.wasm_sections.specs.Section.{BeginsWithName, AreFinal, parts_of, preamble, SpellsModule}
-use Rattle.wasm_sections.specs.Debug.{IsDebugName, NamesPlaces, IsDebug, AreKept, bytes_of, IsWithoutDebug}
+use Rattle.wasm_sections.specs.Section.{BeginsWithName, AreFinal, section_parts_of, preamble, SpellsModule}
+use Rattle.wasm_sections.specs.Debug.{IsDebugName, NamesPlaces, IsDebug, AreKept, bytes_of_sections, IsWithoutDebug}
 use Rattle.wasm_sections.specs.Reader.{IsPut, ArePut}
-use Rattle.wasm_sections.specs.lemmas.PieceLemmas.{Piece, code_of, joined, AreCounted, AreSorted, part, parts, contents_at, end_at, all_placed, range_is, of_module, of_pieces, module_parts, length-code}
+use Rattle.wasm_sections.specs.lemmas.PieceLemmas.{Piece, code_of, joined, AreCounted, AreSorted, part, parts, contents_at, end_at}
+use Rattle.wasm_sections.specs.lemmas.PieceLemmas.{all_placed, range_is, of_module, of_pieces, module_parts, length-code}
 use Rattle.wasm_sections.proofs.CountedLemmas.{one_name}
 
 -- ---- names
@@ -37,11 +38,12 @@ left bytes (x ∷ ss) kept s (inl p) other = inl (p.0, left bytes ss kept s p.1 
 left bytes (x ∷ ss) kept s (inr p) other =
     inr (p.0, p.1 ++ s ∷ [], ap (λ (l : List Section). l ++ s ∷ []) p.2, left bytes ss p.1 s p.3 other)
 
-bytes_more : (bytes : List ℕ) (kept : List Section) (s : Section) → bytes_of bytes (kept ++ s ∷ []) ≡ bytes_of bytes kept ++ slice_range bytes s.start s.end
+bytes_more : (bytes : List ℕ) (kept : List Section) (s : Section) →
+    bytes_of_sections bytes (kept ++ s ∷ []) ≡ bytes_of_sections bytes kept ++ slice_range bytes s.start s.end
 bytes_more bytes [] s = append-nil (slice_range bytes s.start s.end)
 bytes_more bytes (x ∷ kept) s =
     let here = slice_range bytes x.start x.end in
-    ap (λ (l : List ℕ). here ++ l) (bytes_more bytes kept s) ∙ sym (append_assoc here (bytes_of bytes kept) (slice_range bytes s.start s.end))
+    ap (λ (l : List ℕ). here ++ l) (bytes_more bytes kept s) ∙ sym (append_assoc here (bytes_of_sections bytes kept) (slice_range bytes s.start s.end))
 
 put_more : (bytes : List ℕ) (ss : List Section) (s : Section) (old middle new : List ℕ) → ArePut bytes ss old middle → IsPut bytes s middle new →
     ArePut bytes (ss ++ s ∷ []) old new
@@ -55,7 +57,7 @@ put_more bytes ss s old middle new w (inr p) =
     record {
       kept = w.kept ++ s ∷ [];
       are = left bytes ss w.kept s w.are p.0;
-      written = p.1 ∙ ap (λ (l : List ℕ). l ++ here) w.written ∙ append_assoc old (bytes_of bytes w.kept) here
+      written = p.1 ∙ ap (λ (l : List ℕ). l ++ here) w.written ∙ append_assoc old (bytes_of_sections bytes w.kept) here
           ∙ ap (λ (l : List ℕ). old ++ l) (sym (bytes_more bytes w.kept s));
     }
 
@@ -67,8 +69,8 @@ put_next bytes ss i d old middle new lt w p = rw (take_more ss i d lt) (put_more
 
 record ArePieces (bytes : List ℕ) (xs : List Piece) (kept : List Section) : Type 0 where
   pub pieces : List Piece
-  pub bytes_are : bytes_of bytes kept ≡ joined pieces
-  pub are : parts_of bytes kept ≡ parts pieces
+  pub bytes_are : bytes_of_sections bytes kept ≡ joined pieces
+  pub are : section_parts_of bytes kept ≡ parts pieces
   pub counted : AreCounted xs → AreCounted pieces
   pub sorted : (last : ℕ) → AreSorted last xs → AreSorted last pieces
   pub final : AreFinal (parts xs) → AreFinal (parts pieces)
@@ -95,8 +97,8 @@ kept_pieces : (bytes before : List ℕ) (xs : List Piece) (start : ℕ) (kept : 
     AreKept bytes (all_placed start xs) kept → ArePieces bytes xs kept
 kept_pieces bytes before [] start kept e f k = record {
   pieces = [];
-  bytes_are = ap (bytes_of bytes) k;
-  are = ap (parts_of bytes) k;
+  bytes_are = ap (bytes_of_sections bytes) k;
+  are = ap (section_parts_of bytes) k;
   counted = λ c. c;
   sorted = λ last o. o;
   final = λ g. g;
@@ -117,9 +119,9 @@ kept_pieces bytes before (x ∷ xs) start kept e f (inr p) =
     (piece_len before x start f) p.3 in
     record {
       pieces = x ∷ r.pieces;
-      bytes_are = ap (bytes_of bytes) p.2 ∙ ap (λ (l : List ℕ). l ++ bytes_of bytes p.1) (code_is bytes before x xs start e f)
+      bytes_are = ap (bytes_of_sections bytes) p.2 ∙ ap (λ (l : List ℕ). l ++ bytes_of_sections bytes p.1) (code_is bytes before x xs start e f)
           ∙ ap (λ (l : List ℕ). code_of x ++ l) r.bytes_are;
-      are = ap (parts_of bytes) p.2 ∙ ap (λ (l : List ℕ). (x.id, l) ∷ parts_of bytes p.1) (contents_are bytes before x xs start e f)
+      are = ap (section_parts_of bytes) p.2 ∙ ap (λ (l : List ℕ). (x.id, l) ∷ section_parts_of bytes p.1) (contents_are bytes before x xs start e f)
           ∙ ap (λ (l : List (SectionId × List ℕ)). part x ∷ l) r.are;
       counted = λ c. (c.0, r.counted c.1);
       sorted = λ last o. (o.0, r.sorted (max last (rank_of x.id)) o.1);

@@ -1,7 +1,11 @@
 pub mod CountedLemmas
+pub mod CustomLemmas
 pub mod DebugLemmas
 pub mod FindLemmas
+pub mod FirstLemmas
 pub mod ModuleLemmas
+pub mod NameLemmas
+pub mod NameReaderLemmas
 pub mod OneDebug
 pub mod OneFault
 pub mod OneModule

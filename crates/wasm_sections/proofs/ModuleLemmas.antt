@@ -8,9 +8,11 @@ use Rattle.wasm_sections.specs.declared.fault.ModuleFault.{ModuleFault}
 use Rattle.wasm_sections.specs.declared.fault.ModuleFault.TheVariants as faults
 use Rattle.wasm_sections.specs.Id.{id_code, rank_of}
 use Rattle.wasm_sections.specs.Section.{SpellsModule, AreFinal, preamble}
-use Rattle.wasm_sections.specs.Sections.{last_rank, FailsSection, StopsAt, IsSectionFault}
+use Rattle.wasm_sections.specs.Sections.{last_rank, FailsSection, SectionsStopAt, IsSectionFault}
 use Rattle.wasm_sections.specs.Reader.{IsAccepted}
-use Rattle.wasm_sections.specs.lemmas.PieceLemmas.{Piece, code_of, joined, placed, all_placed, contents_at, end_at, parts, of_module, of_pieces, section_is, joined-append, parts-append, counted-append, final-append, sorted-append, placed-append, last_of, last_is}
+use Rattle.wasm_sections.specs.lemmas.PieceLemmas.{Piece, code_of, joined, placed, all_placed, contents_at, end_at, parts, of_module}
+use Rattle.wasm_sections.specs.lemmas.PieceLemmas.{of_pieces, section_is, joined-append, parts-append, counted-append, final-append}
+use Rattle.wasm_sections.specs.lemmas.PieceLemmas.{sorted-append, placed-append, last_of, last_is}
 
 pub record IsReadSoFar (bytes rest : List ℕ) (xs : List Section) (last : ℕ) : Type 0 where
   pub front : List ℕ
@@ -84,7 +86,7 @@ shrinks rest after s last start a =
       ap length n.rest,
     )
 
-fault_of : (bytes : List ℕ) (fault : ModuleFault) (offset : ℕ) → StopsAt bytes fault offset → IsSectionFault bytes fault offset
+fault_of : (bytes : List ℕ) (fault : ModuleFault) (offset : ℕ) → SectionsStopAt bytes fault offset → IsSectionFault bytes fault offset
 fault_of bytes faults.UnknownSection offset s = s
 fault_of bytes faults.Truncated offset s = s
 fault_of bytes faults.BadInteger offset s = s

@@ -1,5 +1,6 @@
 -- Bytes have one fault at most.
-use Rattle.std.proofs.Common.{◌≡◌, ◌⊎◌, ℕ, ◌<◌, ◌≤◌, ltb, cond, List, [], ◌∷◌, ◌++◌, length, drop, Result, Ok, Err, refl, sym, ap, subst, ◌∙◌, append_assoc, inl, inr, arith}
+use Rattle.std.proofs.Common.{◌≡◌, ◌⊎◌, ℕ, ◌<◌, ◌≤◌, ltb, cond, List, [], ◌∷◌, ◌++◌, length, drop, Result, Ok, Err, refl, sym, ap, subst}
+use Rattle.std.proofs.Common.{◌∙◌, append_assoc, inl, inr, arith}
 use Rattle.std.specs.Prelude.{max}
 use Rattle.std.proofs.lemmas.Bool.{lt-ltb, le-ltb}
 use Rattle.std.proofs.lemmas.List.{length-append}
@@ -15,8 +16,8 @@ use Rattle.wasm_sections.specs.declared.fault.ModuleFault.{ModuleFault}
 use Rattle.wasm_sections.specs.declared.fault.ModuleFault.TheVariants as faults
 use Rattle.wasm_sections.specs.Id.{id_code, rank_of}
 use Rattle.wasm_sections.specs.Section.{IsLinkable, AreFinal, magic, preamble}
-use Rattle.wasm_sections.specs.Sections.{last_rank, LacksId, FailsSection, StopsAt, IsSectionFault}
-use Rattle.wasm_sections.specs.Reader.{kind_of}
+use Rattle.wasm_sections.specs.Sections.{last_rank, LacksId, FailsSection, SectionsStopAt, IsSectionFault}
+use Rattle.wasm_sections.specs.Reader.{size_fault_of}
 use Rattle.wasm_sections.specs.lemmas.PieceLemmas.{Piece, code_of, joined, AreCounted, AreSorted, parts, last_of, last_is, of_module}
 use Rattle.wasm_sections.specs.lemmas.IdLemmas.{one_id}
 use Rattle.wasm_sections.proofs.OneModule.{cons_is, next_is, here_fails}
@@ -25,7 +26,7 @@ use Rattle.wasm_sections.proofs.OneModule.{cons_is, next_is, here_fails}
 
 -- what is wrong behind a known id, by what reading the size answers
 abbrev read_fault : SectionId → Result (ℕ × List ℕ) Cause → ModuleFault
-read_fault id (Err cause) = kind_of cause
+read_fault id (Err cause) = size_fault_of cause
 read_fault id (Ok (n, rest)) = cond (ltb (length rest) n) faults.Truncated (cond (ltb 0 (rank_of id)) faults.OutOfOrder faults.Linkable)
 
 record IsKnown (fault : ModuleFault) (bytes : List ℕ) : Type 0 where
@@ -133,7 +134,8 @@ same_stop (x ∷ xs) (y ∷ ys) last a b one other p q e =
       fails = subst (λ (k : ℕ). FailsSection other (last_of k ys) b) same q.fails;
     }) n.1
 
-same_stops : (bytes : List ℕ) (one other : ModuleFault) (at place : ℕ) → StopsAt bytes one at → StopsAt bytes other place → (one ≡ other) × (at ≡ place)
+same_stops : (bytes : List ℕ) (one other : ModuleFault) (at place : ℕ) → SectionsStopAt bytes one at → SectionsStopAt bytes other place →
+    (one ≡ other) × (at ≡ place)
 same_stops bytes one other at place p q =
     let u = of_module p.front p.sections p.before in
     let v = of_module q.front q.sections q.before in
@@ -162,7 +164,7 @@ data IsOne (bytes : List ℕ) (fault : ModuleFault) (at : ℕ) : Type 0 where
   none : fault ≡ faults.Memory → IsOne bytes fault at
   first : fault ≡ faults.BadMagic → (BeginsWith bytes magic → ⊥) → at ≡ 0 → IsOne bytes fault at
   second : fault ≡ faults.BadVersion → BeginsWith bytes magic → (BeginsWith bytes preamble → ⊥) → at ≡ 4 → IsOne bytes fault at
-  behind : StopsAt bytes fault at → IsOne bytes fault at
+  behind : SectionsStopAt bytes fault at → IsOne bytes fault at
 
 one_of : (bytes : List ℕ) (fault : ModuleFault) (at : ℕ) → IsSectionFault bytes fault at → IsOne bytes fault at
 one_of bytes faults.BadMagic at s = first refl s.0 s.1
@@ -175,7 +177,7 @@ one_of bytes faults.Linkable at s = behind s
 one_of bytes faults.Memory at s = none refl
 one_of bytes _ at s = absurd s
 
-whole_preamble : (bytes : List ℕ) (fault : ModuleFault) (at : ℕ) → StopsAt bytes fault at → BeginsWith bytes preamble
+whole_preamble : (bytes : List ℕ) (fault : ModuleFault) (at : ℕ) → SectionsStopAt bytes fault at → BeginsWith bytes preamble
 whole_preamble bytes fault at s = (s.before.text ++ s.back, s.parts ∙ ap (λ (l : List ℕ). l ++ s.back) s.before.parts)
 
 shorter : (bytes : List ℕ) → BeginsWith bytes preamble → BeginsWith bytes magic

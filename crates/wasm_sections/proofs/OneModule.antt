@@ -13,7 +13,7 @@ use Rattle.wasm_sections.specs.declared.fault.ModuleFault.TheVariants as faults
 use Rattle.wasm_sections.specs.declared.fault.ModuleError.{ModuleError}
 use Rattle.wasm_sections.specs.Id.{id_code, rank_of}
 use Rattle.wasm_sections.specs.Section.{SpellsModule, IsLinkable, AreFinal}
-use Rattle.wasm_sections.specs.Sections.{last_rank, FailsSection, StopsAt, IsSectionFault}
+use Rattle.wasm_sections.specs.Sections.{last_rank, FailsSection, SectionsStopAt, IsSectionFault}
 use Rattle.wasm_sections.specs.Reader.{IsCounted}
 use Rattle.wasm_sections.proofs.CountedLemmas.{one_counted, no_short, no_fail}
 use Rattle.wasm_sections.specs.lemmas.IdLemmas.{one_id}
@@ -140,7 +140,7 @@ pieces_fail fault last back [] e p sorted final s = none_fails fault last back e
 pieces_fail fault last back (x ∷ xs) e p sorted final s =
     here_fails fault last x (joined xs) back (record { bytes = e; counts = p.0; ordered = sorted.0; final = final.0 }) s
 
-no_stop : (bytes : List ℕ) (xs : List Section) (fault : ModuleFault) (offset : ℕ) → SpellsModule bytes xs → StopsAt bytes fault offset → ⊥
+no_stop : (bytes : List ℕ) (xs : List Section) (fault : ModuleFault) (offset : ℕ) → SpellsModule bytes xs → SectionsStopAt bytes fault offset → ⊥
 no_stop bytes xs fault offset p s =
     let u = of_module bytes xs p in
     let v = of_module s.front s.sections s.before in

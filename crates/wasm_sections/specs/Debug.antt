@@ -4,7 +4,7 @@ use Rattle.std.specs.Prelude.{◌≡◌, ◌⊎◌, ℕ, List, [], ◌∷◌, �
 use Rattle.wasm_code.specs.Code.{BeginsWith}
 use Rattle.wasm_sections.specs.declared.id.SectionId.TheVariants as ids
 use Rattle.wasm_sections.specs.declared.section.Section.{Section}
-use Rattle.wasm_sections.specs.Section.{parts_of, BeginsWithName, preamble}
+use Rattle.wasm_sections.specs.Section.{section_parts_of, BeginsWithName, preamble}
 use Rattle.wasm_sections.specs.Laws.{SpellsParts}
 
 -- `sourceMappingURL`, `external_debug_info`, or `.debug_` or `metadata.code.` and more
@@ -30,13 +30,13 @@ AreKept bytes (s ∷ ss) kept = (IsDebug bytes s × AreKept bytes ss kept)
     ⊎ ((IsDebug bytes s → ⊥) × (rest : List Section) × (kept ≡ s ∷ rest) × AreKept bytes ss rest)
 
 -- the bytes of the sections, from the id of each to its end, one after another
-abbrev pub bytes_of : (bytes : List ℕ) → List Section → List ℕ
-bytes_of bytes sections = flat_map (λ s. slice_range bytes s.start s.end) sections
+abbrev pub bytes_of_sections : (bytes : List ℕ) → List Section → List ℕ
+bytes_of_sections bytes sections = flat_map (λ s. slice_range bytes s.start s.end) sections
 
 -- The new bytes are the module without its sections of that kind: the preamble, and the bytes of the others as they stood, in their
 -- order. They are a module again, whose sections have the ids and the contents of the others.
 pub record IsWithoutDebug (bytes : List ℕ) (sections : List Section) (new : List ℕ) : Type 0 where
   pub kept : List Section
   pub are : AreKept bytes sections kept
-  pub written : new ≡ preamble ++ bytes_of bytes kept
-  pub spells : SpellsParts new (parts_of bytes kept)
+  pub written : new ≡ preamble ++ bytes_of_sections bytes kept
+  pub spells : SpellsParts new (section_parts_of bytes kept)

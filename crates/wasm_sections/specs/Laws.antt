@@ -3,14 +3,14 @@ use Rattle.std.specs.Prelude.{◌≡◌, ℕ, ◌<◌, ◌≤◌, List, [], ◌�
 use Rattle.wasm_sections.specs.declared.id.SectionId.{SectionId}
 use Rattle.wasm_sections.specs.declared.section.Section.{Section}
 use Rattle.wasm_sections.specs.Id.{rank_of}
-use Rattle.wasm_sections.specs.Section.{SpellsModule, parts_of}
+use Rattle.wasm_sections.specs.Section.{SpellsModule, section_parts_of}
 use Rattle.wasm_sections.specs.Find.{IsFirstWith}
 
 -- The bytes spell a module whose sections have these ids and contents.
 pub record SpellsParts (bytes : List ℕ) (parts : List (SectionId × List ℕ)) : Type 0 where
   pub sections : List Section
   pub spells : SpellsModule bytes sections
-  pub are : parts_of bytes sections ≡ parts
+  pub are : section_parts_of bytes sections ≡ parts
 
 -- The sections stand one behind another from `from` to `to`, with nothing between them, and each has its contents at its end.
 abbrev pub AreJoined : ℕ → List Section → ℕ → Type 0

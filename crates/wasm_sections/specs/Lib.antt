@@ -3,6 +3,8 @@ pub mod Fault
 pub mod Find
 pub mod Id
 pub mod Laws
+pub mod NameReader
+pub mod Names
 pub mod Reader
 pub mod Section
 pub mod Sections

@@ -11,14 +11,14 @@ use Rattle.wasm_sections.specs.declared.fault.ModuleFault.TheVariants as faults
 use Rattle.wasm_sections.specs.Id.{rank_of}
 use Rattle.wasm_sections.specs.Section.{IsNextSection, IsLinkable}
 use Rattle.wasm_sections.specs.Sections.{IsOutOfOrder, IsLinkableSection}
-use Rattle.wasm_sections.specs.Debug.{IsDebug, AreKept, bytes_of}
+use Rattle.wasm_sections.specs.Debug.{IsDebug, AreKept, bytes_of_sections}
 
 -- the fault of a section whose size is no number for that cause; the last two causes no number has
-abbrev pub kind_of : Cause → ModuleFault
-kind_of causes.Truncated = faults.Truncated
-kind_of causes.BadInteger = faults.BadInteger
-kind_of causes.UnknownOpcode = faults.Truncated
-kind_of causes.BadImmediate = faults.Truncated
+abbrev pub size_fault_of : Cause → ModuleFault
+size_fault_of causes.Truncated = faults.Truncated
+size_fault_of causes.BadInteger = faults.BadInteger
+size_fault_of causes.UnknownOpcode = faults.Truncated
+size_fault_of causes.BadImmediate = faults.Truncated
 
 -- bytes and the number of them begin the text, and the rest stands behind
 pub record IsCounted (bytes back text : List ℕ) : Type 0 where
@@ -74,4 +74,4 @@ IsPut bytes s old new = (IsDebug bytes s × (new ≡ old)) ⊎ ((IsDebug bytes s
 pub record ArePut (bytes : List ℕ) (sections : List Section) (old new : List ℕ) : Type 0 where
   pub kept : List Section
   pub are : AreKept bytes sections kept
-  pub written : new ≡ old ++ bytes_of bytes kept
+  pub written : new ≡ old ++ bytes_of_sections bytes kept

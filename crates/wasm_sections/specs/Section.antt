@@ -39,8 +39,8 @@ AreInOrder last (s ∷ ss) = (0 < rank_of s.id → last < rank_of s.id) × AreIn
 -- ---- what they contain
 
 -- the ids and the contents of the sections
-abbrev pub parts_of : List ℕ → List Section → List (SectionId × List ℕ)
-parts_of bytes sections = map (λ s. (s.id, slice_range bytes s.contents s.end)) sections
+abbrev pub section_parts_of : List ℕ → List Section → List (SectionId × List ℕ)
+section_parts_of bytes sections = map (λ s. (s.id, slice_range bytes s.contents s.end)) sections
 
 -- ---- linkable objects
 
@@ -83,4 +83,4 @@ pub record SpellsModule (bytes : List ℕ) (sections : List Section) : Type 0 wh
   pub parts : bytes ≡ preamble ++ text
   pub spelled : SpellsSections sections 8 text
   pub ordered : AreInOrder 0 sections
-  pub final : AreFinal (parts_of bytes sections)
+  pub final : AreFinal (section_parts_of bytes sections)

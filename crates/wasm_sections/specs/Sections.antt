@@ -74,7 +74,7 @@ FailsSection _ last bytes = ⊥
 -- ---- the first fault
 
 -- behind a whole module stand bytes that begin with no further section, for that cause
-pub record StopsAt (bytes : List ℕ) (fault : ModuleFault) (offset : ℕ) : Type 0 where
+pub record SectionsStopAt (bytes : List ℕ) (fault : ModuleFault) (offset : ℕ) : Type 0 where
   pub front : List ℕ
   pub back : List ℕ
   pub sections : List Section
@@ -87,10 +87,10 @@ pub record StopsAt (bytes : List ℕ) (fault : ModuleFault) (offset : ℕ) : Typ
 abbrev pub IsSectionFault : List ℕ → ModuleFault → ℕ → Type 0
 IsSectionFault bytes faults.BadMagic offset = (BeginsWith bytes magic → ⊥) × (offset ≡ 0)
 IsSectionFault bytes faults.BadVersion offset = BeginsWith bytes magic × (BeginsWith bytes preamble → ⊥) × (offset ≡ 4)
-IsSectionFault bytes faults.UnknownSection offset = StopsAt bytes faults.UnknownSection offset
-IsSectionFault bytes faults.Truncated offset = StopsAt bytes faults.Truncated offset
-IsSectionFault bytes faults.BadInteger offset = StopsAt bytes faults.BadInteger offset
-IsSectionFault bytes faults.OutOfOrder offset = StopsAt bytes faults.OutOfOrder offset
-IsSectionFault bytes faults.Linkable offset = StopsAt bytes faults.Linkable offset
+IsSectionFault bytes faults.UnknownSection offset = SectionsStopAt bytes faults.UnknownSection offset
+IsSectionFault bytes faults.Truncated offset = SectionsStopAt bytes faults.Truncated offset
+IsSectionFault bytes faults.BadInteger offset = SectionsStopAt bytes faults.BadInteger offset
+IsSectionFault bytes faults.OutOfOrder offset = SectionsStopAt bytes faults.OutOfOrder offset
+IsSectionFault bytes faults.Linkable offset = SectionsStopAt bytes faults.Linkable offset
 IsSectionFault bytes faults.Memory offset = offset ≡ 0
 IsSectionFault bytes _ offset = ⊥

@@ -1,6 +1,6 @@
 //! Laws on modules as sections: functions that do nothing, and whose contracts hold for all values.
 ghost use Rattle.std.specs.Prelude.{◌≡◌, ◌≢◌, ◌<◌, ◌≤◌, ◌^◌, ◌++◌, ℕ, List, ◌∷◌, length, take, drop, All};
-ghost use Rattle.wasm_sections.specs.Section.{SpellsModule, parts_of};
+ghost use Rattle.wasm_sections.specs.Section.{SpellsModule, section_parts_of};
 ghost use Rattle.wasm_sections.specs.Sections.{IsSectionFault};
 ghost use Rattle.wasm_sections.specs.declared.fault.ModuleFault.{ModuleFault};
 ghost use Rattle.wasm_sections.specs.declared.fault.ModuleFault.TheVariants.{Memory};
@@ -67,7 +67,7 @@ pub fn replaced_section()
     ensures { (bytes contents : List ℕ) (before behind : List Section) (s : Section)
         → SpellsModule bytes (before ++ s ∷ behind) → s.id ≢ ids.Custom → length contents < 2 ^ 32
         → SpellsParts (take s.start bytes ++ section_code s.id contents ++ drop s.end bytes)
-        (parts_of bytes before ++ (s.id, contents) ∷ parts_of bytes behind) }
+        (section_parts_of bytes before ++ (s.id, contents) ∷ section_parts_of bytes behind) }
 {
     shortest_is_a_spelling();
 }
@@ -78,7 +78,7 @@ pub fn added_section()
         → SpellsModule bytes sections → (p : IsPlaceOf sections id place) → id ≢ ids.Custom
         → length contents < 2 ^ 32
         → SpellsParts (take place bytes ++ section_code id contents ++ drop place bytes)
-        (parts_of bytes p.before ++ (id, contents) ∷ parts_of bytes p.behind) }
+        (section_parts_of bytes p.before ++ (id, contents) ∷ section_parts_of bytes p.behind) }
 {
     shortest_is_a_spelling();
 }

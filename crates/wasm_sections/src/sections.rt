@@ -4,7 +4,7 @@ ghost use Rattle.wasm_code.specs.Code.{BeginsWith};
 ghost use Rattle.wasm_sections.specs.Id.{id_code};
 ghost use Rattle.wasm_sections.specs.Section.{SpellsModule, preamble};
 ghost use Rattle.wasm_sections.specs.Sections.{IsSectionFault, FailsSection};
-ghost use Rattle.wasm_sections.specs.Reader.{kind_of, IsCounted, FailsCounted, IsAllowed, IsForbidden, IsAccepted};
+ghost use Rattle.wasm_sections.specs.Reader.{size_fault_of, IsCounted, FailsCounted, IsAllowed, IsForbidden, IsAccepted};
 ghost use Rattle.wasm_sections.specs.declared.section.Section.{Section};
 ghost use Rattle.wasm_sections.specs.declared.fault.ModuleFault.TheVariants.{Memory};
 
@@ -19,7 +19,7 @@ use wasm_code::{Cause, byte_of, u32_of};
 const MAGIC: [u8; 4] = [0x00, 0x61, 0x73, 0x6d];
 
 fn kind(cause: Cause) -> ModuleFault
-    ensures { result ≡ kind_of cause }
+    ensures { result ≡ size_fault_of cause }
 {
     match cause {
         Cause::BadInteger => ModuleFault::BadInteger,

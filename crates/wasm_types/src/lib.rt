@@ -1,4 +1,6 @@
 //! The types of values, functions, tables and memories, and what is known of a module.
+//!
+//! Tests: `reading_tests::base`.
 #![tactic(auto)]
 
 pub mod laws;

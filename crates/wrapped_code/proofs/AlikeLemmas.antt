@@ -6,15 +6,16 @@ use Rattle.wasm_code.specs.declared.operator.Operator.{Operator}
 use Rattle.wasm_code.specs.declared.operator.Operator.TheVariants as op
 use Rattle.wasm_types.specs.Module.{Module}
 use Rattle.wasm_types.specs.declared.types.PrimitiveTypeInfo.{PrimitiveTypeInfo}
-use Rattle.peephole_machine.specs.Values.{Value, Context, State, HasTypes}
-use Rattle.peephole_machine.specs.Agreement.{with_globals}
-use Rattle.peephole_machine.specs.StateLemmas.{none_of}
-use Rattle.peephole_programs.specs.control.Function.{structural, piece, Reached, At, Done, Control, pass, stands_at, visit, visits, lap, runs, FollowsEnd, EndsAlike}
-use Rattle.peephole_programs.specs.control.Standard.{Beyond, by_asked, standard}
-use Rattle.peephole_programs.specs.control.Wider.{wider_module, wider}
-use Rattle.peephole_programs.specs.modules.Program.{Body, context_for}
-use Rattle.peephole_programs.specs.hosts.Embedder.{DoesAs}
-use Rattle.peephole_programs.specs.validation.Sound.{IsValid, HasTargets, HasDeeds, TargetsStay, DeedsStay}
+use Rattle.wasm_execution.specs.Values.{Value, Context, State, HasTypes}
+use Rattle.wasm_execution.specs.Agreement.{with_globals}
+use Rattle.wasm_execution.specs.StateLemmas.{none_of}
+use Rattle.wasm_equivalence.specs.control.Function.{structural, piece, Reached, At, Done, Control, pass, stands_at, visit, visits, lap}
+use Rattle.wasm_equivalence.specs.control.Function.{runs, FollowsEnd, EndsAlike}
+use Rattle.wasm_equivalence.specs.control.Standard.{Beyond, by_asked, standard}
+use Rattle.wasm_equivalence.specs.control.Wider.{wider_module, wider}
+use Rattle.wasm_equivalence.specs.modules.Program.{Body, function_context}
+use Rattle.wasm_equivalence.specs.hosts.Embedder.{DoesAs}
+use Rattle.wasm_equivalence.specs.validation.Sound.{IsValid, HasTargets, HasDeeds, TargetsStay, DeedsStay}
 use Rattle.wrapped_code.proofs.UnwrapLemmas.{no_globals, none_more}
 
 -- ---- pieces
@@ -61,11 +62,11 @@ module _ (control : Control) (old new : List Operator) (P : Reached → Type 0) 
 
 -- one function does as another where it comes to the same ends and is valid where that is, and so do what its operators come to
 pub record EndsSame (m : Module) (input : List ℕ) (b : Body) (old new : List Operator) : Type 0 where
-  pub ends : (results : List PrimitiveTypeInfo) (beyond : Beyond) (fuel : ℕ) (s : State) → HasTypes (context_for m b) s →
+  pub ends : (results : List PrimitiveTypeInfo) (beyond : Beyond) (fuel : ℕ) (s : State) → HasTypes (function_context m b) s →
       FollowsEnd [] (runs (standard m results (structural old) (by_asked (structural old) beyond)) old fuel (At 0 [] [] s))
       (runs (standard m results (structural new) (by_asked (structural new) beyond)) new fuel (At 0 [] [] s))
-  pub valid : (results : List PrimitiveTypeInfo) (beyond : Beyond) → IsValid (context_for m b) results (by_asked (structural old) beyond) old →
-      IsValid (wider input [] (context_for m b)) results (by_asked (structural new) beyond) new
+  pub valid : (results : List PrimitiveTypeInfo) (beyond : Beyond) → IsValid (function_context m b) results (by_asked (structural old) beyond) old →
+      IsValid (wider input [] (function_context m b)) results (by_asked (structural new) beyond) new
   pub targets : (beyond : Beyond) → HasTargets m (structural old) (by_asked (structural old) beyond) →
       HasTargets m (structural new) (by_asked (structural new) beyond)
   pub deeds : (results : List PrimitiveTypeInfo) (beyond : Beyond) → HasDeeds m results (structural old) (by_asked (structural old) beyond) →
@@ -74,17 +75,17 @@ pub record EndsSame (m : Module) (input : List ℕ) (b : Body) (old new : List O
 -- the same where it has the same structural operators and runs
 pub record RunsSame (m : Module) (input : List ℕ) (b : Body) (old new : List Operator) : Type 0 where
   pub structure : structural old ≡ structural new
-  pub same : (results : List PrimitiveTypeInfo) (beyond : Beyond) (fuel : ℕ) (s : State) → HasTypes (context_for m b) s →
+  pub same : (results : List PrimitiveTypeInfo) (beyond : Beyond) (fuel : ℕ) (s : State) → HasTypes (function_context m b) s →
       runs (standard m results (structural old) (by_asked (structural old) beyond)) old fuel (At 0 [] [] s) ≡
       runs (standard m results (structural old) (by_asked (structural old) beyond)) new fuel (At 0 [] [] s)
-  pub valid : (results : List PrimitiveTypeInfo) (beyond : Beyond) → IsValid (context_for m b) results (by_asked (structural old) beyond) old →
-      IsValid (wider input [] (context_for m b)) results (by_asked (structural new) beyond) new
+  pub valid : (results : List PrimitiveTypeInfo) (beyond : Beyond) → IsValid (function_context m b) results (by_asked (structural old) beyond) old →
+      IsValid (wider input [] (function_context m b)) results (by_asked (structural new) beyond) new
 
 module _ (targets_stay : TargetsStay) (deeds_stay : DeedsStay) (m : Module) (input : List ℕ) (old new : Body) (old_body new_body : List Operator)
     (params_are : old.params ≡ new.params) (locals_are : old.locals ≡ new.locals) (old_is : old.operators ≡ old_body)
     (new_is : new.operators ≡ new_body) where
   abbrev context : Context
-  context = context_for m old
+  context = function_context m old
 
   module _ (w : EndsSame m input old old_body new_body) where
     alike : (results : List PrimitiveTypeInfo) (beyond : Beyond) →

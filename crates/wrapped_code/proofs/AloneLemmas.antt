@@ -1,5 +1,6 @@
 -- What typed code does above every stack, and what it leaves as it is.
-use Rattle.std.proofs.Common.{◌≡◌, ℕ, zero, suc, ◌-◌, Bool, true, false, List, [], ◌∷◌, ◌++◌, length, take, drop, Option, Some, None, refl, sym, ap, ap₂, ◌∙◌, subst, append-nil}
+use Rattle.std.proofs.Common.{◌≡◌, ℕ, zero, suc, ◌-◌, Bool, true, false, List, [], ◌∷◌, ◌++◌, length, take, drop, Option, Some, None, refl}
+use Rattle.std.proofs.Common.{sym, ap, ap₂, ◌∙◌, subst, append-nil}
 use Rattle.std.specs.Prelude.{◌&&◌, not, map, set as slice_set, slice_get, is_some}
 use Rattle.std.specs.List.{All}
 use Rattle.std.proofs.lemmas.Bool.{and_parts, or_parts, eqb-false}
@@ -7,18 +8,20 @@ use Rattle.std.proofs.lemmas.List.Elements.{All-nil, All-drop}
 use Rattle.wasm_code.specs.Instruction.{Instruction}
 use Rattle.wasm_types.specs.Module.{Module}
 use Rattle.wasm_types.specs.declared.types.PrimitiveTypeInfo.{PrimitiveTypeInfo}
-use Rattle.peephole_machine.specs.OtherRow.{changes}
-use Rattle.peephole_machine.specs.Values.{Value, IsValue, types, Context, Answer, Gives, Fails, IsAnswer, State, Variable, local, global, read, write, own_globals, further_globals, HasTypes, Outcome, Ends, Traps, Stuck, then_run, above}
-use Rattle.peephole_machine.specs.IntegerRow.{IntegerRow, constant, operation, get, set, tee, discard, select, nop, other, operand_count, row_types, integer_row}
-use Rattle.peephole_machine.specs.Machine.{cause_of, given, read_of, answered, effect, only_if, context_of, act, step, run}
-use Rattle.peephole_machine.specs.Agreement.{EndsTyped}
-use Rattle.peephole_machine.specs.Laws.{Keeps}
-use Rattle.peephole_machine.specs.StateLemmas.{context_is, others_none}
-use Rattle.peephole_machine.specs.TypeLemmas.{sound_answer, step_keeps, run_keeps}
-use Rattle.peephole_programs.specs.validation.Sound.{EndsIn, ValidCodeRuns}
-use Rattle.peephole_programs.specs.validation.Algorithm.{known}
-use Rattle.peephole_programs.specs.validation.StaysValid.{with_types, Pushes}
-use Rattle.wrapped_code.specs.Ways.{IsPure, IsAlone, LeavesValue, same_variable, row_writes, code_writes, row_changes, code_changes, row_is_left, is_left, CodeIsAlone}
+use Rattle.wasm_execution.specs.OtherRow.{changes}
+use Rattle.wasm_execution.specs.Values.{Value, IsValue, types, Context, Answer, Gives, Fails, IsAnswer, State, Variable, local, global}
+use Rattle.wasm_execution.specs.Values.{read, write, own_globals, further_globals, HasTypes, Outcome, Ends, Traps, Stuck, then_run, above}
+use Rattle.wasm_execution.specs.IntegerRow.{IntegerRow, constant, operation, get, set, tee, discard, select, nop, other, operand_count, row_types, integer_row}
+use Rattle.wasm_execution.specs.Machine.{division_trap_cause, number_or_trap, read_of, answered, effect, only_if, state_context, act, step, run}
+use Rattle.wasm_execution.specs.Agreement.{EndsTyped}
+use Rattle.wasm_execution.specs.Laws.{Keeps}
+use Rattle.wasm_execution.specs.StateLemmas.{context_is, others_none}
+use Rattle.wasm_execution.specs.TypeLemmas.{sound_answer, step_keeps, run_keeps}
+use Rattle.wasm_equivalence.specs.validation.Sound.{EndsIn, ValidCodeRuns}
+use Rattle.wasm_equivalence.specs.validation.Algorithm.{known}
+use Rattle.wasm_equivalence.specs.validation.StaysValid.{with_types, Pushes}
+use Rattle.wrapped_code.specs.Ways.{IsPure, IsAlone, LeavesValue, same_variable, row_writes_variable, code_writes, row_changes}
+use Rattle.wrapped_code.specs.Ways.{code_changes, row_is_left, is_left, CodeIsAlone}
 use Rattle.wrapped_code.proofs.OverLemmas.{empty_frame, own_ends, own_over}
 
 -- ---- outcomes that end
@@ -80,7 +83,7 @@ module _ (context : Context) where
   row_same (constant t n) ops us rs s after h a typed free e = sym (ends_state _ us s after e)
   row_same (operation f) ops us rs s after h a typed free e = go (f.value (map (λ v. v.number) ops)) e
     where
-      go : (o : Option ℕ) → given f.result o (cause_of (map (λ v. v.number) ops)) s ≡ Ends us after → after ≡ s
+      go : (o : Option ℕ) → number_or_trap f.result o (division_trap_cause (map (λ v. v.number) ops)) s ≡ Ends us after → after ≡ s
       go (Some n) e = sym (ends_state _ us s after e)
       go None e = absurd cc
   row_same (get x) ops us rs s after h a typed free e = go (read x s) e
@@ -111,7 +114,7 @@ module _ (context : Context) where
 
   -- a row that doesn't write the variable
   row_keeps : (x : Variable) (row : IntegerRow) (ops us : List Value) (rs : List PrimitiveTypeInfo) (s after : State) → HasTypes context s →
-      All IsValue ops → row_types context row (types ops) ≡ Some rs → row_writes x row ≡ false → effect row ops s ≡ Ends us after →
+      All IsValue ops → row_types context row (types ops) ≡ Some rs → row_writes_variable x row ≡ false → effect row ops s ≡ Ends us after →
       read x after ≡ read x s
   row_keeps x (constant t n) ops us rs s after h a typed free e = ap (read x) (row_same (constant t n) ops us rs s after h a typed refl e)
   row_keeps x (operation f) ops us rs s after h a typed free e = ap (read x) (row_same (operation f) ops us rs s after h a typed refl e)
@@ -137,7 +140,7 @@ module _ (context : Context) where
       let k = length stack - operand_count s.world.info row in
       let ops = drop k stack in
       let (us, is) = above_ends (take k stack) (act row ops s) vs after e in
-      let (rs, typed, does) = only_ends (row_types (context_of s) row (types ops)) (effect row ops s) us after is in
+      let (rs, typed, does) = only_ends (row_types (state_context s) row (types ops)) (effect row ops s) us after is in
       (ops, us, rs, All-drop IsValue k stack a, ap (λ c. row_types c row (types ops)) (sym (context_is h)) ∙ typed, does)
 
   step_same : (row : IntegerRow) (stack vs : List Value) (s after : State) → HasTypes context s → All IsValue stack → row_changes row ≡ false →
@@ -160,7 +163,7 @@ module _ (context : Context) where
   run_reads x [] stack vs s after h a free e = ap (read x) (sym (ends_state stack vs s after e))
   run_reads x (i ∷ code) stack vs s after h a free e =
       let row = integer_row i in
-      let p = or_parts (row_writes x row) (code_writes x code) free in
+      let p = or_parts (row_writes_variable x row) (code_writes x code) free in
       let (us, m, is, next) = then_ends (step row stack s) (run code) vs after e in
       let k = subst (Keeps context) is (step_keeps h row stack a) in
       let (ops, ws, rs, values, typed, does) = step_parts row stack us s m h a is in
@@ -183,8 +186,8 @@ module _ (context : Context) where
       (sym (ends_state _ us s m e), ap (λ (x : List Value). Ends x after) (ends_values _ us s m e))
   row_left code (operation f) ops us s after m l free e = go (f.value (map (λ v. v.number) ops)) e
     where
-      go : (o : Option ℕ) → given f.result o (cause_of (map (λ v. v.number) ops)) s ≡ Ends us m →
-          (m ≡ s) × (given f.result o (cause_of (map (λ v. v.number) ops)) after ≡ Ends us after)
+      go : (o : Option ℕ) → number_or_trap f.result o (division_trap_cause (map (λ v. v.number) ops)) s ≡ Ends us m →
+          (m ≡ s) × (number_or_trap f.result o (division_trap_cause (map (λ v. v.number) ops)) after ≡ Ends us after)
       go (Some n) e = (sym (ends_state _ us s m e), ap (λ (x : List Value). Ends x after) (ends_values _ us s m e))
       go None e = absurd cc
   row_left code (get x) ops us s after m l free e =
@@ -215,7 +218,7 @@ module _ (context : Context) where
       let k = length stack - operand_count s.world.info row in
       let ops = drop k stack in
       let (us, is) = above_ends (take k stack) (act row ops s) vs m e in
-      let (rs, typed, does) = only_ends (row_types (context_of s) row (types ops)) (effect row ops s) us m is in
+      let (rs, typed, does) = only_ends (row_types (state_context s) row (types ops)) (effect row ops s) us m is in
       let (same, there) = row_left code row ops us s after m l free does in
       let values : take k stack ++ us ≡ vs =
       ends_values (take k stack ++ us) vs m m (ap (above (take k stack)) (sym is) ∙ e) in

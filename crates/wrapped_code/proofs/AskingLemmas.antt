@@ -11,21 +11,21 @@ use Rattle.wasm_code.specs.declared.operator.Operator.TheVariants as op
 use Rattle.wasm_types.specs.Module.{Module}
 use Rattle.wasm_types.specs.declared.types.PrimitiveTypeInfo.{PrimitiveTypeInfo}
 use Rattle.wasm_types.specs.declared.types.PrimitiveTypeInfo.TheVariants as primitive
-use Rattle.peephole_machine.specs.Values.{Value, IsValue, Cause, Context, State, HasTypes, Outcome, Ends, Traps, Stuck, then_run}
-use Rattle.peephole_machine.specs.Machine.{run}
-use Rattle.peephole_machine.specs.Laws.{Keeps}
-use Rattle.peephole_machine.specs.OutcomeLemmas.{run_append}
-use Rattle.peephole_machine.specs.TypeLemmas.{run_keeps}
-use Rattle.peephole_programs.specs.control.Function.{structural, piece, Label, Reached, At, Done, Control, go_on, pass, runs, IsTyped}
-use Rattle.peephole_programs.specs.control.Standard.{Beyond, by_asked, standard}
-use Rattle.peephole_programs.specs.control.Standard as std
-use Rattle.peephole_programs.specs.control.Laws.{StandardControlIsSound}
-use Rattle.peephole_programs.specs.control.Wider.{wider}
-use Rattle.peephole_programs.specs.hosts.Embedder.{DoesAs}
-use Rattle.peephole_programs.specs.modules.Program.{Body, context_for}
-use Rattle.peephole_programs.specs.validation.Algorithm.{Entry, Frame, check_code}
-use Rattle.peephole_programs.specs.validation.Sound.{ValidCodeRuns, ValidBodiesStayValid, TargetsStay, DeedsStay, IsValid}
-use Rattle.peephole_programs.specs.validation.StaysValid.{Pushes, ChecksAs, StaysValid, MoreGlobalsCheckAlike, ReplacedCodeStaysValid}
+use Rattle.wasm_execution.specs.Values.{Value, IsValue, Cause, Context, State, HasTypes, Outcome, Ends, Traps, Stuck, then_run}
+use Rattle.wasm_execution.specs.Machine.{run}
+use Rattle.wasm_execution.specs.Laws.{Keeps}
+use Rattle.wasm_execution.specs.OutcomeLemmas.{run_append}
+use Rattle.wasm_execution.specs.TypeLemmas.{run_keeps}
+use Rattle.wasm_equivalence.specs.control.Function.{structural, piece, Label, Reached, At, Done, Control, go_on, pass, runs, IsTyped}
+use Rattle.wasm_equivalence.specs.control.Standard.{Beyond, by_asked, standard}
+use Rattle.wasm_equivalence.specs.control.Standard as std
+use Rattle.wasm_equivalence.specs.control.Laws.{StandardControlIsSound}
+use Rattle.wasm_equivalence.specs.control.Wider.{wider}
+use Rattle.wasm_equivalence.specs.hosts.Embedder.{DoesAs}
+use Rattle.wasm_equivalence.specs.modules.Program.{Body, function_context}
+use Rattle.wasm_equivalence.specs.validation.Algorithm.{OperandEntry, Frame, check_code}
+use Rattle.wasm_equivalence.specs.validation.Sound.{ValidCodeRuns, ValidBodiesStayValid, TargetsStay, DeedsStay, IsValid}
+use Rattle.wasm_equivalence.specs.validation.StaysValid.{Pushes, ChecksAs, StaysValid, MoreGlobalsCheckAlike, ReplacedCodeStaysValid}
 use Rattle.wrapped_code.specs.Alike.{AreAs, SameAs}
 use Rattle.wrapped_code.proofs.PlaceLemmas.{coded_structure, count, front_behind, front_structure, front_piece, last_piece}
 use Rattle.wrapped_code.proofs.MovedLemmas.{get_behind}
@@ -35,7 +35,7 @@ use Rattle.wrapped_code.proofs.UncheckLemmas.{wider_code}
 use Rattle.wrapped_code.proofs.AlikeLemmas.{coded_first, coded_later, runs_same, same_does}
 
 -- the operands of a frame that is there
-abbrev operands_of : Option Frame → List Entry
+abbrev operands_of : Option Frame → List OperandEntry
 operands_of (Some f) = f.operands
 operands_of None = []
 
@@ -181,7 +181,7 @@ module _ (Alike : ℕ → ℕ → Type 0) (context : Context) (front back : List
 
     stays : (is : List Instruction) → Pushes context is [] (primitive.I32 ∷ []) → ChecksAs context after is code →
         StaysValid context after (front ++ (map (λ (i : Instruction). op.Instr i) is ++ branch ∷ back)) new_body
-    stays [] p h = let z : ◌≡◌ {A = List Entry} [] (Some primitive.I32 ∷ []) = ap operands_of (p empty_frame) in absurd cc
+    stays [] p h = let z : ◌≡◌ {A = List OperandEntry} [] (Some primitive.I32 ∷ []) = ap operands_of (p empty_frame) in absurd cc
     stays (i ∷ is) p h = replaced context input [] front (branch ∷ back) i is code h
 
     turned_valid : (results : List PrimitiveTypeInfo) (beyond : Beyond) → IsValid context results (by_asked (structural old_body) beyond) old_body →
@@ -205,14 +205,14 @@ pub record Replaces (Alike : ℕ → ℕ → Type 0) (m : Module) (old new : Bod
   pub asks : Asks Alike branch
   pub old_is : old.operators ≡ front ++ (map (λ (i : Instruction). op.Instr i) own ++ branch ∷ back)
   pub new_is : new.operators ≡ front ++ (map (λ (i : Instruction). op.Instr i) code ++ branch ∷ back)
-  pub pushes : Pushes (context_for m old) own [] (primitive.I32 ∷ [])
-  pub pushes_so : Pushes (context_for m old) code [] (primitive.I32 ∷ [])
-  pub same : SameAs Alike (context_for m old) own code
+  pub pushes : Pushes (function_context m old) own [] (primitive.I32 ∷ [])
+  pub pushes_so : Pushes (function_context m old) code [] (primitive.I32 ∷ [])
+  pub same : SameAs Alike (function_context m old) own code
 
 pub numbers_change : StandardControlIsSound → ValidCodeRuns → MoreGlobalsCheckAlike → ReplacedCodeStaysValid → ValidBodiesStayValid → TargetsStay →
     DeedsStay → (Alike : ℕ → ℕ → Type 0) (m : Module) (input : List ℕ) (old new : Body) → Replaces Alike m old new → DoesAs m input [] old new
 numbers_change sound_law valid more_law replaced stay targets_stay deeds_stay Alike m input old new w =
-    let context = context_for m old in
+    let context = function_context m old in
     same_does targets_stay deeds_stay m input old new (old_body Alike context w.front w.back w.own w.code w.branch w.asks)
     (new_body Alike context w.front w.back w.own w.code w.branch w.asks) w.params_are w.locals_are w.old_is w.new_is (record {
       structure = same_structure Alike context w.front w.back w.own w.code w.branch w.asks;

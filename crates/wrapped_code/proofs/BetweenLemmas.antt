@@ -7,13 +7,14 @@ use Rattle.wasm_code.specs.declared.operator.Operator.{Operator}
 use Rattle.wasm_code.specs.declared.operator.Operator.TheVariants as op
 use Rattle.wasm_types.specs.Module.{Module}
 use Rattle.wasm_types.specs.declared.types.PrimitiveTypeInfo.{PrimitiveTypeInfo}
-use Rattle.peephole_machine.specs.Values.{Value, types, State}
-use Rattle.peephole_programs.specs.control.Function.{Label}
-use Rattle.peephole_programs.specs.control.Blocks.{Role, handles, tries, catches, delegates, does, role_of, closing, other_part}
-use Rattle.peephole_programs.specs.control.Standard.{Caught, Deed, gives, jumps, breaks, enters, returns, Beyond, asks_beyond, counted, asked_before, by_asked, branch, standard}
-use Rattle.peephole_programs.specs.validation.Algorithm.{Frame}
-use Rattle.peephole_programs.specs.validation.StandardSteps.{by_step, standard_steps}
-use Rattle.peephole_programs.specs.validation.Sound.{IsDeed, IsCaught, HasTargets, HasDeeds}
+use Rattle.wasm_execution.specs.Values.{Value, types, State}
+use Rattle.wasm_equivalence.specs.control.Function.{Label}
+use Rattle.wasm_equivalence.specs.control.Blocks.{Role, handles, tries, catches, delegates, does, role_of, closing, other_part}
+use Rattle.wasm_equivalence.specs.control.Standard.{Caught, Deed, gives, jumps, breaks, enters, returns, Beyond, asks_beyond, counted_where}
+use Rattle.wasm_equivalence.specs.control.Standard.{asked_before, by_asked, branch, standard}
+use Rattle.wasm_equivalence.specs.validation.Algorithm.{Frame}
+use Rattle.wasm_equivalence.specs.validation.StandardSteps.{by_step, standard_steps}
+use Rattle.wasm_equivalence.specs.validation.Sound.{IsDeed, IsCaught, HasTargets, HasDeeds}
 use Rattle.wrapped_code.specs.Handlers.{handles_by}
 use Rattle.wrapped_code.proofs.MovedLemmas.{moved, moved_labels, moved_reached, moved_before, moved_behind, get_moved, get_before, get_behind}
 use Rattle.wrapped_code.proofs.ControlLemmas.{TellsAlike, branch_moved, control_moved}
@@ -35,7 +36,8 @@ no_asking : (os : List Operator) → asked_before os (length os) ≡ 0 → NoAsk
 no_asking [] e = λ k o at t. absurd cc
 no_asking (x ∷ os) e = go (asks_beyond x) refl e (no_asking os)
   where
-    go : (b : Bool) → asks_beyond x ≡ b → counted b (asked_before os (length os)) ≡ 0 → (asked_before os (length os) ≡ 0 → NoAsking os) → NoAsking (x ∷ os)
+    go : (b : Bool) → asks_beyond x ≡ b → counted_where b (asked_before os (length os)) ≡ 0 → (asked_before os (length os) ≡ 0 → NoAsking os) →
+        NoAsking (x ∷ os)
     go true is e later = absurd (omega arith)
     go false is e later = no_first x os is (later e)
 

@@ -2,17 +2,17 @@
 use Rattle.std.proofs.Common.{[], ◌∷◌, ◌++◌, refl}
 use Rattle.wasm_code.specs.declared.immediate.BlockType.TheVariants as type
 use Rattle.wasm_types.specs.Module.{merged}
-use Rattle.peephole_machine.specs.OtherRow.{value_type}
-use Rattle.peephole_programs.specs.modules.Program.{context_for}
-use Rattle.peephole_programs.specs.control.Wider.{wider}
-use Rattle.peephole_programs.specs.hosts.Embedder.{with_operators}
+use Rattle.wasm_execution.specs.OtherRow.{value_type}
+use Rattle.wasm_equivalence.specs.modules.Program.{function_context}
+use Rattle.wasm_equivalence.specs.control.Wider.{wider}
+use Rattle.wasm_equivalence.specs.hosts.Embedder.{with_operators}
 use Rattle.wrapped_code.specs.Wrapped.{Wrapped, plain, block, loop, written, WrappedRunsAs, WrappedChecksAs}
 use Rattle.wrapped_code.specs.Laws.{WrappedCodeDoes, ValuesInBlocks}
 use Rattle.wrapped_code.proofs.PushLemmas.{wrapped_pushes, pushed_checks}
 
 pub values_in_blocks : WrappedCodeDoes → ValuesInBlocks
 values_in_blocks does m input more old front back head own code t unhandled is pushes also runs =
-    let context = context_for m old in
+    let context = function_context m old in
     let one = merged m.one_reference (value_type t) in
     let after = wider input more context in
     let inside = wrapped_pushes.plain_code after code [] (one ∷ []) also in

@@ -8,16 +8,16 @@ use Rattle.std.proofs.lemmas.List.Elements.{All-nil, All-cons, All-append}
 use Rattle.wasm_code.specs.Instruction.{Instruction}
 use Rattle.wasm_types.specs.declared.types.PrimitiveTypeInfo.{PrimitiveTypeInfo}
 use Rattle.wasm_types.specs.declared.types.PrimitiveTypeInfo.TheVariants as primitive
-use Rattle.peephole_machine.specs.declared.integer.IntegerType.TheVariants as integer
-use Rattle.peephole_machine.specs.Integer.{compare, lt_u}
-use Rattle.peephole_machine.specs.IntegerRow.{constant, operation, select, row_types, integer_row}
-use Rattle.peephole_machine.specs.Machine.{run}
-use Rattle.peephole_machine.specs.OutcomeLemmas.{run_append}
-use Rattle.peephole_machine.specs.TypeLemmas.{whole_is}
-use Rattle.peephole_machine.specs.Values.{Value, IsValue, whole, Context, State, HasTypes, Outcome, Ends, then_run, above}
-use Rattle.peephole_programs.specs.control.Standard.{label_at}
-use Rattle.peephole_programs.specs.validation.Sound.{ValidCodeRuns}
-use Rattle.peephole_programs.specs.validation.StaysValid.{Pushes, TypedCodePushes}
+use Rattle.wasm_execution.specs.declared.integer.IntegerType.TheVariants as integer
+use Rattle.wasm_execution.specs.Integer.{compare, lt_u}
+use Rattle.wasm_execution.specs.IntegerRow.{constant, operation, select, row_types, integer_row}
+use Rattle.wasm_execution.specs.Machine.{run}
+use Rattle.wasm_execution.specs.OutcomeLemmas.{run_append}
+use Rattle.wasm_execution.specs.TypeLemmas.{whole_is}
+use Rattle.wasm_execution.specs.Values.{Value, IsValue, whole, Context, State, HasTypes, Outcome, Ends, then_run, above}
+use Rattle.wasm_equivalence.specs.control.Standard.{label_at}
+use Rattle.wasm_equivalence.specs.validation.Sound.{ValidCodeRuns}
+use Rattle.wasm_equivalence.specs.validation.StaysValid.{Pushes, TypedCodePushes}
 use Rattle.wrapped_code.specs.Alike.{SameAs}
 use Rattle.wrapped_code.specs.Indices.{LabelAlike, IndicesAreBounded}
 use Rattle.wrapped_code.specs.Ways.{IsAlone, code_changes}

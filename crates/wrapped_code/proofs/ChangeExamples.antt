@@ -10,14 +10,14 @@ use Rattle.wasm_code.specs.declared.other.Other.TheVariants as others
 use Rattle.wasm_code.specs.Table.{row_at, table}
 use Rattle.wasm_types.specs.Module.{Module}
 use Rattle.wasm_types.specs.declared.types.PrimitiveTypeInfo.TheVariants as primitive
-use Rattle.peephole_machine.specs.Values.{Context, context_in, divide_by_zero, State, own_globals, HasTypes, Ends, Traps, Stuck}
-use Rattle.peephole_machine.specs.Agreement.{with_globals}
-use Rattle.peephole_machine.specs.IntegerRow.{integer_row}
-use Rattle.peephole_programs.specs.control.Function.{structural, Reached, At, Done, runs, FollowsEnd}
-use Rattle.peephole_programs.specs.control.Standard.{begins, breaks, fails, Beyond, by_asked, standard}
-use Rattle.peephole_programs.specs.modules.Program.{Body, context_for}
-use Rattle.peephole_programs.specs.hosts.Embedder.{DoesAs}
-use Rattle.peephole_programs.specs.validation.StaysValid.{Pushes, TypedCodePushes}
+use Rattle.wasm_execution.specs.Values.{Context, context_in, divide_by_zero, State, own_globals, HasTypes, Ends, Traps, Stuck}
+use Rattle.wasm_execution.specs.Agreement.{with_globals}
+use Rattle.wasm_execution.specs.IntegerRow.{integer_row}
+use Rattle.wasm_equivalence.specs.control.Function.{structural, Reached, At, Done, runs, FollowsEnd}
+use Rattle.wasm_equivalence.specs.control.Standard.{begins, breaks, fails, Beyond, by_asked, standard}
+use Rattle.wasm_equivalence.specs.modules.Program.{Body, function_context}
+use Rattle.wasm_equivalence.specs.hosts.Embedder.{DoesAs}
+use Rattle.wasm_equivalence.specs.validation.StaysValid.{Pushes, TypedCodePushes}
 use Rattle.wrapped_code.specs.Conditions.{ConditionsAsTrue, Reconditions}
 use Rattle.wrapped_code.specs.Dead.{ChangesDead}
 use Rattle.wrapped_code.specs.Handlers.{none_handle}
@@ -146,7 +146,7 @@ new_ends : (m : Module) (s : State) → RunOf m (tried []) s ≡ Done (Ends [] s
 unfolding RunOf
 new_ends m s = refl
 
-differ : (m : Module) (s : State) → HasTypes (context_for m (tried divides)) s → DoesAs m [] [] (tried divides) (tried []) → ⊥
+differ : (m : Module) (s : State) → HasTypes (function_context m (tried divides)) s → DoesAs m [] [] (tried divides) (tried []) → ⊥
 unfolding RunOf
 differ m s h d =
     let t = with_globals [] s in

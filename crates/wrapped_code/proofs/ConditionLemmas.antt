@@ -6,14 +6,14 @@ use Rattle.wasm_code.specs.declared.operator.Operator.TheVariants as op
 use Rattle.wasm_types.specs.Module.{Module}
 use Rattle.wasm_types.specs.declared.types.PrimitiveTypeInfo.{PrimitiveTypeInfo}
 use Rattle.wasm_types.specs.declared.types.PrimitiveTypeInfo.TheVariants as primitive
-use Rattle.peephole_machine.specs.Values.{Value, State}
-use Rattle.peephole_programs.specs.control.Function.{structural, piece, Label, Reached, At}
-use Rattle.peephole_programs.specs.control.Blocks.{other_part}
-use Rattle.peephole_programs.specs.control.Standard.{Beyond}
-use Rattle.peephole_programs.specs.control.Standard as std
-use Rattle.peephole_programs.specs.control.Laws.{StandardControlIsSound}
-use Rattle.peephole_programs.specs.validation.Sound.{ValidCodeRuns, ValidBodiesStayValid, TargetsStay, DeedsStay}
-use Rattle.peephole_programs.specs.validation.StaysValid.{MoreGlobalsCheckAlike, ReplacedCodeStaysValid}
+use Rattle.wasm_execution.specs.Values.{Value, State}
+use Rattle.wasm_equivalence.specs.control.Function.{structural, piece, Label, Reached, At}
+use Rattle.wasm_equivalence.specs.control.Blocks.{other_part}
+use Rattle.wasm_equivalence.specs.control.Standard.{Beyond}
+use Rattle.wasm_equivalence.specs.control.Standard as std
+use Rattle.wasm_equivalence.specs.control.Laws.{StandardControlIsSound}
+use Rattle.wasm_equivalence.specs.validation.Sound.{ValidCodeRuns, ValidBodiesStayValid, TargetsStay, DeedsStay}
+use Rattle.wasm_equivalence.specs.validation.StaysValid.{MoreGlobalsCheckAlike, ReplacedCodeStaysValid}
 use Rattle.wrapped_code.specs.Conditions.{ZeroAlike, is_condition, ConditionsMayChange}
 use Rattle.wrapped_code.proofs.ValueLemmas.{last_is, front_is}
 use Rattle.wrapped_code.proofs.AskingLemmas.{by, Asks, numbers_change}
@@ -32,7 +32,7 @@ piece_ends o e os = absurd cc
 
 -- numbers of 32 bits choose alike where each is zero where the other is
 choose_alike : (c d : Value) (x y : Reached) → c.type ≡ primitive.I32 → d.type ≡ primitive.I32 → ZeroAlike c.number d.number →
-    std.choose (c ∷ []) x y ≡ std.choose (d ∷ []) x y
+    std.choose_by_value (c ∷ []) x y ≡ std.choose_by_value (d ∷ []) x y
 choose_alike c d x y ct dt e =
     ap (λ (t : PrimitiveTypeInfo). std.chosen t c.number x y) ct ∙
     (go c.number d.number e ∙ ap (λ (t : PrimitiveTypeInfo). std.chosen t d.number x y) (sym dt))
@@ -47,12 +47,12 @@ choose_alike c d x y ct dt e =
 module _ (m : Module) (results : List PrimitiveTypeInfo) (structure : List Operator) (beyond : Beyond) where
   turned_by : (taken other : List Value → Reached) (below : List Value) (c d : Value) → c.type ≡ primitive.I32 → d.type ≡ primitive.I32 →
       ZeroAlike c.number d.number →
-      std.choose (std.last_of 1 (below ++ c ∷ [])) (taken (take (length (below ++ c ∷ []) - 1) (below ++ c ∷ [])))
+      std.choose_by_value (std.last_of 1 (below ++ c ∷ [])) (taken (take (length (below ++ c ∷ []) - 1) (below ++ c ∷ [])))
       (other (take (length (below ++ c ∷ []) - 1) (below ++ c ∷ []))) ≡
-      std.choose (std.last_of 1 (below ++ d ∷ [])) (taken (take (length (below ++ d ∷ []) - 1) (below ++ d ∷ [])))
+      std.choose_by_value (std.last_of 1 (below ++ d ∷ [])) (taken (take (length (below ++ d ∷ []) - 1) (below ++ d ∷ [])))
       (other (take (length (below ++ d ∷ []) - 1) (below ++ d ∷ [])))
   turned_by taken other below c d ct dt e =
-      let on : List Value → List Value → Reached = λ vs xs. std.choose vs (taken xs) (other xs) in
+      let on : List Value → List Value → Reached = λ vs xs. std.choose_by_value vs (taken xs) (other xs) in
       ap₂ on (last_is below c) (front_is below c) ∙
       (choose_alike c d (taken below) (other below) ct dt e ∙ sym (ap₂ on (last_is below d) (front_is below d)))
 

@@ -9,12 +9,13 @@ use Rattle.wasm_code.specs.declared.other.Other.{Other}
 use Rattle.wasm_types.specs.Module.{Module}
 use Rattle.wasm_types.specs.declared.types.PrimitiveTypeInfo.{PrimitiveTypeInfo}
 use Rattle.wasm_types.specs.declared.types.PrimitiveTypeInfo.TheVariants as primitive
-use Rattle.peephole_machine.specs.Values.{asked_types, Value, types, Answer, Gives, Fails, met, State, own_globals, further_globals, Stuck}
-use Rattle.peephole_programs.specs.control.Function.{Label, Reached, Done, At}
-use Rattle.peephole_programs.specs.control.Numbers.{are_values}
-use Rattle.peephole_programs.specs.control.Blocks.{Arity, function_arity, arity_of, Role, handles, tries, catches, delegates, does, role_of, closing, other_part}
-use Rattle.peephole_programs.specs.control.Standard.{Target, calls, fails, Caught, branches, begins, delegated, Deed, gives, jumps, breaks, enters, returns, Beyond}
-use Rattle.peephole_programs.specs.control.Standard as std
+use Rattle.wasm_execution.specs.Values.{asked_types, Value, types, Answer, Gives, Fails, met, State, own_globals, further_globals, Stuck}
+use Rattle.wasm_equivalence.specs.control.Function.{Label, Reached, Done, At}
+use Rattle.wasm_equivalence.specs.control.Numbers.{are_values}
+use Rattle.wasm_equivalence.specs.control.Blocks.{Arity, function_arity, arity_of, Role, handles, tries, catches, delegates, does, role_of, closing, other_part}
+use Rattle.wasm_equivalence.specs.control.Standard.{Target, calls, fails, Caught, branches, begins, delegated, Deed, gives, jumps, breaks}
+use Rattle.wasm_equivalence.specs.control.Standard.{enters, returns, Beyond}
+use Rattle.wasm_equivalence.specs.control.Standard as std
 use Rattle.wrapped_code.specs.Handlers.{handles_by}
 use Rattle.wrapped_code.proofs.MovedLemmas.{moved, moved_label, moved_labels, moved_reached, next_piece, get_moved, end_moved, part_moved}
 
@@ -138,7 +139,7 @@ module _ (xs middle ys : List Operator) (n m : ℕ) (n_is : length xs ≡ n) (m_
     chosen_moved primitive.I32 (suc i) a b x y h k = h
     chosen_moved t i a b x y h k = refl
 
-    choose_moved : (vs : List Value) (a b x y : Reached) → a ≡ re x → b ≡ re y → std.choose vs a b ≡ re (std.choose vs x y)
+    choose_moved : (vs : List Value) (a b x y : Reached) → a ≡ re x → b ≡ re y → std.choose_by_value vs a b ≡ re (std.choose_by_value vs x y)
     choose_moved [] a b x y h k = refl
     choose_moved (c ∷ []) a b x y h k = chosen_moved c.type c.number a b x y h k
     choose_moved (c ∷ d ∷ vs) a b x y h k = refl

@@ -8,17 +8,17 @@ use Rattle.wasm_code.specs.declared.operator.Operator.TheVariants as op
 use Rattle.wasm_types.specs.Module.{Module}
 use Rattle.wasm_types.specs.declared.types.PrimitiveTypeInfo.{PrimitiveTypeInfo}
 use Rattle.wasm_types.specs.declared.types.PrimitiveTypeInfo.TheVariants as primitive
-use Rattle.peephole_machine.specs.Values.{Context, State, Outcome, Ends, Traps, Stuck}
-use Rattle.peephole_machine.specs.Machine.{run}
-use Rattle.peephole_machine.specs.RowLemmas.{and_then_some, map_some}
-use Rattle.peephole_programs.specs.control.Function.{structural, piece, Reached, At, Done, Control, go_on, pass, runs}
-use Rattle.peephole_programs.specs.control.Standard.{Beyond, by_asked, standard}
-use Rattle.peephole_programs.specs.control.Wider.{wider}
-use Rattle.peephole_programs.specs.modules.Program.{context_for}
-use Rattle.peephole_programs.specs.validation.Algorithm.{Frame, check_code, Structural, on_innermost, check}
-use Rattle.peephole_programs.specs.validation.StandardSteps.{pop, cut_off, label_types, can_jump_all, body_frame, by_step, standard_steps}
-use Rattle.peephole_programs.specs.validation.Sound.{IsValid, TargetsStay, DeedsStay}
-use Rattle.peephole_programs.specs.validation.StaysValid.{Pushes, MoreGlobalsCheckAlike}
+use Rattle.wasm_execution.specs.Values.{Context, State, Outcome, Ends, Traps, Stuck}
+use Rattle.wasm_execution.specs.Machine.{run}
+use Rattle.wasm_execution.specs.RowLemmas.{and_then_some, map_some}
+use Rattle.wasm_equivalence.specs.control.Function.{structural, piece, Reached, At, Done, Control, go_on, pass, runs}
+use Rattle.wasm_equivalence.specs.control.Standard.{Beyond, by_asked, standard}
+use Rattle.wasm_equivalence.specs.control.Wider.{wider}
+use Rattle.wasm_equivalence.specs.modules.Program.{function_context}
+use Rattle.wasm_equivalence.specs.validation.Algorithm.{Frame, check_code, Structural, on_innermost, check}
+use Rattle.wasm_equivalence.specs.validation.StandardSteps.{pop, cut_off, label_types, can_jump_all, body_frame, by_step, standard_steps}
+use Rattle.wasm_equivalence.specs.validation.Sound.{IsValid, TargetsStay, DeedsStay}
+use Rattle.wasm_equivalence.specs.validation.StaysValid.{Pushes, MoreGlobalsCheckAlike}
 use Rattle.wrapped_code.specs.Dead.{never_goes_on, DeadCodeMayChange}
 use Rattle.wrapped_code.specs.Handlers.{none_handle}
 use Rattle.wrapped_code.proofs.PlaceLemmas.{coded_structure, count, front_behind, front_structure, front_piece, last_piece}
@@ -225,7 +225,7 @@ module _ (context : Context) (front back : List Operator) (own code : List Instr
 
 pub dead_changes : MoreGlobalsCheckAlike → TargetsStay → DeedsStay → DeadCodeMayChange
 dead_changes more_law targets_stay deeds_stay m input old new w =
-    let context = context_for m old in
+    let context = function_context m old in
     let before = old_body context w.front w.back w.own w.code w.leave w.leaves in
     same_does targets_stay deeds_stay m input old new before (new_body context w.front w.back w.own w.code w.leave w.leaves)
     w.params_are w.locals_are w.old_is w.new_is (record {

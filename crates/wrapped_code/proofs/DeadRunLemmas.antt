@@ -1,5 +1,6 @@
 -- Behind a branch, a return or a trap no run goes on: under the standard's control no run stands before the piece there.
-use Rattle.std.proofs.Common.{◌≡◌, ℕ, zero, suc, ◌-◌, ◌+◌, ◌≤◌, Bool, true, false, List, [], ◌∷◌, ◌++◌, length, take, drop, Option, Some, None, refl, sym, ap, ◌∙◌, subst, arith}
+use Rattle.std.proofs.Common.{◌≡◌, ℕ, zero, suc, ◌-◌, ◌+◌, ◌≤◌, Bool, true, false, List, [], ◌∷◌, ◌++◌, length, take, drop, Option, Some}
+use Rattle.std.proofs.Common.{None, refl, sym, ap, ◌∙◌, subst, arith}
 use Rattle.std.specs.Prelude.{is_some, slice_get, if◌then◌else◌, ⊤}
 use Rattle.std.proofs.lemmas.Option.{same_Some}
 use Rattle.wasm_code.specs.Instruction.{Instruction}
@@ -10,12 +11,13 @@ use Rattle.wasm_code.specs.declared.other.Other.{Other}
 use Rattle.wasm_types.specs.Module.{Module}
 use Rattle.wasm_types.specs.declared.types.PrimitiveTypeInfo.{PrimitiveTypeInfo}
 use Rattle.wasm_types.specs.declared.types.PrimitiveTypeInfo.TheVariants as primitive
-use Rattle.peephole_machine.specs.Values.{asked_types, types, Value, Answer, Gives, Fails, met, State, own_globals, further_globals, Stuck}
-use Rattle.peephole_programs.specs.control.Function.{Label, Reached, Done, At}
-use Rattle.peephole_programs.specs.control.Numbers.{are_values}
-use Rattle.peephole_programs.specs.control.Blocks.{function_arity, Nesting, opens, parts, closes, stays, nesting, Role, handles, tries, catches, delegates, does, role_of, closing, closing_at, other_part, other_part_at}
-use Rattle.peephole_programs.specs.control.Standard.{Target, calls, fails, Deed, gives, jumps, breaks, enters, returns, Beyond}
-use Rattle.peephole_programs.specs.control.Standard as std
+use Rattle.wasm_execution.specs.Values.{asked_types, types, Value, Answer, Gives, Fails, met, State, own_globals, further_globals, Stuck}
+use Rattle.wasm_equivalence.specs.control.Function.{Label, Reached, Done, At}
+use Rattle.wasm_equivalence.specs.control.Numbers.{are_values}
+use Rattle.wasm_equivalence.specs.control.Blocks.{function_arity, Nesting, opens, parts, closes, stays, nesting, Role, handles, tries}
+use Rattle.wasm_equivalence.specs.control.Blocks.{catches, delegates, does, role_of, closing, closing_at, other_part, other_part_at}
+use Rattle.wasm_equivalence.specs.control.Standard.{Target, calls, fails, Deed, gives, jumps, breaks, enters, returns, Beyond}
+use Rattle.wasm_equivalence.specs.control.Standard as std
 use Rattle.wrapped_code.specs.Dead.{never_goes_on}
 use Rattle.wrapped_code.specs.Handlers.{handles_by}
 use Rattle.wrapped_code.proofs.HandlerLemmas.{NoHandler}
@@ -192,7 +194,7 @@ module _ (m : Module) (results : List PrimitiveTypeInfo) (structure : List Opera
   chosen_misses primitive.I32 (suc i) x y h k = h
   chosen_misses t i x y h k = tt
 
-  choose_misses : (vs : List Value) (x y : Reached) → Misses x → Misses y → Misses (std.choose vs x y)
+  choose_misses : (vs : List Value) (x y : Reached) → Misses x → Misses y → Misses (std.choose_by_value vs x y)
   choose_misses [] x y h k = tt
   choose_misses (c ∷ []) x y h k = chosen_misses c.type c.number x y h k
   choose_misses (c ∷ d ∷ vs) x y h k = tt

@@ -11,13 +11,13 @@ use Rattle.wasm_code.specs.declared.operator.Operator.TheVariants as op
 use Rattle.wasm_code.specs.Table.{row_at, table}
 use Rattle.wasm_types.specs.Module.{Module}
 use Rattle.wasm_types.specs.declared.types.PrimitiveTypeInfo.TheVariants as primitive
-use Rattle.peephole_machine.specs.declared.integer.IntegerType.TheVariants as integer
-use Rattle.peephole_machine.specs.Values.{whole, context_in, World, State, Ends}
-use Rattle.peephole_machine.specs.IntegerRow.{constant, integer_row}
-use Rattle.peephole_programs.specs.control.Function.{structural, Done, At, runs}
-use Rattle.peephole_programs.specs.control.Standard.{Beyond, standard}
-use Rattle.peephole_programs.specs.validation.Algorithm.{check}
-use Rattle.peephole_programs.specs.validation.StandardSteps.{body_frame, standard_steps}
+use Rattle.wasm_execution.specs.declared.integer.IntegerType.TheVariants as integer
+use Rattle.wasm_execution.specs.Values.{whole, context_in, World, State, Ends}
+use Rattle.wasm_execution.specs.IntegerRow.{constant, integer_row}
+use Rattle.wasm_equivalence.specs.control.Function.{structural, Done, At, runs}
+use Rattle.wasm_equivalence.specs.control.Standard.{Beyond, standard}
+use Rattle.wasm_equivalence.specs.validation.Algorithm.{check}
+use Rattle.wasm_equivalence.specs.validation.StandardSteps.{body_frame, standard_steps}
 use Rattle.wrapped_code.specs.Wrapped.{once, Wrapped, plain, both, block, loop, choice, leaving, exits, trap, written}
 
 abbrev pub get : Instruction

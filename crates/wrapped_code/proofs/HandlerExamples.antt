@@ -8,13 +8,13 @@ use Rattle.wasm_code.specs.declared.operator.Operator.TheVariants as op
 use Rattle.wasm_code.specs.declared.other.Other.TheVariants as others
 use Rattle.wasm_code.specs.Table.{row_at, table}
 use Rattle.wasm_types.specs.Module.{Module}
-use Rattle.peephole_machine.specs.Values.{State, HasTypes, Ends, Stuck}
-use Rattle.peephole_machine.specs.Agreement.{with_globals}
-use Rattle.peephole_machine.specs.IntegerRow.{integer_row}
-use Rattle.peephole_programs.specs.control.Function.{structural, Reached, At, Done, runs, FollowsEnd}
-use Rattle.peephole_programs.specs.control.Standard.{begins, breaks, fails, Beyond, by_asked, standard}
-use Rattle.peephole_programs.specs.modules.Program.{Body, context_for}
-use Rattle.peephole_programs.specs.hosts.Embedder.{DoesAs}
+use Rattle.wasm_execution.specs.Values.{State, HasTypes, Ends, Stuck}
+use Rattle.wasm_execution.specs.Agreement.{with_globals}
+use Rattle.wasm_execution.specs.IntegerRow.{integer_row}
+use Rattle.wasm_equivalence.specs.control.Function.{structural, Reached, At, Done, runs, FollowsEnd}
+use Rattle.wasm_equivalence.specs.control.Standard.{begins, breaks, fails, Beyond, by_asked, standard}
+use Rattle.wasm_equivalence.specs.modules.Program.{Body, function_context}
+use Rattle.wasm_equivalence.specs.hosts.Embedder.{DoesAs}
 use Rattle.wrapped_code.specs.Wrapped.{Wrapped, plain, block, written}
 use Rattle.wrapped_code.specs.Handlers.{none_handle}
 
@@ -64,7 +64,7 @@ new_throws : (m : Module) (s : State) → RunOf m new s ≡ At 3 (record { opene
 unfolding RunOf integer_row row_at table
 new_throws m s = refl
 
-differ : (m : Module) (s : State) → HasTypes (context_for m old) s → DoesAs m [] [] old new → ⊥
+differ : (m : Module) (s : State) → HasTypes (function_context m old) s → DoesAs m [] [] old new → ⊥
 unfolding RunOf
 differ m s h d =
     let t = with_globals [] s in

@@ -6,8 +6,8 @@ use Rattle.std.proofs.lemmas.Option.{same_Some}
 use Rattle.wasm_code.specs.declared.operator.Operator.{Operator}
 use Rattle.wasm_code.specs.declared.operator.Operator.TheVariants as op
 use Rattle.wasm_code.specs.declared.other.Other.{Other}
-use Rattle.peephole_programs.specs.control.Blocks.{role_of}
-use Rattle.peephole_programs.specs.control.Function.{structural}
+use Rattle.wasm_equivalence.specs.control.Blocks.{role_of}
+use Rattle.wasm_equivalence.specs.control.Function.{structural}
 use Rattle.wrapped_code.specs.Handlers.{handles_by, is_handler, none_handle}
 
 -- none stands at any place

@@ -8,10 +8,10 @@ use Rattle.wasm_code.specs.declared.operator.Operator.TheVariants as op
 use Rattle.wasm_code.specs.Table.{row_at, table}
 use Rattle.wasm_types.specs.Module.{Module}
 use Rattle.wasm_types.specs.declared.types.PrimitiveTypeInfo.TheVariants as primitive
-use Rattle.peephole_machine.specs.Values.{context_in}
-use Rattle.peephole_machine.specs.IntegerRow.{integer_row}
-use Rattle.peephole_programs.specs.modules.Program.{Body}
-use Rattle.peephole_programs.specs.validation.StaysValid.{Pushes, TypedCodePushes}
+use Rattle.wasm_execution.specs.Values.{context_in}
+use Rattle.wasm_execution.specs.IntegerRow.{integer_row}
+use Rattle.wasm_equivalence.specs.modules.Program.{Body}
+use Rattle.wasm_equivalence.specs.validation.StaysValid.{Pushes, TypedCodePushes}
 use Rattle.wrapped_code.specs.Indices.{LabelAlike, Reindexes, IndicesAreBounded}
 use Rattle.wrapped_code.proofs.Examples.{get, number}
 

@@ -5,13 +5,13 @@ use Rattle.wasm_code.specs.declared.operator.Operator.TheVariants as op
 use Rattle.wasm_types.specs.Module.{Module}
 use Rattle.wasm_types.specs.declared.types.PrimitiveTypeInfo.{PrimitiveTypeInfo}
 use Rattle.wasm_types.specs.declared.types.PrimitiveTypeInfo.TheVariants as primitive
-use Rattle.peephole_machine.specs.Values.{Value, State}
-use Rattle.peephole_programs.specs.control.Function.{Label, Reached}
-use Rattle.peephole_programs.specs.control.Standard.{Beyond}
-use Rattle.peephole_programs.specs.control.Standard as std
-use Rattle.peephole_programs.specs.control.Laws.{StandardControlIsSound}
-use Rattle.peephole_programs.specs.validation.Sound.{ValidCodeRuns, ValidBodiesStayValid, TargetsStay, DeedsStay}
-use Rattle.peephole_programs.specs.validation.StaysValid.{MoreGlobalsCheckAlike, ReplacedCodeStaysValid}
+use Rattle.wasm_execution.specs.Values.{Value, State}
+use Rattle.wasm_equivalence.specs.control.Function.{Label, Reached}
+use Rattle.wasm_equivalence.specs.control.Standard.{Beyond}
+use Rattle.wasm_equivalence.specs.control.Standard as std
+use Rattle.wasm_equivalence.specs.control.Laws.{StandardControlIsSound}
+use Rattle.wasm_equivalence.specs.validation.Sound.{ValidCodeRuns, ValidBodiesStayValid, TargetsStay, DeedsStay}
+use Rattle.wasm_equivalence.specs.validation.StaysValid.{MoreGlobalsCheckAlike, ReplacedCodeStaysValid}
 use Rattle.wrapped_code.specs.Indices.{LabelAlike, IndicesMayChange}
 use Rattle.wrapped_code.proofs.ValueLemmas.{last_is, front_is}
 use Rattle.wrapped_code.proofs.AskingLemmas.{by, Asks, numbers_change}

@@ -1,11 +1,12 @@
 -- Numbers where structural operators were put in between, and where blocks part and end there.
-use Rattle.std.proofs.Common.{◌≡◌, ℕ, zero, suc, ◌-◌, ◌+◌, ◌<◌, ◌≤◌, Bool, List, [], ◌∷◌, ◌++◌, length, drop, Option, Some, None, refl, sym, ap, ◌∙◌, arith, inl, inr}
+use Rattle.std.proofs.Common.{◌≡◌, ℕ, zero, suc, ◌-◌, ◌+◌, ◌<◌, ◌≤◌, Bool, List, [], ◌∷◌, ◌++◌, length, drop, Option, Some, None, refl, sym}
+use Rattle.std.proofs.Common.{ap, ◌∙◌, arith, inl, inr}
 use Rattle.std.specs.Prelude.{nat_lt, slice_get, option_map, if◌then◌else◌}
 use Rattle.std.proofs.lemmas.Bool.{lt-ltb, le-ltb, cases_lt}
 use Rattle.std.proofs.lemmas.List.{drop-append-le, length-drop}
 use Rattle.wasm_code.specs.declared.operator.Operator.{Operator}
-use Rattle.peephole_programs.specs.control.Function.{Label, Reached, Done, At}
-use Rattle.peephole_programs.specs.control.Blocks.{Nesting, opens, closes, stays, parts, nesting, closing_at, closing, other_part_at, other_part}
+use Rattle.wasm_equivalence.specs.control.Function.{Label, Reached, Done, At}
+use Rattle.wasm_equivalence.specs.control.Blocks.{Nesting, opens, closes, stays, parts, nesting, closing_at, closing, other_part_at, other_part}
 
 -- ---- numbers
 

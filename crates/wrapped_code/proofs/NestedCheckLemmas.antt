@@ -6,16 +6,16 @@ use Rattle.wasm_code.specs.declared.immediate.BlockType.TheVariants.{Empty}
 use Rattle.wasm_code.specs.declared.operator.Operator.{Operator}
 use Rattle.wasm_code.specs.declared.operator.Operator.TheVariants as op
 use Rattle.wasm_types.specs.declared.types.PrimitiveTypeInfo.{PrimitiveTypeInfo}
-use Rattle.peephole_machine.specs.Values.{Context}
-use Rattle.peephole_machine.specs.IntegerRow.{integer_row}
-use Rattle.peephole_machine.specs.RowLemmas.{and_then_some}
-use Rattle.peephole_programs.specs.control.Function.{structural}
-use Rattle.peephole_programs.specs.control.Standard.{Beyond, by_asked}
-use Rattle.peephole_programs.specs.control.Wider.{wider}
-use Rattle.peephole_programs.specs.validation.Algorithm.{Frame, check_row, Structural, on_innermost, check}
-use Rattle.peephole_programs.specs.validation.StandardSteps.{body_frame, by_step, standard_steps}
-use Rattle.peephole_programs.specs.validation.Sound.{IsValid}
-use Rattle.peephole_programs.specs.validation.StaysValid.{MoreGlobalsCheckAlike}
+use Rattle.wasm_execution.specs.Values.{Context}
+use Rattle.wasm_execution.specs.IntegerRow.{integer_row}
+use Rattle.wasm_execution.specs.RowLemmas.{and_then_some}
+use Rattle.wasm_equivalence.specs.control.Function.{structural}
+use Rattle.wasm_equivalence.specs.control.Standard.{Beyond, by_asked}
+use Rattle.wasm_equivalence.specs.control.Wider.{wider}
+use Rattle.wasm_equivalence.specs.validation.Algorithm.{Frame, check_row, Structural, on_innermost, check}
+use Rattle.wasm_equivalence.specs.validation.StandardSteps.{body_frame, by_step, standard_steps}
+use Rattle.wasm_equivalence.specs.validation.Sound.{IsValid}
+use Rattle.wasm_equivalence.specs.validation.StaysValid.{MoreGlobalsCheckAlike}
 use Rattle.wrapped_code.proofs.PlaceLemmas.{count, front_behind}
 use Rattle.wrapped_code.proofs.MovedLemmas.{moved, moved_before, moved_behind}
 use Rattle.wrapped_code.proofs.StepLemmas.{step_wider}

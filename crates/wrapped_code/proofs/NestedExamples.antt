@@ -10,13 +10,13 @@ use Rattle.wasm_code.specs.Table.{row_at, table}
 use Rattle.wasm_types.specs.Module.{Module}
 use Rattle.wasm_types.specs.declared.types.PrimitiveTypeInfo.{PrimitiveTypeInfo}
 use Rattle.wasm_types.specs.declared.types.PrimitiveTypeInfo.TheVariants as primitive
-use Rattle.peephole_machine.specs.Values.{context_in}
-use Rattle.peephole_machine.specs.IntegerRow.{integer_row}
-use Rattle.peephole_programs.specs.control.Function.{structural}
-use Rattle.peephole_programs.specs.control.Standard.{Beyond}
-use Rattle.peephole_programs.specs.modules.Program.{Body}
-use Rattle.peephole_programs.specs.validation.Algorithm.{check}
-use Rattle.peephole_programs.specs.validation.StandardSteps.{body_frame, standard_steps}
+use Rattle.wasm_execution.specs.Values.{context_in}
+use Rattle.wasm_execution.specs.IntegerRow.{integer_row}
+use Rattle.wasm_equivalence.specs.control.Function.{structural}
+use Rattle.wasm_equivalence.specs.control.Standard.{Beyond}
+use Rattle.wasm_equivalence.specs.modules.Program.{Body}
+use Rattle.wasm_equivalence.specs.validation.Algorithm.{check}
+use Rattle.wasm_equivalence.specs.validation.StandardSteps.{body_frame, standard_steps}
 use Rattle.wrapped_code.specs.Opened.{opens_bare, open_behind, open_before, TakesNothing}
 use Rattle.wrapped_code.specs.Nested.{Nests, Unnests}
 use Rattle.wrapped_code.proofs.Examples.{get, number, one_i32}

@@ -9,11 +9,11 @@ use Rattle.wasm_code.specs.declared.operator.Operator.TheVariants as op
 use Rattle.wasm_types.specs.Module.{Module}
 use Rattle.wasm_types.specs.declared.types.PrimitiveTypeInfo.{PrimitiveTypeInfo}
 use Rattle.wasm_types.specs.declared.types.PrimitiveTypeInfo.TheVariants as primitive
-use Rattle.peephole_machine.specs.Values.{Context}
-use Rattle.peephole_machine.specs.RowLemmas.{and_then_some, map_some}
-use Rattle.peephole_programs.specs.control.Standard.{Beyond}
-use Rattle.peephole_programs.specs.validation.Algorithm.{all_may_be, Frame, can_pop, popped, with_pushed, Structural, on_innermost, check}
-use Rattle.peephole_programs.specs.validation.StandardSteps.{pop, push, cut_off, opened_by, open_frame, label_types, by_step, standard_steps}
+use Rattle.wasm_execution.specs.Values.{Context}
+use Rattle.wasm_execution.specs.RowLemmas.{and_then_some, map_some}
+use Rattle.wasm_equivalence.specs.control.Standard.{Beyond}
+use Rattle.wasm_equivalence.specs.validation.Algorithm.{all_may_be, Frame, can_pop, popped, with_pushed, Structural, on_innermost, check}
+use Rattle.wasm_equivalence.specs.validation.StandardSteps.{pop, push, cut_off, opened_by, open_frame, label_types, by_step, standard_steps}
 use Rattle.wrapped_code.proofs.PlaceLemmas.{dropped}
 use Rattle.wrapped_code.proofs.FrameLemmas.{pop_known, none_on}
 use Rattle.wrapped_code.proofs.CheckLemmas.{one_step}

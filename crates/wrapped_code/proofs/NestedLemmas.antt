@@ -3,11 +3,11 @@ use Rattle.std.proofs.Common.{◌≡◌, ℕ, true, List, [], ◌++◌, refl, sy
 use Rattle.wasm_code.specs.declared.operator.Operator.{Operator}
 use Rattle.wasm_types.specs.Module.{Module}
 use Rattle.wasm_types.specs.declared.types.PrimitiveTypeInfo.{PrimitiveTypeInfo}
-use Rattle.peephole_programs.specs.control.Function.{structural, At, runs}
-use Rattle.peephole_programs.specs.control.Standard.{Beyond, by_asked}
-use Rattle.peephole_programs.specs.modules.Program.{context_for}
-use Rattle.peephole_programs.specs.validation.Sound.{HasTargets, HasDeeds, TargetsStay, DeedsStay}
-use Rattle.peephole_programs.specs.validation.StaysValid.{MoreGlobalsCheckAlike}
+use Rattle.wasm_equivalence.specs.control.Function.{structural, At, runs}
+use Rattle.wasm_equivalence.specs.control.Standard.{Beyond, by_asked}
+use Rattle.wasm_equivalence.specs.modules.Program.{function_context}
+use Rattle.wasm_equivalence.specs.validation.Sound.{HasTargets, HasDeeds, TargetsStay, DeedsStay}
+use Rattle.wasm_equivalence.specs.validation.StaysValid.{MoreGlobalsCheckAlike}
 use Rattle.wrapped_code.specs.Handlers.{none_handle}
 use Rattle.wrapped_code.specs.Nested.{BranchesMayNest, BranchesMayUnnest}
 use Rattle.wrapped_code.proofs.PlaceLemmas.{count}
@@ -15,7 +15,8 @@ use Rattle.wrapped_code.proofs.HandlerLemmas.{NoHandler, no_handler}
 use Rattle.wrapped_code.proofs.BetweenLemmas.{no_handler_without, targets_with, targets_without, deeds_with, deeds_without}
 use Rattle.wrapped_code.proofs.AlikeLemmas.{ends_does}
 use Rattle.wrapped_code.proofs.OpenedLemmas.{front_bare}
-use Rattle.wrapped_code.proofs.NestedRunLemmas.{plain_part, nested_part, plain, nested, plain_is, nested_is, plain_control, nested_control, runs_meet, ends_nested, ends_plain}
+use Rattle.wrapped_code.proofs.NestedRunLemmas.{plain_part, nested_part, plain, nested, plain_is, nested_is, plain_control, nested_control}
+use Rattle.wrapped_code.proofs.NestedRunLemmas.{runs_meet, ends_nested, ends_plain}
 use Rattle.wrapped_code.proofs.NestedCheckLemmas.{nested_valid, plain_valid}
 
 module _ (m : Module) (front back : List Operator) (label : ℕ) where
@@ -72,7 +73,7 @@ module _ (m : Module) (front back : List Operator) (label : ℕ) where
 
 pub branches_nest : MoreGlobalsCheckAlike → TargetsStay → DeedsStay → BranchesMayNest
 branches_nest more_law targets_stay deeds_stay m input old new w =
-    let context = context_for m old in
+    let context = function_context m old in
     let front = w.front in
     let label = w.label in
     let one = plain_body m front w.back label in
@@ -95,7 +96,7 @@ branches_nest more_law targets_stay deeds_stay m input old new w =
 
 pub branches_unnest : MoreGlobalsCheckAlike → TargetsStay → DeedsStay → BranchesMayUnnest
 branches_unnest more_law targets_stay deeds_stay m input old new w =
-    let context = context_for m old in
+    let context = function_context m old in
     let front = w.front in
     let label = w.label in
     let one = nested_body m front w.back label in

@@ -1,5 +1,6 @@
 -- A branch under a condition, and a conditional with a branch in it: bodies with one of them and with the other one come to the same end.
-use Rattle.std.proofs.Common.{◌≡◌, ℕ, zero, suc, ◌-◌, ◌+◌, ◌<◌, ◌≤◌, List, [], ◌∷◌, ◌++◌, length, take, drop, Option, refl, sym, ap, ap₂, ◌∙◌, subst, arith, append-nil, inl, inr}
+use Rattle.std.proofs.Common.{◌≡◌, ℕ, zero, suc, ◌-◌, ◌+◌, ◌<◌, ◌≤◌, List, [], ◌∷◌, ◌++◌, length, take, drop, Option, refl, sym, ap, ap₂}
+use Rattle.std.proofs.Common.{◌∙◌, subst, arith, append-nil, inl, inr}
 use Rattle.std.specs.Prelude.{◌⊎◌}
 use Rattle.std.proofs.lemmas.Bool.{cases_eq, cases_lt}
 use Rattle.std.proofs.lemmas.List.{length-append}
@@ -10,11 +11,11 @@ use Rattle.wasm_code.specs.declared.operator.Operator.TheVariants as op
 use Rattle.wasm_types.specs.Module.{Module}
 use Rattle.wasm_types.specs.declared.types.PrimitiveTypeInfo.{PrimitiveTypeInfo}
 use Rattle.wasm_types.specs.declared.types.PrimitiveTypeInfo.TheVariants as primitive
-use Rattle.peephole_machine.specs.Values.{Value, State, Outcome, Ends, Traps, Stuck}
-use Rattle.peephole_machine.specs.Machine.{run}
-use Rattle.peephole_programs.specs.control.Function.{structural, piece, Label, Reached, Done, Control, go_on, visit, visits, lap, FollowsEnd, At, runs}
-use Rattle.peephole_programs.specs.control.Standard.{Beyond, standard, by_asked, by_operator, branch, choose, chosen, otherwise, last_of}
-use Rattle.peephole_programs.specs.control.Blocks.{closing, other_part}
+use Rattle.wasm_execution.specs.Values.{Value, State, Outcome, Ends, Traps, Stuck}
+use Rattle.wasm_execution.specs.Machine.{run}
+use Rattle.wasm_equivalence.specs.control.Function.{structural, piece, Label, Reached, Done, Control, go_on, visit, visits, lap, FollowsEnd, At, runs}
+use Rattle.wasm_equivalence.specs.control.Standard.{Beyond, standard, by_asked, by_operator, branch, choose_by_value, chosen, otherwise, last_of}
+use Rattle.wasm_equivalence.specs.control.Blocks.{closing, other_part}
 use Rattle.wrapped_code.proofs.PlaceLemmas.{count, IsBehind, Next, next_is, front_behind, front_structure, front_piece, last_piece}
 use Rattle.wrapped_code.proofs.VisitLemmas.{visit_not, visit_at}
 use Rattle.wrapped_code.proofs.MovedLemmas.{moved, moved_piece, moved_labels, moved_reached, piece_before, piece_behind}
@@ -211,8 +212,8 @@ module _ (front back : List Operator) (label : ℕ) where
     chosen_pair t i labels below s = record { spot = usual (Done Stuck); first_is = refl; second_is = refl }
 
     choose_pair : (vs : List Value) (labels : List Label) (below : List Value) (s : State) →
-        Pair (choose vs (branch_in (structural plain) label (moved_labels n 1 labels) below s) (At (suc n) (moved_labels n 1 labels) below s))
-        (two (choose vs (At (suc n) (inner below ∷ moved_labels n 3 labels) below s) (At (suc (suc (suc n))) (moved_labels n 3 labels) below s)))
+        Pair (choose_by_value vs (branch_in (structural plain) label (moved_labels n 1 labels) below s) (At (suc n) (moved_labels n 1 labels) below s))
+        (two (choose_by_value vs (At (suc n) (inner below ∷ moved_labels n 3 labels) below s) (At (suc (suc (suc n))) (moved_labels n 3 labels) below s)))
     choose_pair [] labels below s = record { spot = usual (Done Stuck); first_is = refl; second_is = refl }
     choose_pair (c ∷ []) labels below s = chosen_pair c.type c.number labels below s
     choose_pair (c ∷ d ∷ vs) labels below s = record { spot = usual (Done Stuck); first_is = refl; second_is = refl }
@@ -235,11 +236,11 @@ module _ (front back : List Operator) (label : ℕ) where
         let three = moved_labels n 3 labels in
         let inside = At (suc n) (inner below ∷ three) below s in
         pair_is (plain_control n one stack s) (two (nested_control n three stack s))
-        (choose (last_of 1 stack) (branch_in (structural plain) label one below s) (At (suc n) one below s))
-        (two (choose (last_of 1 stack) inside (At (suc (suc (suc n))) three below s)))
+        (choose_by_value (last_of 1 stack) (branch_in (structural plain) label one below s) (At (suc n) one below s))
+        (two (choose_by_value (last_of 1 stack) inside (At (suc (suc (suc n))) three below s)))
         (ap (λ o. by_operator info results (structural plain) (by_asked (structural plain) beyond) o n one stack s) at_plain.at)
         (ap two (ap (λ o. by_operator info results (structural nested) (by_asked (structural nested) beyond) o n three stack s) at_if.at ∙
-        ap (choose (last_of 1 stack) inside) (otherwise_is three below s)))
+        ap (choose_by_value (last_of 1 stack) inside) (otherwise_is three below s)))
         (choose_pair (last_of 1 stack) labels below s)
     goes labels (Traps cause gs r) = record { spot = usual (Done (Traps cause gs r)); first_is = refl; second_is = refl }
     goes labels Stuck = record { spot = usual (Done Stuck); first_is = refl; second_is = refl }

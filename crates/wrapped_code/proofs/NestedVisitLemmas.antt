@@ -3,9 +3,9 @@ use Rattle.std.proofs.Common.{◌≡◌, ℕ, ◌+◌, ◌<◌, List, refl, sym,
 use Rattle.std.proofs.lemmas.Bool.{cases_eq, cases_lt}
 use Rattle.wasm_code.specs.Instruction.{Instruction}
 use Rattle.wasm_code.specs.declared.operator.Operator.{Operator}
-use Rattle.peephole_machine.specs.Values.{Value, State, Outcome, Ends, Traps, Stuck}
-use Rattle.peephole_machine.specs.Machine.{run}
-use Rattle.peephole_programs.specs.control.Function.{piece, Label, Reached, Done, Control, go_on, pass, visit, At}
+use Rattle.wasm_execution.specs.Values.{Value, State, Outcome, Ends, Traps, Stuck}
+use Rattle.wasm_execution.specs.Machine.{run}
+use Rattle.wasm_equivalence.specs.control.Function.{piece, Label, Reached, Done, Control, go_on, pass, visit, At}
 use Rattle.wrapped_code.proofs.MovedLemmas.{moved, moved_piece, moved_labels, moved_reached, moved_before, moved_behind, piece_before, piece_behind}
 use Rattle.wrapped_code.proofs.VisitLemmas.{visit_not, visit_at}
 

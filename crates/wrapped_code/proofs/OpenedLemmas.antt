@@ -10,14 +10,17 @@ use Rattle.wasm_code.specs.declared.other.Other.{Other}
 use Rattle.wasm_types.specs.Module.{Module}
 use Rattle.wasm_types.specs.declared.types.PrimitiveTypeInfo.{PrimitiveTypeInfo}
 use Rattle.wasm_types.specs.declared.types.PrimitiveTypeInfo.TheVariants as primitive
-use Rattle.peephole_machine.specs.Values.{Context, same_types}
-use Rattle.peephole_machine.specs.IntegerRow.{IntegerRow, operand_count, integer_row}
-use Rattle.peephole_machine.specs.RowLemmas.{and_then_some, map_some}
-use Rattle.peephole_programs.specs.control.Blocks.{Arity, arity_of, has_arity, call_arity, Role, handles, tries, catches, delegates, does, role_of}
-use Rattle.peephole_programs.specs.control.Function.{structural}
-use Rattle.peephole_programs.specs.control.Standard.{Beyond, handler_arity}
-use Rattle.peephole_programs.specs.validation.Algorithm.{all_may_be, Frame, can_pop, popped, with_pushed, row_entries, check_row, on_innermost, check}
-use Rattle.peephole_programs.specs.validation.StandardSteps.{pop, push, cut_off, opened_by, body_frame, open_frame, types_by, label_types, can_close, leaves_alike, close_frame, other_of, other_frame, can_jump_all, can_call, can_branch, left, only_where, is_tried_by, is_tried, is_try_by, is_try, catch_frame, delegate_frame, other_step, by_step, standard_steps}
+use Rattle.wasm_execution.specs.Values.{Context, same_types}
+use Rattle.wasm_execution.specs.IntegerRow.{IntegerRow, operand_count, integer_row}
+use Rattle.wasm_execution.specs.RowLemmas.{and_then_some, map_some}
+use Rattle.wasm_equivalence.specs.control.Blocks.{Arity, arity_of, has_arity, call_arity, Role, handles, tries, catches, delegates, does, role_of}
+use Rattle.wasm_equivalence.specs.control.Function.{structural}
+use Rattle.wasm_equivalence.specs.control.Standard.{Beyond, handler_arity}
+use Rattle.wasm_equivalence.specs.validation.Algorithm.{all_may_be, Frame, can_pop, popped, with_pushed, row_entries, check_row, on_innermost, check}
+use Rattle.wasm_equivalence.specs.validation.StandardSteps.{pop, push, cut_off, opened_by, body_frame, open_frame, types_by, label_types}
+use Rattle.wasm_equivalence.specs.validation.StandardSteps.{can_close, leaves_alike, close_frame, other_of, other_frame, can_jump_all}
+use Rattle.wasm_equivalence.specs.validation.StandardSteps.{can_call, can_branch, left, only_where, is_tried_by, is_tried, is_try_by}
+use Rattle.wasm_equivalence.specs.validation.StandardSteps.{is_try, catch_frame, delegate_frame, other_step, by_step, standard_steps}
 use Rattle.wrapped_code.specs.Handlers.{handles_by}
 use Rattle.wrapped_code.specs.Opened.{opens_bare, open_after, open_behind, TakesNothing}
 use Rattle.wrapped_code.proofs.PlaceLemmas.{dropped}

@@ -1,5 +1,6 @@
 -- Code that pushes runs the same above every stack, and a branch to the end of a block drops what lies beneath what it carries.
-use Rattle.std.proofs.Common.{◌≡◌, ℕ, suc, ◌-◌, ◌<◌, ◌≤◌, Bool, true, false, List, [], ◌∷◌, ◌++◌, length, take, drop, Option, Some, None, refl, sym, ap, ap₂, ◌∙◌, subst, arith, append-nil, append_assoc}
+use Rattle.std.proofs.Common.{◌≡◌, ℕ, suc, ◌-◌, ◌<◌, ◌≤◌, Bool, true, false, List, [], ◌∷◌, ◌++◌, length, take, drop, Option, Some, None}
+use Rattle.std.proofs.Common.{refl, sym, ap, ap₂, ◌∙◌, subst, arith, append-nil, append_assoc}
 use Rattle.std.specs.Prelude.{◌≢◌, ◌||◌, ◌^◌, nat_le, option_map, option_and_then, if◌then◌else◌}
 use Rattle.std.specs.List.{All}
 use Rattle.std.proofs.lemmas.Bool.{leb-true}
@@ -10,19 +11,19 @@ use Rattle.wasm_code.specs.declared.immediate.BlockType.{BlockType}
 use Rattle.wasm_types.specs.Module.{Module}
 use Rattle.wasm_types.specs.declared.types.PrimitiveTypeInfo.{PrimitiveTypeInfo}
 use Rattle.wasm_types.specs.declared.types.PrimitiveTypeInfo.TheVariants as primitive
-use Rattle.peephole_machine.specs.declared.integer.IntegerType.TheVariants as integer
-use Rattle.peephole_machine.specs.Values.{Value, IsValue, types, whole, Context, State, HasTypes, Outcome, Ends, Traps, Stuck, then_run, above}
-use Rattle.peephole_machine.specs.IntegerRow.{IntegerRow, constant, operand_count, integer_row}
-use Rattle.peephole_machine.specs.Machine.{act, step, run}
-use Rattle.peephole_machine.specs.Agreement.{with_globals}
-use Rattle.peephole_machine.specs.OutcomeLemmas.{above_above, run_one, length_types}
-use Rattle.peephole_machine.specs.RowLemmas.{and_then_some, step_at}
-use Rattle.peephole_machine.specs.StateLemmas.{with_more}
-use Rattle.peephole_programs.specs.validation.Sound.{HasValues, EndsIn, ValidCodeRuns}
-use Rattle.peephole_programs.specs.control.Blocks.{arity_of}
-use Rattle.peephole_programs.specs.control.Standard.{last_of, unwound}
-use Rattle.peephole_programs.specs.validation.Algorithm.{known, Frame, can_pop, popped, with_pushed, row_entries, check_row, check_code}
-use Rattle.peephole_programs.specs.validation.StaysValid.{with_types, Pushes}
+use Rattle.wasm_execution.specs.declared.integer.IntegerType.TheVariants as integer
+use Rattle.wasm_execution.specs.Values.{Value, IsValue, types, whole, Context, State, HasTypes, Outcome, Ends, Traps, Stuck, then_run, above}
+use Rattle.wasm_execution.specs.IntegerRow.{IntegerRow, constant, operand_count, integer_row}
+use Rattle.wasm_execution.specs.Machine.{act, step, run}
+use Rattle.wasm_execution.specs.Agreement.{with_globals}
+use Rattle.wasm_execution.specs.OutcomeLemmas.{above_above, run_one, length_types}
+use Rattle.wasm_execution.specs.RowLemmas.{and_then_some, step_at}
+use Rattle.wasm_execution.specs.StateLemmas.{with_more}
+use Rattle.wasm_equivalence.specs.validation.Sound.{HasValues, EndsIn, ValidCodeRuns}
+use Rattle.wasm_equivalence.specs.control.Blocks.{arity_of}
+use Rattle.wasm_equivalence.specs.control.Standard.{last_of, unwound}
+use Rattle.wasm_equivalence.specs.validation.Algorithm.{known, Frame, can_pop, popped, with_pushed, row_entries, check_row, check_code}
+use Rattle.wasm_equivalence.specs.validation.StaysValid.{with_types, Pushes}
 use Rattle.wrapped_code.specs.Wrapped.{Wrapped, plain, both, leaving, exits, trap, picked_by, picked, run_wrapped, WrappedRunsAs}
 use Rattle.wrapped_code.specs.Ways.{IsPure}
 use Rattle.wrapped_code.proofs.ValueLemmas.{last_is, front_is, small_is, run_constant, pure_more}

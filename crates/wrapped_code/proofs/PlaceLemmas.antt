@@ -4,8 +4,8 @@ use Rattle.std.specs.Prelude.{map, slice_get}
 use Rattle.wasm_code.specs.Instruction.{Instruction}
 use Rattle.wasm_code.specs.declared.operator.Operator.{Operator}
 use Rattle.wasm_code.specs.declared.operator.Operator.TheVariants as op
-use Rattle.peephole_programs.specs.control.Function.{structural, piece}
-use Rattle.peephole_programs.specs.control.Blocks.{closing, other_part}
+use Rattle.wasm_equivalence.specs.control.Function.{structural, piece}
+use Rattle.wasm_equivalence.specs.control.Blocks.{closing, other_part}
 use Rattle.wrapped_code.specs.Wrapped.{Wrapped, plain, both, block, loop, choice, leaving, exits, once, trap, written}
 
 -- ---- the structural operators of wrapped code

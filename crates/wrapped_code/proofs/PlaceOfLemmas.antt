@@ -6,23 +6,23 @@ use Rattle.wasm_code.specs.declared.operator.Operator.{Operator}
 use Rattle.wasm_code.specs.declared.operator.Operator.TheVariants as op
 use Rattle.wasm_types.specs.Module.{Module}
 use Rattle.wasm_types.specs.declared.types.PrimitiveTypeInfo.{PrimitiveTypeInfo}
-use Rattle.peephole_machine.specs.Values.{Value, State}
-use Rattle.peephole_programs.specs.control.Function.{Label, Reached, At, Done}
-use Rattle.peephole_programs.specs.control.Blocks.{closing, other_part}
-use Rattle.peephole_programs.specs.control.Standard.{Caught, branches, begins, delegated, Beyond, asks_beyond, counted, asked_before, by_asked, standard}
-use Rattle.peephole_programs.specs.validation.Algorithm.{Frame}
-use Rattle.peephole_programs.specs.validation.StandardSteps.{by_step}
-use Rattle.wrapped_code.specs.Tables.{suc_unless, place_of, TablesLoseNothing}
+use Rattle.wasm_execution.specs.Values.{Value, State}
+use Rattle.wasm_equivalence.specs.control.Function.{Label, Reached, At, Done}
+use Rattle.wasm_equivalence.specs.control.Blocks.{closing, other_part}
+use Rattle.wasm_equivalence.specs.control.Standard.{Caught, branches, begins, delegated, Beyond, asks_beyond, counted_where, asked_before, by_asked, standard}
+use Rattle.wasm_equivalence.specs.validation.Algorithm.{Frame}
+use Rattle.wasm_equivalence.specs.validation.StandardSteps.{by_step}
+use Rattle.wrapped_code.specs.Tables.{suc_unless, asking_place_of, TablesLoseNothing}
 use Rattle.wrapped_code.proofs.MovedLemmas.{moved, moved_piece, moved_labels, moved_reached, moved_behind, piece_before, piece_behind}
 use Rattle.wrapped_code.proofs.ControlLemmas.{moved_caught, IsAsking, TellsAlike, control_moved}
 use Rattle.wrapped_code.proofs.StepLemmas.{step_numbers}
 
-found : (os : List Operator) (k : ℕ) (o : Operator) → slice_get os k ≡ Some o → asks_beyond o ≡ true → place_of os (asked_before os k) ≡ k
+found : (os : List Operator) (k : ℕ) (o : Operator) → slice_get os k ≡ Some o → asks_beyond o ≡ true → asking_place_of os (asked_before os k) ≡ k
 found [] k o at t = absurd cc
-found (x ∷ os) zero o at t = ap (λ (b : Bool). suc_unless b 0 (λ i. suc (place_of os i))) (ap asks_beyond (let e : x ≡ o = cc in e) ∙ t)
+found (x ∷ os) zero o at t = ap (λ (b : Bool). suc_unless b 0 (λ i. suc (asking_place_of os i))) (ap asks_beyond (let e : x ≡ o = cc in e) ∙ t)
 found (x ∷ os) (suc k) o at t = go (asks_beyond x) ∙ ap suc (found os k o at t)
   where
-    go : (b : Bool) → suc_unless b (counted b (asked_before os k)) (λ i. suc (place_of os i)) ≡ suc (place_of os (asked_before os k))
+    go : (b : Bool) → suc_unless b (counted_where b (asked_before os k)) (λ i. suc (asking_place_of os i)) ≡ suc (asking_place_of os (asked_before os k))
     go true = refl
     go false = refl
 
@@ -57,19 +57,19 @@ caught_stays None = refl
 module _ (structure : List Operator) (beyond : Beyond) where
   abbrev given : Beyond
   given = record {
-    labels = λ j. beyond.labels (place_of structure j);
-    default = λ j. beyond.default (place_of structure j);
-    target = λ j. beyond.target (place_of structure j);
-    takes = λ j. beyond.takes (place_of structure j);
-    deed = λ j. beyond.deed (place_of structure j);
-    leaves = λ j. beyond.leaves (place_of structure j);
-    label = λ j. beyond.label (place_of structure j);
-    catcher = λ j. beyond.catcher (place_of structure j);
-    clauses = λ j. beyond.clauses (place_of structure j);
+    labels = λ j. beyond.labels (asking_place_of structure j);
+    default = λ j. beyond.default (asking_place_of structure j);
+    target = λ j. beyond.target (asking_place_of structure j);
+    takes = λ j. beyond.takes (asking_place_of structure j);
+    deed = λ j. beyond.deed (asking_place_of structure j);
+    leaves = λ j. beyond.leaves (asking_place_of structure j);
+    label = λ j. beyond.label (asking_place_of structure j);
+    catcher = λ j. beyond.catcher (asking_place_of structure j);
+    clauses = λ j. beyond.clauses (asking_place_of structure j);
   }
 
-  told_at : {A : Type 0} (f : ℕ → A) (k : ℕ) → IsAsking structure k → f (place_of structure (asked_before structure (moved 0 0 k))) ≡ f k
-  told_at f k (o, at, asks) = ap f (ap (λ i. place_of structure (asked_before structure i)) (stays k) ∙ found structure k o at asks)
+  told_at : {A : Type 0} (f : ℕ → A) (k : ℕ) → IsAsking structure k → f (asking_place_of structure (asked_before structure (moved 0 0 k))) ≡ f k
+  told_at f k (o, at, asks) = ap f (ap (λ i. asking_place_of structure (asked_before structure i)) (stays k) ∙ found structure k o at asks)
 
   told : TellsAlike 0 0 structure beyond (by_asked structure given)
   told = record {

@@ -5,17 +5,18 @@ use Rattle.std.specs.List.{All}
 use Rattle.std.proofs.lemmas.List.Elements.{All-nil, All-cons, All-append, All-head}
 use Rattle.wasm_code.specs.Instruction.{Instruction}
 use Rattle.wasm_types.specs.declared.types.PrimitiveTypeInfo.{PrimitiveTypeInfo}
-use Rattle.peephole_machine.specs.declared.integer.IntegerType.{IntegerType}
-use Rattle.peephole_machine.specs.declared.integer.IntegerType.TheVariants as integer
-use Rattle.peephole_machine.specs.Integer.{IntegerOperator}
-use Rattle.peephole_machine.specs.Values.{type_of, same_types, whole, Value, IsValue, types, Context, State, Variable, local, global, read, HasTypes, Outcome, Ends, then_run, above}
-use Rattle.peephole_machine.specs.IntegerRow.{IntegerRow, constant, operation, get, operand_count, if_typed, variable_type, row_types, integer_row}
-use Rattle.peephole_machine.specs.Machine.{cause_of, given, read_of, effect, run}
-use Rattle.peephole_machine.specs.Laws.{Keeps}
-use Rattle.peephole_machine.specs.OutcomeLemmas.{run_append, run_one}
-use Rattle.peephole_machine.specs.RowLemmas.{step_at, act_is}
-use Rattle.peephole_machine.specs.StateLemmas.{context_is}
-use Rattle.peephole_machine.specs.TypeLemmas.{find_local, find_global, run_keeps}
+use Rattle.wasm_execution.specs.declared.integer.IntegerType.{IntegerType}
+use Rattle.wasm_execution.specs.declared.integer.IntegerType.TheVariants as integer
+use Rattle.wasm_execution.specs.Integer.{IntegerOperator}
+use Rattle.wasm_execution.specs.Values.{type_of, same_types, whole, Value, IsValue, types, Context, State, Variable, local, global, read}
+use Rattle.wasm_execution.specs.Values.{HasTypes, Outcome, Ends, then_run, above}
+use Rattle.wasm_execution.specs.IntegerRow.{IntegerRow, constant, operation, get, operand_count, if_typed, variable_type, row_types, integer_row}
+use Rattle.wasm_execution.specs.Machine.{division_trap_cause, number_or_trap, read_of, effect, run}
+use Rattle.wasm_execution.specs.Laws.{Keeps}
+use Rattle.wasm_execution.specs.OutcomeLemmas.{run_append, run_one}
+use Rattle.wasm_execution.specs.RowLemmas.{step_at, act_is}
+use Rattle.wasm_execution.specs.StateLemmas.{context_is}
+use Rattle.wasm_execution.specs.TypeLemmas.{find_local, find_global, run_keeps}
 use Rattle.wrapped_code.specs.Ways.{IsPure, PureCode}
 use Rattle.wrapped_code.proofs.FrameLemmas.{same_types_self}
 
@@ -87,10 +88,10 @@ module _ (context : Context) where
   number_or None = 0
 
   applied_is : (f : IntegerOperator) (ns : List ℕ) (s : State) → is_some (f.value ns) ≡ true →
-      given f.result (f.value ns) (cause_of ns) s ≡ Ends (whole f.result (number_or (f.value ns)) ∷ []) s
+      number_or_trap f.result (f.value ns) (division_trap_cause ns) s ≡ Ends (whole f.result (number_or (f.value ns)) ∷ []) s
   applied_is f ns s e = go (f.value ns) e
     where
-      go : (o : Option ℕ) → is_some o ≡ true → given f.result o (cause_of ns) s ≡ Ends (whole f.result (number_or o) ∷ []) s
+      go : (o : Option ℕ) → is_some o ≡ true → number_or_trap f.result o (division_trap_cause ns) s ≡ Ends (whole f.result (number_or o) ∷ []) s
       go (Some n) e = refl
       go None e = absurd cc
 

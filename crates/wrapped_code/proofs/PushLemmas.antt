@@ -1,5 +1,6 @@
 -- What wrapped code pushes.
-use Rattle.std.proofs.Common.{◌≡◌, ℕ, zero, suc, ◌-◌, Bool, true, false, List, [], ◌∷◌, ◌++◌, length, take, drop, Option, Some, None, refl, sym, ap, ap₂, ◌∙◌, arith, append-nil, subst}
+use Rattle.std.proofs.Common.{◌≡◌, ℕ, zero, suc, ◌-◌, Bool, true, false, List, [], ◌∷◌, ◌++◌, length, take, drop, Option, Some, None, refl}
+use Rattle.std.proofs.Common.{sym, ap, ap₂, ◌∙◌, arith, append-nil, subst}
 use Rattle.std.specs.Prelude.{◌&&◌, ◌||◌, ◌==◌, nat_le, replicate, slice_get, option_map, option_and_then, if◌then◌else◌}
 use Rattle.std.proofs.lemmas.Bool.{or_parts}
 use Rattle.std.proofs.lemmas.List.{length-append}
@@ -8,11 +9,12 @@ use Rattle.wasm_code.specs.declared.operator.Operator.{Operator}
 use Rattle.wasm_code.specs.declared.operator.Operator.TheVariants as op
 use Rattle.wasm_types.specs.declared.types.PrimitiveTypeInfo.{PrimitiveTypeInfo}
 use Rattle.wasm_types.specs.declared.types.PrimitiveTypeInfo.TheVariants as primitive
-use Rattle.peephole_machine.specs.Values.{Context}
-use Rattle.peephole_programs.specs.control.Blocks.{Arity, arity_of, has_arity}
-use Rattle.peephole_programs.specs.validation.Algorithm.{Entry, all_may_be, known, Frame, check_code, popped, with_pushed, on_innermost}
-use Rattle.peephole_programs.specs.validation.StandardSteps.{pop, push, cut_off, opened_by, open_frame, label_types, is_empty, can_close, leaves_alike, close_frame, other_of, other_frame, only_where}
-use Rattle.peephole_programs.specs.validation.StaysValid.{with_types}
+use Rattle.wasm_execution.specs.Values.{Context}
+use Rattle.wasm_equivalence.specs.control.Blocks.{Arity, arity_of, has_arity}
+use Rattle.wasm_equivalence.specs.validation.Algorithm.{OperandEntry, all_may_be, known, Frame, check_code, popped, with_pushed, on_innermost}
+use Rattle.wasm_equivalence.specs.validation.StandardSteps.{pop, push, cut_off, opened_by, open_frame, label_types, frame_is_empty}
+use Rattle.wasm_equivalence.specs.validation.StandardSteps.{can_close, leaves_alike, close_frame, other_of, other_frame, only_where}
+use Rattle.wasm_equivalence.specs.validation.StaysValid.{with_types}
 use Rattle.wrapped_code.specs.Wrapped.{Wrapped, has_operators, plain, both, block, loop, choice, leaving, exits, once, trap, check_wrapped}
 use Rattle.wrapped_code.specs.Ways.{WrappedPushes, WrappedCodePushes, PushedCodeChecksAs, PushingCodeIsThere}
 use Rattle.wrapped_code.proofs.FrameLemmas.{pop_known, none_on, one_on_other}
@@ -35,16 +37,16 @@ cut_closes f =
     let g = cut_off f in
     let none : n - 0 ≡ n = omega arith in
     let fits : all_may_be (popped n g) ts ≡ true =
-    ap (λ (es : List Entry). all_may_be es ts) (ap (λ (k : ℕ). replicate k None ++ drop (0 - n) []) none ∙
-    (ap (λ (es : List Entry). replicate n None ++ es) (drop_none (0 - n)) ∙ append-nil (replicate n None))) ∙ unknown_are ts in
-    ap₂ (λ (a b : Bool). is_empty (if a && b then Some (with_pushed n g []) else None)) (or_true (nat_le n 0)) fits ∙
-    ap (λ (es : List Entry). length (es ++ []) == 0) (take_none (0 - n))
+    ap (λ (es : List OperandEntry). all_may_be es ts) (ap (λ (k : ℕ). replicate k None ++ drop (0 - n) []) none ∙
+    (ap (λ (es : List OperandEntry). replicate n None ++ es) (drop_none (0 - n)) ∙ append-nil (replicate n None))) ∙ unknown_are ts in
+    ap₂ (λ (a b : Bool). frame_is_empty (if a && b then Some (with_pushed n g []) else None)) (or_true (nat_le n 0)) fits ∙
+    ap (λ (es : List OperandEntry). length (es ++ []) == 0) (take_none (0 - n))
   where
-    drop_none : (k : ℕ) → ◌≡◌ {A = List Entry} (drop k []) []
+    drop_none : (k : ℕ) → ◌≡◌ {A = List OperandEntry} (drop k []) []
     drop_none zero = refl
     drop_none (suc k) = refl
 
-    take_none : (k : ℕ) → ◌≡◌ {A = List Entry} (take k []) []
+    take_none : (k : ℕ) → ◌≡◌ {A = List OperandEntry} (take k []) []
     take_none zero = refl
     take_none (suc k) = refl
 
@@ -59,7 +61,7 @@ opens_on : (o : Operator) (a : Arity) (f : Frame) (outer : List Frame) →
 opens_on o a f outer = ap (λ x. option_map (λ fs. opened_by o a ∷ fs) (option_map (λ g. g ∷ outer) x)) (pop_known a.starts f)
 
 full_closes : (o : Operator) (a : Arity) → can_close (with_types a.ends (bare o a)) ≡ true
-full_closes o a = ap is_empty (pop_known a.ends (bare o a))
+full_closes o a = ap frame_is_empty (pop_known a.ends (bare o a))
 
 -- a frame that may close, and is no conditional's first part
 closes_on : (g f : Frame) (outer : List Frame) → can_close g ≡ true → leaves_alike g.opened (record { starts = g.starts; ends = g.ends }) ≡ true →
@@ -273,7 +275,7 @@ wrapped_pushes = record {
   before_dead = λ context t a dead has h k.
       let b = cut_off (bare (op.Block t) (arity_of context.info t)) in
       push_leaving context t has a dead [] h (with_types (arity_of context.info t).ends b)
-      (ap is_empty (pop_known (arity_of context.info t).ends b)) refl refl (λ outer. k b outer);
+      (ap frame_is_empty (pop_known (arity_of context.info t).ends b)) refl refl (λ outer. k b outer);
   before_end = λ context t a has h.
       push_leaving context t has a (plain []) [] h (cut_off (bare (op.Block t) (arity_of context.info t)))
       (cut_closes (bare (op.Block t) (arity_of context.info t))) refl refl (λ outer. refl);
@@ -318,7 +320,7 @@ pushing_is_there context c t us h = by (has_operators c) refl
     frame_is : (f g : Frame) → ◌≡◌ {A = Option (List Frame)} (Some (f ∷ [])) (Some (g ∷ [])) → f ≡ g
     frame_is f g e = cc
 
-    something : (es : List Entry) (f : Frame) → f.operands ++ (Some t ∷ es) ≡ f.operands → ⊥
+    something : (es : List OperandEntry) (f : Frame) → f.operands ++ (Some t ∷ es) ≡ f.operands → ⊥
     something es f e = let n = ap length e in let a = length-append f.operands (Some t ∷ es) in absurd (omega arith)
 
     by : (b : Bool) → has_operators c ≡ b → has_operators c ≡ true

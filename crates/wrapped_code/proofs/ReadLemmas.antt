@@ -9,7 +9,7 @@ use Rattle.wasm_code.specs.declared.other.Other.TheVariants as others
 use Rattle.wasm_code.specs.declared.other.Shape.{Shape}
 use Rattle.wasm_code.specs.Operator.{other_operator, SpellsAny}
 use Rattle.wasm_code.specs.Other.{is_catching_byte, byte_shape, shape_of, SpellsShaped}
-use Rattle.peephole_programs.specs.control.Blocks.{handles, tries, catches, delegates, does, role_of}
+use Rattle.wasm_equivalence.specs.control.Blocks.{handles, tries, catches, delegates, does, role_of}
 use Rattle.wrapped_code.specs.Handlers.{handles_by, is_handler, ReadCodeHasNoHandlers}
 
 -- ---- by the tests of a byte

@@ -8,12 +8,12 @@ use Rattle.wasm_code.specs.declared.operator.Operator.TheVariants as op
 use Rattle.wasm_types.specs.Module.{Module}
 use Rattle.wasm_types.specs.declared.types.PrimitiveTypeInfo.{PrimitiveTypeInfo}
 use Rattle.wasm_types.specs.declared.types.PrimitiveTypeInfo.TheVariants as primitive
-use Rattle.peephole_machine.specs.Values.{Value, State, Outcome, Ends, Traps, Stuck, then_run}
-use Rattle.peephole_machine.specs.Machine.{run}
-use Rattle.peephole_machine.specs.OutcomeLemmas.{run_append}
-use Rattle.peephole_programs.specs.control.Function.{structural, piece, Label, Reached, Done, Control, go_on, visit, At}
-use Rattle.peephole_programs.specs.control.Blocks.{arity_of, closing, other_part}
-use Rattle.peephole_programs.specs.control.Standard.{last_of, unwound, chosen, choose, Beyond, end_of, jump_to, otherwise, by_operator, standard}
+use Rattle.wasm_execution.specs.Values.{Value, State, Outcome, Ends, Traps, Stuck, then_run}
+use Rattle.wasm_execution.specs.Machine.{run}
+use Rattle.wasm_execution.specs.OutcomeLemmas.{run_append}
+use Rattle.wasm_equivalence.specs.control.Function.{structural, piece, Label, Reached, Done, Control, go_on, visit, At}
+use Rattle.wasm_equivalence.specs.control.Blocks.{arity_of, closing, other_part}
+use Rattle.wasm_equivalence.specs.control.Standard.{last_of, unwound, chosen, choose_by_value, Beyond, end_of, jump_to, otherwise, by_operator, standard}
 use Rattle.wrapped_code.specs.Wrapped.{Wrapped, plain, both, block, loop, choice, leaving, exits, once, trap, written, picked_by, picked, run_wrapped}
 use Rattle.wrapped_code.proofs.PlaceLemmas.{bones, past, written_structure, past_adds, closing_past, other_past, IsBehind, Next, next_is, written_behind}
 use Rattle.wrapped_code.proofs.VisitLemmas.{coded_first, go_then, visits_past, past_done, visit_not, visit_at, past_skip}
@@ -112,7 +112,7 @@ module _ (m : Module) (results : List PrimitiveTypeInfo) (beyond : Beyond) (body
 
   picks : (v : Reached → Reached) (next : List Value → State → Reached) (vs : List Value) (x y : Reached) (o p : Outcome) →
       v (Done Stuck) ≡ Done Stuck → (o ≢ Stuck → v x ≡ go_on next o) → (p ≢ Stuck → v y ≡ go_on next p) → picked vs o p ≢ Stuck →
-      v (choose vs x y) ≡ go_on next (picked vs o p)
+      v (choose_by_value vs x y) ≡ go_on next (picked vs o p)
   picks v next [] x y o p d h k n = d
   picks v next (c ∷ e ∷ vs) x y o p d h k n = d
   picks v next (c ∷ []) x y o p d h k n = go c.type c.number n

@@ -6,13 +6,13 @@ use Rattle.std.proofs.lemmas.List.Elements.{All-head}
 use Rattle.wasm_code.specs.Instruction.{Instruction}
 use Rattle.wasm_types.specs.declared.types.PrimitiveTypeInfo.{PrimitiveTypeInfo}
 use Rattle.wasm_types.specs.declared.types.PrimitiveTypeInfo.TheVariants as primitive
-use Rattle.peephole_machine.specs.Agreement.{EndsTyped}
-use Rattle.peephole_machine.specs.Machine.{run}
-use Rattle.peephole_machine.specs.OutcomeLemmas.{run_append}
-use Rattle.peephole_machine.specs.Values.{Value, IsValue, types, Context, State, HasTypes, Outcome, Ends, Traps, Stuck, then_run, above}
-use Rattle.peephole_programs.specs.control.Standard.{last_of}
-use Rattle.peephole_programs.specs.validation.Sound.{ValidCodeRuns}
-use Rattle.peephole_programs.specs.validation.StaysValid.{Pushes}
+use Rattle.wasm_execution.specs.Agreement.{EndsTyped}
+use Rattle.wasm_execution.specs.Machine.{run}
+use Rattle.wasm_execution.specs.OutcomeLemmas.{run_append}
+use Rattle.wasm_execution.specs.Values.{Value, IsValue, types, Context, State, HasTypes, Outcome, Ends, Traps, Stuck, then_run, above}
+use Rattle.wasm_equivalence.specs.control.Standard.{last_of}
+use Rattle.wasm_equivalence.specs.validation.Sound.{ValidCodeRuns}
+use Rattle.wasm_equivalence.specs.validation.StaysValid.{Pushes}
 use Rattle.wrapped_code.specs.Alike.{AreAs, SameAs}
 use Rattle.wrapped_code.specs.Ways.{IsAlone}
 use Rattle.wrapped_code.proofs.OverLemmas.{never_stuck}

@@ -10,14 +10,15 @@ use Rattle.wasm_code.specs.declared.other.Other.{Other}
 use Rattle.wasm_types.specs.Module.{Module}
 use Rattle.wasm_types.specs.declared.types.PrimitiveTypeInfo.{PrimitiveTypeInfo}
 use Rattle.wasm_types.specs.declared.types.PrimitiveTypeInfo.TheVariants as primitive
-use Rattle.peephole_machine.specs.Values.{Context}
-use Rattle.peephole_machine.specs.IntegerRow.{integer_row}
-use Rattle.peephole_programs.specs.control.Blocks.{Arity, arity_of, has_arity, Role, handles, tries, catches, delegates, does, role_of}
-use Rattle.peephole_programs.specs.control.Standard.{Beyond, left_types, handler_arity}
-use Rattle.peephole_programs.specs.control.Wider.{wider_module, wider}
-use Rattle.peephole_programs.specs.validation.Algorithm.{Frame, check_row, check_code, Structural, on_innermost, check}
-use Rattle.peephole_programs.specs.validation.StandardSteps.{pop, cut_off, label_types, open_frame, can_jump_all, can_branch, left as left_by, only_where, are_labels, catch_frame, other_step, by_step}
-use Rattle.peephole_programs.specs.validation.StaysValid.{MoreGlobalsCheckAlike}
+use Rattle.wasm_execution.specs.Values.{Context}
+use Rattle.wasm_execution.specs.IntegerRow.{integer_row}
+use Rattle.wasm_equivalence.specs.control.Blocks.{Arity, arity_of, has_arity, Role, handles, tries, catches, delegates, does, role_of}
+use Rattle.wasm_equivalence.specs.control.Standard.{Beyond, left_types, handler_arity}
+use Rattle.wasm_equivalence.specs.control.Wider.{wider_module, wider}
+use Rattle.wasm_equivalence.specs.validation.Algorithm.{Frame, check_row, check_code, Structural, on_innermost, check}
+use Rattle.wasm_equivalence.specs.validation.StandardSteps.{pop, cut_off, label_types, open_frame, can_jump_all, can_branch}
+use Rattle.wasm_equivalence.specs.validation.StandardSteps.{left as left_by, only_where, are_labels, catch_frame, other_step, by_step}
+use Rattle.wasm_equivalence.specs.validation.StaysValid.{MoreGlobalsCheckAlike}
 
 -- ---- by other numbers
 

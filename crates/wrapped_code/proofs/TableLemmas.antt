@@ -3,7 +3,7 @@ use Rattle.std.proofs.Common.{◌≡◌, ℕ, zero, suc, ◌-◌, ◌+◌, ◌�
 use Rattle.std.proofs.lemmas.Bool.{cases_lt}
 use Rattle.wasm_code.specs.declared.operator.Operator.{Operator}
 use Rattle.wasm_code.specs.declared.operator.Operator.TheVariants as op
-use Rattle.peephole_programs.specs.control.Standard.{asks_beyond, asked_before, counted}
+use Rattle.wasm_equivalence.specs.control.Standard.{asks_beyond, asked_before, counted_where}
 use Rattle.wrapped_code.specs.Wrapped.{Wrapped, plain, both, block, loop, choice, leaving, exits, once, trap}
 use Rattle.wrapped_code.proofs.PlaceLemmas.{bones}
 use Rattle.wrapped_code.proofs.MovedLemmas.{moved, moved_before, moved_behind}
@@ -11,9 +11,9 @@ use Rattle.wrapped_code.proofs.MovedLemmas.{moved, moved_before, moved_behind}
 tables_front : (xs zs : List Operator) (i : ℕ) → i ≤ length xs → asked_before (xs ++ zs) i ≡ asked_before xs i
 tables_front xs zs zero l = refl
 tables_front [] zs (suc i) l = absurd (omega arith)
-tables_front (x ∷ xs) zs (suc i) l = ap (counted (asks_beyond x)) (tables_front xs zs i (omega arith))
+tables_front (x ∷ xs) zs (suc i) l = ap (counted_where (asks_beyond x)) (tables_front xs zs i (omega arith))
 
-counted_more : (b : Bool) (i j k : ℕ) → i ≡ j + k → counted b i ≡ counted b j + k
+counted_more : (b : Bool) (i j k : ℕ) → i ≡ j + k → counted_where b i ≡ counted_where b j + k
 counted_more true i j k e = omega arith
 counted_more false i j k e = e
 

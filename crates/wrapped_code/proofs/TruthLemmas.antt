@@ -4,16 +4,16 @@ use Rattle.std.specs.Prelude.{not, if◌then◌else◌}
 use Rattle.wasm_code.specs.Instruction.{Instruction}
 use Rattle.wasm_types.specs.declared.types.PrimitiveTypeInfo.{PrimitiveTypeInfo}
 use Rattle.wasm_types.specs.declared.types.PrimitiveTypeInfo.TheVariants as primitive
-use Rattle.peephole_machine.specs.declared.integer.IntegerType.TheVariants as integer
-use Rattle.peephole_machine.specs.Integer.{compare, eqz, ne}
-use Rattle.peephole_machine.specs.IntegerRow.{constant, operation, row_types, integer_row}
-use Rattle.peephole_machine.specs.Machine.{run}
-use Rattle.peephole_machine.specs.OutcomeLemmas.{run_append}
-use Rattle.peephole_machine.specs.StateLemmas.{none_of, with_more}
-use Rattle.peephole_machine.specs.Values.{Value, whole, Context, State, HasTypes, Outcome, Ends, then_run}
-use Rattle.peephole_programs.specs.control.Function.{RunsAs}
-use Rattle.peephole_programs.specs.validation.Sound.{ValidCodeRuns}
-use Rattle.peephole_programs.specs.validation.StaysValid.{Pushes}
+use Rattle.wasm_execution.specs.declared.integer.IntegerType.TheVariants as integer
+use Rattle.wasm_execution.specs.Integer.{compare, eqz, ne}
+use Rattle.wasm_execution.specs.IntegerRow.{constant, operation, row_types, integer_row}
+use Rattle.wasm_execution.specs.Machine.{run}
+use Rattle.wasm_execution.specs.OutcomeLemmas.{run_append}
+use Rattle.wasm_execution.specs.StateLemmas.{none_of, with_more}
+use Rattle.wasm_execution.specs.Values.{Value, whole, Context, State, HasTypes, Outcome, Ends, then_run}
+use Rattle.wasm_equivalence.specs.control.Function.{RunsAs}
+use Rattle.wasm_equivalence.specs.validation.Sound.{ValidCodeRuns}
+use Rattle.wasm_equivalence.specs.validation.StaysValid.{Pushes}
 use Rattle.wrapped_code.specs.Alike.{AreAs}
 use Rattle.wrapped_code.specs.Conditions.{ZeroAlike, SameTruth, ConditionsAsTrue}
 use Rattle.wrapped_code.proofs.AloneLemmas.{code_is_alone}

@@ -6,20 +6,21 @@ use Rattle.wasm_code.specs.Instruction.{Instruction}
 use Rattle.wasm_code.specs.declared.operator.Operator.{Operator}
 use Rattle.wasm_code.specs.declared.operator.Operator.TheVariants as op
 use Rattle.wasm_types.specs.declared.types.PrimitiveTypeInfo.{PrimitiveTypeInfo}
-use Rattle.peephole_machine.specs.Values.{Context}
-use Rattle.peephole_machine.specs.IntegerRow.{integer_row}
-use Rattle.peephole_machine.specs.RowLemmas.{and_then_some, map_some}
-use Rattle.peephole_programs.specs.control.Function.{structural}
-use Rattle.peephole_programs.specs.control.Blocks.{has_arity}
-use Rattle.peephole_programs.specs.control.Standard.{Beyond, by_asked}
-use Rattle.peephole_programs.specs.control.Wider.{wider}
-use Rattle.peephole_programs.specs.validation.Algorithm.{Frame, check_row, check_code, Structural, on_innermost, check}
-use Rattle.peephole_programs.specs.validation.StandardSteps.{body_frame, only_where, by_step, standard_steps}
-use Rattle.peephole_programs.specs.validation.Sound.{IsValid}
-use Rattle.peephole_programs.specs.validation.StaysValid.{with_types, Pushes, MoreGlobalsCheckAlike}
+use Rattle.wasm_execution.specs.Values.{Context}
+use Rattle.wasm_execution.specs.IntegerRow.{integer_row}
+use Rattle.wasm_execution.specs.RowLemmas.{and_then_some, map_some}
+use Rattle.wasm_equivalence.specs.control.Function.{structural}
+use Rattle.wasm_equivalence.specs.control.Blocks.{has_arity}
+use Rattle.wasm_equivalence.specs.control.Standard.{Beyond, by_asked}
+use Rattle.wasm_equivalence.specs.control.Wider.{wider}
+use Rattle.wasm_equivalence.specs.validation.Algorithm.{Frame, check_row, check_code, Structural, on_innermost, check}
+use Rattle.wasm_equivalence.specs.validation.StandardSteps.{body_frame, only_where, by_step, standard_steps}
+use Rattle.wasm_equivalence.specs.validation.Sound.{IsValid}
+use Rattle.wasm_equivalence.specs.validation.StaysValid.{with_types, Pushes, MoreGlobalsCheckAlike}
 use Rattle.wrapped_code.specs.Wrapped.{Wrapped, plain, both, block, loop, choice, leaving, exits, once, trap, written, has_operators, check_wrapped}
 use Rattle.wrapped_code.specs.Ways.{WrappedPushes}
-use Rattle.wrapped_code.proofs.PlaceLemmas.{bones, past, coded_structure, written_structure, bones_append, past_adds, past_counts, dropped, count, front_structure}
+use Rattle.wrapped_code.proofs.PlaceLemmas.{bones, past, coded_structure, written_structure, bones_append, past_adds, past_counts, dropped}
+use Rattle.wrapped_code.proofs.PlaceLemmas.{count, front_structure}
 use Rattle.wrapped_code.proofs.MovedLemmas.{moved, moved_before, moved_behind, drop_behind}
 use Rattle.wrapped_code.proofs.StepLemmas.{step_wider, innermost_wider, coded_check}
 use Rattle.wrapped_code.proofs.TableLemmas.{no_tables}

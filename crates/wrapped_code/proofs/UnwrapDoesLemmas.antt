@@ -6,15 +6,15 @@ use Rattle.wasm_code.specs.declared.operator.Operator.{Operator}
 use Rattle.wasm_code.specs.declared.operator.Operator.TheVariants as op
 use Rattle.wasm_types.specs.Module.{Module}
 use Rattle.wasm_types.specs.declared.types.PrimitiveTypeInfo.{PrimitiveTypeInfo}
-use Rattle.peephole_machine.specs.Values.{Context}
-use Rattle.peephole_programs.specs.control.Function.{structural, EndsAlike}
-use Rattle.peephole_programs.specs.modules.Program.{Body, context_for}
-use Rattle.peephole_programs.specs.control.Standard.{Beyond, by_asked, standard}
-use Rattle.peephole_programs.specs.validation.Sound.{ValidCodeRuns, IsValid, HasTargets, HasDeeds, TargetsStay, DeedsStay}
-use Rattle.peephole_programs.specs.validation.StaysValid.{MoreGlobalsCheckAlike}
-use Rattle.peephole_programs.specs.control.Wider.{wider_module, wider}
-use Rattle.peephole_programs.specs.control.Laws.{StandardControlIsSound}
-use Rattle.peephole_programs.specs.hosts.Embedder.{DoesAs}
+use Rattle.wasm_execution.specs.Values.{Context}
+use Rattle.wasm_equivalence.specs.control.Function.{structural, EndsAlike}
+use Rattle.wasm_equivalence.specs.modules.Program.{Body, function_context}
+use Rattle.wasm_equivalence.specs.control.Standard.{Beyond, by_asked, standard}
+use Rattle.wasm_equivalence.specs.validation.Sound.{ValidCodeRuns, IsValid, HasTargets, HasDeeds, TargetsStay, DeedsStay}
+use Rattle.wasm_equivalence.specs.validation.StaysValid.{MoreGlobalsCheckAlike}
+use Rattle.wasm_equivalence.specs.control.Wider.{wider_module, wider}
+use Rattle.wasm_equivalence.specs.control.Laws.{StandardControlIsSound}
+use Rattle.wasm_equivalence.specs.hosts.Embedder.{DoesAs}
 use Rattle.wrapped_code.specs.Wrapped.{written}
 use Rattle.wrapped_code.specs.Handlers.{none_handle}
 use Rattle.wrapped_code.specs.Laws.{Unwraps, UnwrappedCodeDoes}
@@ -30,7 +30,7 @@ use Rattle.wrapped_code.proofs.UncheckLemmas.{unwrapped_valid}
 module _ (law : StandardControlIsSound) (alike_law : MoreGlobalsCheckAlike) (targets_stay : TargetsStay) (deeds_stay : DeedsStay)
     (valid_law : ValidCodeRuns) (m : Module) (input : List ℕ) (old new : Body) (w : Unwraps m input old new) where
   abbrev context : Context
-  context = context_for m old
+  context = function_context m old
 
   abbrev old_body : List Operator
   old_body = w.front ++ written w.code w.back

@@ -9,15 +9,15 @@ use Rattle.wasm_code.specs.declared.operator.Operator.TheVariants as op
 use Rattle.wasm_code.specs.Table.{row_at, table}
 use Rattle.wasm_types.specs.Module.{Module}
 use Rattle.wasm_types.specs.declared.types.PrimitiveTypeInfo.TheVariants as primitive
-use Rattle.peephole_machine.specs.Values.{context_in}
-use Rattle.peephole_machine.specs.IntegerRow.{integer_row}
-use Rattle.peephole_machine.specs.SameLemmas.{run_follows}
-use Rattle.peephole_programs.specs.control.Function.{structural}
-use Rattle.peephole_programs.specs.control.Standard.{Beyond}
-use Rattle.peephole_programs.specs.modules.Program.{Body}
-use Rattle.peephole_programs.specs.validation.Algorithm.{check}
-use Rattle.peephole_programs.specs.validation.StandardSteps.{body_frame, standard_steps}
-use Rattle.peephole_programs.specs.validation.StaysValid.{Pushes, TypedCodePushes}
+use Rattle.wasm_execution.specs.Values.{context_in}
+use Rattle.wasm_execution.specs.IntegerRow.{integer_row}
+use Rattle.wasm_execution.specs.SameLemmas.{run_follows}
+use Rattle.wasm_equivalence.specs.control.Function.{structural}
+use Rattle.wasm_equivalence.specs.control.Standard.{Beyond}
+use Rattle.wasm_equivalence.specs.modules.Program.{Body}
+use Rattle.wasm_equivalence.specs.validation.Algorithm.{check}
+use Rattle.wasm_equivalence.specs.validation.StandardSteps.{body_frame, standard_steps}
+use Rattle.wasm_equivalence.specs.validation.StaysValid.{Pushes, TypedCodePushes}
 use Rattle.wrapped_code.specs.Wrapped.{Wrapped, plain, written, has_operators, WrappedRunsAs}
 use Rattle.wrapped_code.specs.Ways.{is_left}
 use Rattle.wrapped_code.specs.Laws.{Unwraps}

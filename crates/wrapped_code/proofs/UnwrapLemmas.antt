@@ -10,17 +10,18 @@ use Rattle.wasm_code.specs.declared.operator.Operator.{Operator}
 use Rattle.wasm_code.specs.declared.operator.Operator.TheVariants as op
 use Rattle.wasm_types.specs.Module.{Module}
 use Rattle.wasm_types.specs.declared.types.PrimitiveTypeInfo.{PrimitiveTypeInfo}
-use Rattle.peephole_machine.specs.Values.{Value, IsValue, Context, State, HasTypes, Outcome, Ends, Traps, Stuck}
-use Rattle.peephole_machine.specs.Machine.{run}
-use Rattle.peephole_machine.specs.Agreement.{with_globals}
-use Rattle.peephole_machine.specs.Laws.{Keeps}
-use Rattle.peephole_machine.specs.StateLemmas.{none_of, with_more}
-use Rattle.peephole_machine.specs.TypeLemmas.{run_keeps}
-use Rattle.peephole_programs.specs.control.Function.{structural, piece, Label, Reached, Done, Control, go_on, pass, visit, visits, lap, FollowsEnd, IsTyped, EndsAlike, At, runs}
-use Rattle.peephole_programs.specs.control.Standard.{Beyond, standard, by_asked}
-use Rattle.peephole_programs.specs.control.Laws.{StandardControlIsSound}
-use Rattle.peephole_programs.specs.validation.Sound.{ValidCodeRuns}
-use Rattle.peephole_programs.specs.validation.StaysValid.{Pushes}
+use Rattle.wasm_execution.specs.Values.{Value, IsValue, Context, State, HasTypes, Outcome, Ends, Traps, Stuck}
+use Rattle.wasm_execution.specs.Machine.{run}
+use Rattle.wasm_execution.specs.Agreement.{with_globals}
+use Rattle.wasm_execution.specs.Laws.{Keeps}
+use Rattle.wasm_execution.specs.StateLemmas.{none_of, with_more}
+use Rattle.wasm_execution.specs.TypeLemmas.{run_keeps}
+use Rattle.wasm_equivalence.specs.control.Function.{structural, piece, Label, Reached, Done, Control, go_on, pass, visit, visits, lap}
+use Rattle.wasm_equivalence.specs.control.Function.{FollowsEnd, IsTyped, EndsAlike, At, runs}
+use Rattle.wasm_equivalence.specs.control.Standard.{Beyond, standard, by_asked}
+use Rattle.wasm_equivalence.specs.control.Laws.{StandardControlIsSound}
+use Rattle.wasm_equivalence.specs.validation.Sound.{ValidCodeRuns}
+use Rattle.wasm_equivalence.specs.validation.StaysValid.{Pushes}
 use Rattle.wrapped_code.specs.Wrapped.{Wrapped, written, run_wrapped, WrappedRunsAs}
 use Rattle.wrapped_code.proofs.PlaceLemmas.{past, count}
 use Rattle.wrapped_code.proofs.VisitLemmas.{visits_past, visits_split, visit_not, visit_at}

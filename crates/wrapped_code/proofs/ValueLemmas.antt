@@ -6,16 +6,16 @@ use Rattle.std.proofs.Math.Nat.{mod-eq_of_lt}
 use Rattle.std.proofs.lemmas.List.{take_at, drop_at, length-append}
 use Rattle.wasm_code.specs.Instruction.{Instruction}
 use Rattle.wasm_types.specs.declared.types.PrimitiveTypeInfo.{PrimitiveTypeInfo}
-use Rattle.peephole_machine.specs.declared.integer.IntegerType.TheVariants as integer
-use Rattle.peephole_machine.specs.Values.{Value, IsValue, types, whole, Context, State, HasTypes, Outcome, Ends, Stuck}
-use Rattle.peephole_machine.specs.IntegerRow.{constant, integer_row}
-use Rattle.peephole_machine.specs.Machine.{step, run}
-use Rattle.peephole_machine.specs.Agreement.{with_globals}
-use Rattle.peephole_machine.specs.OutcomeLemmas.{run_one}
-use Rattle.peephole_machine.specs.RowLemmas.{step_at}
-use Rattle.peephole_machine.specs.StateLemmas.{with_more}
-use Rattle.peephole_machine.specs.SameLemmas.{run_follows}
-use Rattle.peephole_programs.specs.control.Standard.{last_of}
+use Rattle.wasm_execution.specs.declared.integer.IntegerType.TheVariants as integer
+use Rattle.wasm_execution.specs.Values.{Value, IsValue, types, whole, Context, State, HasTypes, Outcome, Ends, Stuck}
+use Rattle.wasm_execution.specs.IntegerRow.{constant, integer_row}
+use Rattle.wasm_execution.specs.Machine.{step, run}
+use Rattle.wasm_execution.specs.Agreement.{with_globals}
+use Rattle.wasm_execution.specs.OutcomeLemmas.{run_one}
+use Rattle.wasm_execution.specs.RowLemmas.{step_at}
+use Rattle.wasm_execution.specs.StateLemmas.{with_more}
+use Rattle.wasm_execution.specs.SameLemmas.{run_follows}
+use Rattle.wasm_equivalence.specs.control.Standard.{last_of}
 use Rattle.wrapped_code.specs.Ways.{IsPure}
 
 pub last_is : (xs : List Value) (v : Value) → last_of 1 (xs ++ v ∷ []) ≡ v ∷ []

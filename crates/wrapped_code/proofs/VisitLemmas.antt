@@ -5,9 +5,9 @@ use Rattle.std.proofs.lemmas.Bool.{eq-eqb, ne_eqb}
 use Rattle.wasm_code.specs.Instruction.{Instruction}
 use Rattle.wasm_code.specs.declared.operator.Operator.{Operator}
 use Rattle.wasm_code.specs.declared.operator.Operator.TheVariants as op
-use Rattle.peephole_machine.specs.Values.{Value, State, Outcome, Ends, Traps, Stuck, then_run}
-use Rattle.peephole_machine.specs.Machine.{run}
-use Rattle.peephole_programs.specs.control.Function.{piece, Label, Reached, Done, Control, go_on, pass, visit, visits, At}
+use Rattle.wasm_execution.specs.Values.{Value, State, Outcome, Ends, Traps, Stuck, then_run}
+use Rattle.wasm_execution.specs.Machine.{run}
+use Rattle.wasm_equivalence.specs.control.Function.{piece, Label, Reached, Done, Control, go_on, pass, visit, visits, At}
 use Rattle.wrapped_code.specs.Wrapped.{Wrapped, plain, both, block, loop, choice, leaving, exits, once, trap}
 use Rattle.wrapped_code.proofs.PlaceLemmas.{past, past_adds}
 

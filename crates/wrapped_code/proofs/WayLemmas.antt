@@ -1,5 +1,6 @@
 -- Which wrapped code runs as the instructions that it replaces.
-use Rattle.std.proofs.Common.{◌≡◌, ℕ, zero, suc, ◌-◌, Bool, true, false, List, [], ◌∷◌, ◌++◌, length, take, Some, None, refl, sym, ap, ap₂, ◌∙◌, subst, arith, append-nil, append_assoc}
+use Rattle.std.proofs.Common.{◌≡◌, ℕ, zero, suc, ◌-◌, Bool, true, false, List, [], ◌∷◌, ◌++◌, length, take, Some, None, refl, sym, ap, ap₂}
+use Rattle.std.proofs.Common.{◌∙◌, subst, arith, append-nil, append_assoc}
 use Rattle.std.specs.Prelude.{◌≢◌, ◌&&◌, ◌==◌, if◌then◌else◌}
 use Rattle.std.specs.List.{All}
 use Rattle.std.proofs.lemmas.Bool.{ne_eqb}
@@ -10,22 +11,22 @@ use Rattle.wasm_code.specs.declared.immediate.BlockType.{BlockType}
 use Rattle.wasm_types.specs.Module.{Module}
 use Rattle.wasm_types.specs.declared.types.PrimitiveTypeInfo.{PrimitiveTypeInfo}
 use Rattle.wasm_types.specs.declared.types.PrimitiveTypeInfo.TheVariants as primitive
-use Rattle.peephole_machine.specs.declared.integer.IntegerType.TheVariants as integer
-use Rattle.peephole_machine.specs.Values.{Value, IsValue, types, whole, Context, State, HasTypes, Outcome, Ends, Traps, Stuck, then_run, above}
-use Rattle.peephole_machine.specs.IntegerRow.{select, is_numeric, if_typed, row_types, integer_row}
-use Rattle.peephole_machine.specs.Machine.{context_of, step, run}
-use Rattle.peephole_machine.specs.Agreement.{with_globals, EndsTyped}
-use Rattle.peephole_machine.specs.Laws.{Keeps}
-use Rattle.peephole_machine.specs.OutcomeLemmas.{run_append, run_one, length_types}
-use Rattle.peephole_machine.specs.RowLemmas.{same_type_self, step_at, act_is}
-use Rattle.peephole_machine.specs.StateLemmas.{with_more, Follows}
-use Rattle.peephole_machine.specs.SameLemmas.{run_follows}
-use Rattle.peephole_machine.specs.TypeLemmas.{run_keeps}
-use Rattle.peephole_programs.specs.validation.Sound.{EndsIn, ValidCodeRuns}
-use Rattle.peephole_programs.specs.control.Blocks.{arity_of}
-use Rattle.peephole_programs.specs.control.Standard.{last_of, unwound}
-use Rattle.peephole_programs.specs.validation.Algorithm.{known, Frame}
-use Rattle.peephole_programs.specs.validation.StaysValid.{with_types, Pushes}
+use Rattle.wasm_execution.specs.declared.integer.IntegerType.TheVariants as integer
+use Rattle.wasm_execution.specs.Values.{Value, IsValue, types, whole, Context, State, HasTypes, Outcome, Ends, Traps, Stuck, then_run, above}
+use Rattle.wasm_execution.specs.IntegerRow.{select, is_numeric, if_typed, row_types, integer_row}
+use Rattle.wasm_execution.specs.Machine.{state_context, step, run}
+use Rattle.wasm_execution.specs.Agreement.{with_globals, EndsTyped}
+use Rattle.wasm_execution.specs.Laws.{Keeps}
+use Rattle.wasm_execution.specs.OutcomeLemmas.{run_append, run_one, length_types}
+use Rattle.wasm_execution.specs.RowLemmas.{same_type_self, step_at, act_is}
+use Rattle.wasm_execution.specs.StateLemmas.{with_more, Follows}
+use Rattle.wasm_execution.specs.SameLemmas.{run_follows}
+use Rattle.wasm_execution.specs.TypeLemmas.{run_keeps}
+use Rattle.wasm_equivalence.specs.validation.Sound.{EndsIn, ValidCodeRuns}
+use Rattle.wasm_equivalence.specs.control.Blocks.{arity_of}
+use Rattle.wasm_equivalence.specs.control.Standard.{last_of, unwound}
+use Rattle.wasm_equivalence.specs.validation.Algorithm.{known, Frame}
+use Rattle.wasm_equivalence.specs.validation.StaysValid.{with_types, Pushes}
 use Rattle.wrapped_code.specs.Wrapped.{once, Wrapped, plain, both, choice, exits, picked_by, picked, run_wrapped, WrappedRunsAs}
 use Rattle.wrapped_code.specs.Ways.{IsPure, IsAlone, LeavesValue, WrappedCodeRuns}
 use Rattle.wrapped_code.proofs.ValueLemmas.{last_is, front_is, small_is, run_constant, pure_more}
@@ -186,8 +187,8 @@ pub run_select : (context : Context) (pick : Instruction) (t : PrimitiveTypeInfo
 run_select context pick t stack vx vy vc s is_select numeric tx ty tc =
     let list : ((stack ++ vx ∷ []) ++ vy ∷ []) ++ vc ∷ [] ≡ stack ++ vx ∷ vy ∷ vc ∷ [] =
     append_assoc (stack ++ vx ∷ []) (vy ∷ []) (vc ∷ []) ∙ append_assoc stack (vx ∷ []) (vy ∷ vc ∷ []) in
-    let typed : row_types (context_of s) select (types (vx ∷ vy ∷ vc ∷ [])) ≡ Some (t ∷ []) =
-    ap₂ (λ (p : PrimitiveTypeInfo × PrimitiveTypeInfo) (q : PrimitiveTypeInfo). row_types (context_of s) select (p.0 ∷ p.1 ∷ q ∷ []))
+    let typed : row_types (state_context s) select (types (vx ∷ vy ∷ vc ∷ [])) ≡ Some (t ∷ []) =
+    ap₂ (λ (p : PrimitiveTypeInfo × PrimitiveTypeInfo) (q : PrimitiveTypeInfo). row_types (state_context s) select (p.0 ∷ p.1 ∷ q ∷ []))
     (ap₂ (λ (p q : PrimitiveTypeInfo). (p, q)) tx ty) tc ∙
     ap₂ (λ (p q : Bool). if_typed (p && (q && true)) (t ∷ [])) numeric (same_type_self t) in
     run_one pick select (((stack ++ vx ∷ []) ++ vy ∷ []) ++ vc ∷ []) s is_select ∙

@@ -10,20 +10,23 @@ use Rattle.wasm_code.specs.declared.operator.Operator.{Operator}
 use Rattle.wasm_code.specs.declared.operator.Operator.TheVariants as op
 use Rattle.wasm_types.specs.Module.{Module}
 use Rattle.wasm_types.specs.declared.types.PrimitiveTypeInfo.{PrimitiveTypeInfo}
-use Rattle.peephole_machine.specs.Values.{Value, IsValue, types, Context, State, HasTypes, Outcome, Ends, Traps, Stuck}
-use Rattle.peephole_machine.specs.Machine.{run}
-use Rattle.peephole_machine.specs.Agreement.{with_globals}
-use Rattle.peephole_machine.specs.Laws.{Keeps}
-use Rattle.peephole_machine.specs.OutcomeLemmas.{run_append}
-use Rattle.peephole_machine.specs.StateLemmas.{with_more, Follows}
-use Rattle.peephole_machine.specs.SameLemmas.{run_follows}
-use Rattle.peephole_machine.specs.TypeLemmas.{run_keeps}
-use Rattle.peephole_programs.specs.control.Function.{structural, piece, Label, Reached, Done, Control, go_on, pass, visit, visits, lap, reached_with, FollowsEnd, IsTyped, IsSoundControl, EndsAlike, At, runs}
-use Rattle.peephole_programs.specs.control.Standard.{Beyond, standard, by_asked}
-use Rattle.peephole_programs.specs.control.Blocks.{closing, other_part}
-use Rattle.peephole_programs.specs.control.Laws.{StandardControlIsSound}
+use Rattle.wasm_execution.specs.Values.{Value, IsValue, types, Context, State, HasTypes, Outcome, Ends, Traps, Stuck}
+use Rattle.wasm_execution.specs.Machine.{run}
+use Rattle.wasm_execution.specs.Agreement.{with_globals}
+use Rattle.wasm_execution.specs.Laws.{Keeps}
+use Rattle.wasm_execution.specs.OutcomeLemmas.{run_append}
+use Rattle.wasm_execution.specs.StateLemmas.{with_more, Follows}
+use Rattle.wasm_execution.specs.SameLemmas.{run_follows}
+use Rattle.wasm_execution.specs.TypeLemmas.{run_keeps}
+use Rattle.wasm_equivalence.specs.control.Function.{structural, piece, Label, Reached, Done, Control, go_on, pass, visit, visits, lap}
+use Rattle.wasm_equivalence.specs.control.Function.{reached_with, FollowsEnd, IsTyped, IsSoundControl, EndsAlike, At, runs}
+use Rattle.wasm_equivalence.specs.control.Standard.{Beyond, standard, by_asked}
+use Rattle.wasm_equivalence.specs.control.Blocks.{closing, other_part}
+use Rattle.wasm_equivalence.specs.control.Laws.{StandardControlIsSound}
 use Rattle.wrapped_code.specs.Wrapped.{Wrapped, written, run_wrapped, WrappedRunsAs}
-use Rattle.wrapped_code.proofs.PlaceLemmas.{bones, past, coded_structure, written_structure, bones_append, past_adds, past_counts, closing_past, other_past, IsBehind, coded_behind, written_behind, count, front_behind, front_structure, front_piece, last_piece}
+use Rattle.wrapped_code.proofs.PlaceLemmas.{bones, past, coded_structure, written_structure, bones_append, past_adds, past_counts}
+use Rattle.wrapped_code.proofs.PlaceLemmas.{closing_past, other_past, IsBehind, coded_behind, written_behind, count, front_behind}
+use Rattle.wrapped_code.proofs.PlaceLemmas.{front_structure, front_piece, last_piece}
 use Rattle.wrapped_code.proofs.VisitLemmas.{coded_first, go_then, visits_past, visits_split, past_done, visit_not, visit_at, past_skip}
 use Rattle.wrapped_code.proofs.RunLemmas.{through}
 use Rattle.wrapped_code.proofs.MovedLemmas.{moved, moved_piece, moved_labels, moved_reached, moved_before, moved_behind, piece_before, piece_behind}

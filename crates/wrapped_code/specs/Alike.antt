@@ -3,8 +3,8 @@ use Rattle.std.specs.Prelude.{◌≡◌, ◌≢◌, ℕ, List, [], ◌∷◌, �
 use Rattle.std.specs.List.{All}
 use Rattle.wasm_code.specs.Instruction.{Instruction}
 use Rattle.wasm_types.specs.declared.types.PrimitiveTypeInfo.TheVariants as primitive
-use Rattle.peephole_machine.specs.Values.{Value, IsValue, Context, State, HasTypes, Outcome, Ends, Traps, Stuck}
-use Rattle.peephole_machine.specs.Machine.{run}
+use Rattle.wasm_execution.specs.Values.{Value, IsValue, Context, State, HasTypes, Outcome, Ends, Traps, Stuck}
+use Rattle.wasm_execution.specs.Machine.{run}
 
 -- Both stacks are the same below their last values, which are numbers of 32 bits that are alike.
 pub record EndAs (Alike : ℕ → ℕ → Type 0) (vs us : List Value) : Type 0 where

@@ -5,14 +5,14 @@ use Rattle.wasm_code.specs.declared.operator.Operator.{Operator}
 use Rattle.wasm_code.specs.declared.operator.Operator.TheVariants.{Instr, BrIf, If}
 use Rattle.wasm_types.specs.Module.{Module}
 use Rattle.wasm_types.specs.declared.types.PrimitiveTypeInfo.TheVariants as primitive
-use Rattle.peephole_machine.specs.declared.integer.IntegerType.TheVariants as integer
-use Rattle.peephole_machine.specs.Integer.{compare, eqz, ne}
-use Rattle.peephole_machine.specs.Values.{Context}
-use Rattle.peephole_machine.specs.IntegerRow.{constant, operation, integer_row}
-use Rattle.peephole_programs.specs.control.Function.{RunsAs}
-use Rattle.peephole_programs.specs.hosts.Embedder.{DoesAs}
-use Rattle.peephole_programs.specs.modules.Program.{Body, context_for}
-use Rattle.peephole_programs.specs.validation.StaysValid.{Pushes}
+use Rattle.wasm_execution.specs.declared.integer.IntegerType.TheVariants as integer
+use Rattle.wasm_execution.specs.Integer.{compare, eqz, ne}
+use Rattle.wasm_execution.specs.Values.{Context}
+use Rattle.wasm_execution.specs.IntegerRow.{constant, operation, integer_row}
+use Rattle.wasm_equivalence.specs.control.Function.{RunsAs}
+use Rattle.wasm_equivalence.specs.hosts.Embedder.{DoesAs}
+use Rattle.wasm_equivalence.specs.modules.Program.{Body, function_context}
+use Rattle.wasm_equivalence.specs.validation.StaysValid.{Pushes}
 use Rattle.wrapped_code.specs.Alike.{SameAs}
 
 -- ---- conditions
@@ -46,9 +46,9 @@ pub record Reconditions (m : Module) (input : List ℕ) (old new : Body) : Type 
   pub asks : is_condition branch ≡ true
   pub old_is : old.operators ≡ front ++ (map (λ (i : Instruction). Instr i) own ++ branch ∷ back)
   pub new_is : new.operators ≡ front ++ (map (λ (i : Instruction). Instr i) code ++ branch ∷ back)
-  pub pushes : Pushes (context_for m old) own [] (primitive.I32 ∷ [])
-  pub pushes_so : Pushes (context_for m old) code [] (primitive.I32 ∷ [])
-  pub truth : SameTruth (context_for m old) own code
+  pub pushes : Pushes (function_context m old) own [] (primitive.I32 ∷ [])
+  pub pushes_so : Pushes (function_context m old) code [] (primitive.I32 ∷ [])
+  pub truth : SameTruth (function_context m old) own code
 
 -- Such a function does as the old one.
 abbrev pub ConditionsMayChange : Type 0

@@ -4,9 +4,9 @@ use Rattle.wasm_code.specs.Instruction.{Instruction}
 use Rattle.wasm_code.specs.declared.operator.Operator.{Operator}
 use Rattle.wasm_code.specs.declared.operator.Operator.TheVariants.{Instr, Br, BrTable, Return, Unreachable}
 use Rattle.wasm_types.specs.Module.{Module}
-use Rattle.peephole_programs.specs.hosts.Embedder.{DoesAs}
-use Rattle.peephole_programs.specs.modules.Program.{Body, context_for}
-use Rattle.peephole_programs.specs.validation.StaysValid.{Pushes}
+use Rattle.wasm_equivalence.specs.hosts.Embedder.{DoesAs}
+use Rattle.wasm_equivalence.specs.modules.Program.{Body, function_context}
+use Rattle.wasm_equivalence.specs.validation.StaysValid.{Pushes}
 use Rattle.wrapped_code.specs.Handlers.{none_handle}
 
 -- `br`, `br_table`, `return` and `unreachable`: the instructions behind such an operator, up to the next structural one, are never reached
@@ -31,8 +31,8 @@ pub record ChangesDead (m : Module) (input : List ℕ) (old new : Body) : Type 0
   pub leaves : never_goes_on leave ≡ true
   pub old_is : old.operators ≡ front ++ (leave ∷ (map (λ (i : Instruction). Instr i) own ++ back))
   pub new_is : new.operators ≡ front ++ (leave ∷ (map (λ (i : Instruction). Instr i) code ++ back))
-  pub pushes : Pushes (context_for m old) own [] []
-  pub pushes_so : Pushes (context_for m old) code [] []
+  pub pushes : Pushes (function_context m old) own [] []
+  pub pushes_so : Pushes (function_context m old) code [] []
 
 -- Such a function does as the old one.
 abbrev pub DeadCodeMayChange : Type 0

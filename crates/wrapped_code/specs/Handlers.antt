@@ -4,7 +4,7 @@ use Rattle.std.specs.Prelude.{◌≡◌, ℕ, Bool, true, false, ◌&&◌, not, 
 use Rattle.wasm_code.specs.Body.{SpellsAll}
 use Rattle.wasm_code.specs.declared.operator.Operator.{Operator}
 use Rattle.wasm_code.specs.declared.operator.Operator.TheVariants as op
-use Rattle.peephole_programs.specs.control.Blocks.{Role, handles, tries, role_of}
+use Rattle.wasm_equivalence.specs.control.Blocks.{Role, handles, tries, role_of}
 
 -- a `try_table`, or the older `try`
 abbrev pub handles_by : Role → Bool

@@ -6,14 +6,14 @@ use Rattle.wasm_code.specs.declared.operator.Operator.{Operator}
 use Rattle.wasm_code.specs.declared.operator.Operator.TheVariants.{Instr, BrTable}
 use Rattle.wasm_types.specs.Module.{Module}
 use Rattle.wasm_types.specs.declared.types.PrimitiveTypeInfo.TheVariants as primitive
-use Rattle.peephole_machine.specs.declared.integer.IntegerType.TheVariants as integer
-use Rattle.peephole_machine.specs.Integer.{compare, lt_u}
-use Rattle.peephole_machine.specs.Values.{Context}
-use Rattle.peephole_machine.specs.IntegerRow.{constant, operation, select, integer_row}
-use Rattle.peephole_programs.specs.control.Standard.{label_at}
-use Rattle.peephole_programs.specs.hosts.Embedder.{DoesAs}
-use Rattle.peephole_programs.specs.modules.Program.{Body, context_for}
-use Rattle.peephole_programs.specs.validation.StaysValid.{Pushes}
+use Rattle.wasm_execution.specs.declared.integer.IntegerType.TheVariants as integer
+use Rattle.wasm_execution.specs.Integer.{compare, lt_u}
+use Rattle.wasm_execution.specs.Values.{Context}
+use Rattle.wasm_execution.specs.IntegerRow.{constant, operation, select, integer_row}
+use Rattle.wasm_equivalence.specs.control.Standard.{label_at}
+use Rattle.wasm_equivalence.specs.hosts.Embedder.{DoesAs}
+use Rattle.wasm_equivalence.specs.modules.Program.{Body, function_context}
+use Rattle.wasm_equivalence.specs.validation.StaysValid.{Pushes}
 use Rattle.wrapped_code.specs.Alike.{SameAs}
 use Rattle.wrapped_code.specs.Ways.{code_changes}
 
@@ -33,9 +33,9 @@ pub record Reindexes (m : Module) (input : List ℕ) (old new : Body) : Type 0 w
   pub count : ℕ
   pub old_is : old.operators ≡ front ++ (map (λ (i : Instruction). Instr i) own ++ BrTable count ∷ back)
   pub new_is : new.operators ≡ front ++ (map (λ (i : Instruction). Instr i) code ++ BrTable count ∷ back)
-  pub pushes : Pushes (context_for m old) own [] (primitive.I32 ∷ [])
-  pub pushes_so : Pushes (context_for m old) code [] (primitive.I32 ∷ [])
-  pub same : SameAs (LabelAlike count) (context_for m old) own code
+  pub pushes : Pushes (function_context m old) own [] (primitive.I32 ∷ [])
+  pub pushes_so : Pushes (function_context m old) code [] (primitive.I32 ∷ [])
+  pub same : SameAs (LabelAlike count) (function_context m old) own code
 
 -- Such a function does as the old one.
 abbrev pub IndicesMayChange : Type 0

@@ -7,13 +7,13 @@ use Rattle.wasm_code.specs.declared.operator.Operator.{Operator}
 use Rattle.wasm_code.specs.declared.operator.Operator.TheVariants.{Instr, Block, Loop, End}
 use Rattle.wasm_types.specs.Module.{Module, merged}
 use Rattle.wasm_types.specs.declared.types.PrimitiveTypeInfo.{PrimitiveTypeInfo}
-use Rattle.peephole_machine.specs.OtherRow.{value_type}
-use Rattle.peephole_programs.specs.hosts.Embedder.{Embedder, IsSoundEmbedder, Functions, Beyonds, running, AreValid, DoesAs, with_operators, with_function}
-use Rattle.peephole_programs.specs.control.Function.{RunsAs}
-use Rattle.peephole_programs.specs.modules.Running.{DoesMore}
-use Rattle.peephole_programs.specs.modules.Program.{Body, context_for}
-use Rattle.peephole_programs.specs.validation.StaysValid.{Pushes}
-use Rattle.peephole_programs.specs.control.Wider.{wider_module, wider}
+use Rattle.wasm_execution.specs.OtherRow.{value_type}
+use Rattle.wasm_equivalence.specs.hosts.Embedder.{Embedder, IsSoundEmbedder, Functions, Beyonds, running, AreValid, DoesAs, with_operators, with_function}
+use Rattle.wasm_equivalence.specs.control.Function.{RunsAs}
+use Rattle.wasm_equivalence.specs.modules.Running.{DoesMore}
+use Rattle.wasm_equivalence.specs.modules.Program.{Body, function_context}
+use Rattle.wasm_equivalence.specs.validation.StaysValid.{Pushes}
+use Rattle.wasm_equivalence.specs.control.Wider.{wider_module, wider}
 use Rattle.wrapped_code.specs.Wrapped.{Wrapped, written, has_operators, WrappedRunsAs, WrappedChecksAs}
 use Rattle.wrapped_code.specs.Ways.{WrappedPushes}
 use Rattle.wrapped_code.specs.Handlers.{none_handle}
@@ -32,8 +32,8 @@ pub record Wraps (m : Module) (input : List ℕ) (more : List PrimitiveTypeInfo)
   pub code : Wrapped
   pub old_is : old.operators ≡ front ++ (map (λ (i : Instruction). Instr i) (head ∷ own) ++ back)
   pub new_is : new.operators ≡ front ++ written code back
-  pub runs : WrappedRunsAs (context_for m old) more (head ∷ own) code
-  pub checks : WrappedChecksAs (context_for m old) (wider input more (context_for m old)) (head ∷ own) code
+  pub runs : WrappedRunsAs (function_context m old) more (head ∷ own) code
+  pub checks : WrappedChecksAs (function_context m old) (wider input more (function_context m old)) (head ∷ own) code
 
 -- Such a function does as the old one: it comes to the same end, is valid where that is, its calls through tables come to functions of their types, and
 -- its other operators to what is of their types.
@@ -62,9 +62,9 @@ ValuesInBlocks =
     (m : Module) (input : List ℕ) (more : List PrimitiveTypeInfo) (old : Body) (front back : List Operator) (head : Instruction)
     (own code : List Instruction) (t : ValType) → none_handle old.operators ≡ true →
     old.operators ≡ front ++ (map (λ (i : Instruction). Instr i) (head ∷ own) ++ back) →
-    Pushes (context_for m old) (head ∷ own) [] (merged m.one_reference (value_type t) ∷ []) →
-    Pushes (wider input more (context_for m old)) code [] (merged m.one_reference (value_type t) ∷ []) →
-    RunsAs (context_for m old) more (head ∷ own) code →
+    Pushes (function_context m old) (head ∷ own) [] (merged m.one_reference (value_type t) ∷ []) →
+    Pushes (wider input more (function_context m old)) code [] (merged m.one_reference (value_type t) ∷ []) →
+    RunsAs (function_context m old) more (head ∷ own) code →
     DoesAs m input more old
     (with_operators (front ++ (Block (Value t) ∷ (map (λ (i : Instruction). Instr i) code ++ (End ∷ back)))) old)
     × DoesAs m input more old
@@ -87,9 +87,9 @@ pub record Unwraps (m : Module) (input : List ℕ) (old new : Body) : Type 0 whe
   pub old_is : old.operators ≡ front ++ written code back
   pub new_is : new.operators ≡ front ++ (map (λ (i : Instruction). Instr i) (head ∷ own) ++ back)
   pub pushed : List PrimitiveTypeInfo
-  pub pushes : Pushes (context_for m old) (head ∷ own) [] pushed
-  pub pushes_so : WrappedPushes (context_for m old) code [] pushed
-  pub runs : WrappedRunsAs (context_for m old) [] (head ∷ own) code
+  pub pushes : Pushes (function_context m old) (head ∷ own) [] pushed
+  pub pushes_so : WrappedPushes (function_context m old) code [] pushed
+  pub runs : WrappedRunsAs (function_context m old) [] (head ∷ own) code
 
 -- Such a function does as the old one: what pushes types from nothing is never stuck there, so that neither function is where the other isn't.
 abbrev pub UnwrappedCodeDoes : Type 0

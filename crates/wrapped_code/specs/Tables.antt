@@ -3,11 +3,11 @@ use Rattle.std.specs.Prelude.{◌≡◌, ℕ, zero, suc, Bool, true, false, List
 use Rattle.wasm_code.specs.declared.operator.Operator.{Operator}
 use Rattle.wasm_types.specs.Module.{Module}
 use Rattle.wasm_types.specs.declared.types.PrimitiveTypeInfo.{PrimitiveTypeInfo}
-use Rattle.peephole_machine.specs.Values.{Value, State}
-use Rattle.peephole_programs.specs.control.Function.{Label}
-use Rattle.peephole_programs.specs.control.Standard.{Beyond, standard, asks_beyond, by_asked}
-use Rattle.peephole_programs.specs.validation.StandardSteps.{standard_steps}
-use Rattle.peephole_programs.specs.validation.Algorithm.{Frame}
+use Rattle.wasm_execution.specs.Values.{Value, State}
+use Rattle.wasm_equivalence.specs.control.Function.{Label}
+use Rattle.wasm_equivalence.specs.control.Standard.{Beyond, standard, asks_beyond, by_asked}
+use Rattle.wasm_equivalence.specs.validation.StandardSteps.{standard_steps}
+use Rattle.wasm_equivalence.specs.validation.Algorithm.{Frame}
 
 -- zero at the first such operator; one further otherwise
 abbrev pub suc_unless : Bool → (j : ℕ) → (later : ℕ → ℕ) → ℕ
@@ -16,9 +16,9 @@ suc_unless true (suc j) later = later j
 suc_unless false j later = later j
 
 -- the number, among all structural operators, of the j-th that asks what it doesn't carry; behind the last of these any
-abbrev pub place_of : List Operator → (j : ℕ) → ℕ
-place_of [] j = 0
-place_of (o ∷ os) j = suc_unless (asks_beyond o) j (λ i. suc (place_of os i))
+abbrev pub asking_place_of : List Operator → (j : ℕ) → ℕ
+asking_place_of [] j = 0
+asking_place_of (o ∷ os) j = suc_unless (asks_beyond o) j (λ i. suc (asking_place_of os i))
 
 -- What the operators of a body don't carry, given by all their numbers, may be given by those among operators that ask it: the control and the steps of
 -- validation are the same.

@@ -5,19 +5,20 @@ use Rattle.wasm_code.specs.Instruction.{Instruction}
 use Rattle.wasm_code.specs.declared.immediate.BlockType.{BlockType}
 use Rattle.wasm_types.specs.declared.types.PrimitiveTypeInfo.{PrimitiveTypeInfo}
 use Rattle.wasm_types.specs.declared.types.PrimitiveTypeInfo.TheVariants as primitive
-use Rattle.peephole_machine.specs.declared.integer.IntegerType.{IntegerType}
-use Rattle.peephole_machine.specs.declared.integer.IntegerType.TheVariants as integer
-use Rattle.peephole_machine.specs.Integer.{IntegerOperator}
-use Rattle.peephole_machine.specs.OtherRow.{changes}
-use Rattle.peephole_machine.specs.Agreement.{EndsTyped}
-use Rattle.peephole_machine.specs.Values.{type_of, Value, IsValue, Context, State, Variable, local, global, HasTypes, Outcome, Ends, above}
-use Rattle.peephole_machine.specs.IntegerRow.{IntegerRow, constant, operation, get, set, tee, select, other, variable_type, is_numeric, integer_row}
-use Rattle.peephole_machine.specs.Machine.{run}
-use Rattle.peephole_programs.specs.control.Function.{RunsAs}
-use Rattle.peephole_programs.specs.control.Blocks.{arity_of, has_arity}
-use Rattle.peephole_programs.specs.validation.Algorithm.{Frame}
-use Rattle.peephole_programs.specs.validation.StaysValid.{with_types, Pushes}
-use Rattle.wrapped_code.specs.Wrapped.{Wrapped, has_operators, plain, both, block, loop, choice, leaving, exits, once, trap, check_wrapped, WrappedRunsAs, WrappedChecksAs}
+use Rattle.wasm_execution.specs.declared.integer.IntegerType.{IntegerType}
+use Rattle.wasm_execution.specs.declared.integer.IntegerType.TheVariants as integer
+use Rattle.wasm_execution.specs.Integer.{IntegerOperator}
+use Rattle.wasm_execution.specs.OtherRow.{changes}
+use Rattle.wasm_execution.specs.Agreement.{EndsTyped}
+use Rattle.wasm_execution.specs.Values.{type_of, Value, IsValue, Context, State, Variable, local, global, HasTypes, Outcome, Ends, above}
+use Rattle.wasm_execution.specs.IntegerRow.{IntegerRow, constant, operation, get, set, tee, select, other, variable_type, is_numeric, integer_row}
+use Rattle.wasm_execution.specs.Machine.{run}
+use Rattle.wasm_equivalence.specs.control.Function.{RunsAs}
+use Rattle.wasm_equivalence.specs.control.Blocks.{arity_of, has_arity}
+use Rattle.wasm_equivalence.specs.validation.Algorithm.{Frame}
+use Rattle.wasm_equivalence.specs.validation.StaysValid.{with_types, Pushes}
+use Rattle.wrapped_code.specs.Wrapped.{Wrapped, has_operators, plain, both, block, loop, choice, leaving, exits, once, trap, check_wrapped}
+use Rattle.wrapped_code.specs.Wrapped.{WrappedRunsAs, WrappedChecksAs}
 
 -- ---- types
 
@@ -128,16 +129,16 @@ same_variable (global i) (global j) = i == j
 same_variable x y = false
 
 -- the row may write the variable: a global also where it is no integer row, and may change more than the stack
-abbrev pub row_writes : Variable → IntegerRow → Bool
-row_writes x (set y) = same_variable x y
-row_writes x (tee y) = same_variable x y
-row_writes (global n) (other i) = changes i
-row_writes x row = false
+abbrev pub row_writes_variable : Variable → IntegerRow → Bool
+row_writes_variable x (set y) = same_variable x y
+row_writes_variable x (tee y) = same_variable x y
+row_writes_variable (global n) (other i) = changes i
+row_writes_variable x row = false
 
 -- one of the instructions may
 abbrev pub code_writes : Variable → List Instruction → Bool
 code_writes x [] = false
-code_writes x (i ∷ code) = row_writes x (integer_row i) || code_writes x code
+code_writes x (i ∷ code) = row_writes_variable x (integer_row i) || code_writes x code
 
 -- the row may change more than the stack: a variable, or what a world does
 abbrev pub row_changes : IntegerRow → Bool

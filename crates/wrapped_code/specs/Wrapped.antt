@@ -1,6 +1,7 @@
 -- Code that stands between two places of a body, with blocks, loops and conditionals of its own: how it is written, run, and checked
 -- (WebAssembly Core Specification 3.0, Execution, Instructions, Control Instructions, and Appendix, Validation Algorithm; the form: this project).
-use Rattle.std.specs.Prelude.{◌≡◌, ◌≢◌, ℕ, zero, suc, ◌-◌, Bool, true, false, ◌||◌, List, [], ◌∷◌, ◌++◌, length, map, take, Option, Some, option_map, option_and_then, slice_get}
+use Rattle.std.specs.Prelude.{◌≡◌, ◌≢◌, ℕ, zero, suc, ◌-◌, Bool, true, false, ◌||◌, List, [], ◌∷◌, ◌++◌, length, map, take, Option, Some}
+use Rattle.std.specs.Prelude.{option_map, option_and_then, slice_get}
 use Rattle.std.specs.List.{All}
 use Rattle.wasm_code.specs.Instruction.{Instruction}
 use Rattle.wasm_code.specs.declared.immediate.BlockType.{BlockType}
@@ -9,14 +10,14 @@ use Rattle.wasm_code.specs.declared.operator.Operator.TheVariants as op
 use Rattle.wasm_types.specs.Module.{Module}
 use Rattle.wasm_types.specs.declared.types.PrimitiveTypeInfo.{PrimitiveTypeInfo}
 use Rattle.wasm_types.specs.declared.types.PrimitiveTypeInfo.TheVariants as primitive
-use Rattle.peephole_machine.specs.Values.{Value, IsValue, types, Context, State, HasTypes, own_globals, unreachable, Outcome, Ends, Traps, Stuck, then_run}
-use Rattle.peephole_machine.specs.Machine.{run}
-use Rattle.peephole_machine.specs.Agreement.{with_globals}
-use Rattle.peephole_machine.specs.StateLemmas.{Follows}
-use Rattle.peephole_programs.specs.control.Blocks.{arity_of, has_arity}
-use Rattle.peephole_programs.specs.control.Standard.{last_of, unwound}
-use Rattle.peephole_programs.specs.validation.Algorithm.{Frame, check_code, on_innermost}
-use Rattle.peephole_programs.specs.validation.StandardSteps.{pop, push, cut_off, label_types, open_frame, close_frame, other_frame, only_where}
+use Rattle.wasm_execution.specs.Values.{Value, IsValue, types, Context, State, HasTypes, own_globals, unreachable, Outcome, Ends, Traps, Stuck, then_run}
+use Rattle.wasm_execution.specs.Machine.{run}
+use Rattle.wasm_execution.specs.Agreement.{with_globals}
+use Rattle.wasm_execution.specs.StateLemmas.{Follows}
+use Rattle.wasm_equivalence.specs.control.Blocks.{arity_of, has_arity}
+use Rattle.wasm_equivalence.specs.control.Standard.{last_of, unwound}
+use Rattle.wasm_equivalence.specs.validation.Algorithm.{Frame, check_code, on_innermost}
+use Rattle.wasm_equivalence.specs.validation.StandardSteps.{pop, push, cut_off, label_types, open_frame, close_frame, other_frame, only_where}
 
 -- Instructions; one behind another; a block, or a loop that is left at its end; a conditional with both parts; a block that is left by a branch to its end,
 -- with code behind the branch that is never reached; a block that may be left by a conditional branch to its end; a loop with a

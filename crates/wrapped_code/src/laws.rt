@@ -9,10 +9,10 @@ ghost use Rattle.wrapped_code.specs.Nested.{BranchesMayNest, BranchesMayUnnest};
 ghost use Rattle.wrapped_code.specs.Tables.{TablesLoseNothing};
 ghost use Rattle.wrapped_code.specs.Ways.{CodeIsAlone, PureCode, PushedCodeChecksAs, PushingCodeIsThere, WrappedCodePushes, WrappedCodeRuns};
 
-use peephole_programs::laws::{
+use wasm_equivalence::laws::{
     one_function_is_rewritten, standard_control_is_sound, valid_modules_do_more,
 };
-use peephole_programs::validity::{
+use wasm_equivalence::validity::{
     replaced_code_stays_valid, typed_rows_check, valid_bodies_stay_valid, valid_code_runs,
     validity_goes_by_types,
 };

@@ -4,7 +4,7 @@ ghost use Rattle.wasm_code.specs.Instruction.{Instruction};
 ghost use Rattle.wasm_types.specs.Module.{function_type};
 ghost use Rattle.body_changes.specs.Goals.{indexed};
 ghost use Rattle.body_changes.specs.Kinds.{HaveOneType};
-ghost use Rattle.body_changes.specs.Proposals.{context_at, count_in, is_row_of, named_in, AreAlike, IsAnother, IsNewAt, IsPlace, MakesOther};
+ghost use Rattle.body_changes.specs.Proposals.{context_at, indexed_count_in, is_row_of, named_in, IndexedAreOfOneType, IsAnother, IsNewAt, IsPlace, MakesOther};
 
 use crate::constants::instr;
 use crate::drawing::{named, word_at};
@@ -82,7 +82,7 @@ fn are_functions_of_one_type(info: &ModuleInfo<'_>, own: usize, other: usize) ->
 
 // How many there are.
 fn count_of(place: &Place<'_>, kind: Indexed) -> usize
-    ensures { result ≡ count_in (context_at place.now) kind }
+    ensures { result ≡ indexed_count_in (context_at place.now) kind }
 {
     let info = place.source.info;
     match kind {
@@ -94,7 +94,7 @@ fn count_of(place: &Place<'_>, kind: Indexed) -> usize
 
 // Whether both are there, and of one type.
 fn are_alike(place: &Place<'_>, kind: Indexed, own: usize, other: usize) -> bool
-    ensures { IsTrue result ↔ AreAlike (context_at place.now) kind own other }
+    ensures { IsTrue result ↔ IndexedAreOfOneType (context_at place.now) kind own other }
 {
     match kind {
         Indexed::Local => have_one_type(place.source.locals, own, other),

@@ -5,7 +5,7 @@ ghost use Rattle.wasm_types.specs.declared.types.PrimitiveTypeInfo.{PrimitiveTyp
 ghost use Rattle.body_changes.specs.declared.change.Change.TheVariants.{Constant};
 ghost use Rattle.body_changes.specs.Drawing.{bits_of};
 ghost use Rattle.body_changes.specs.Goals.{constant_by, constant_row, flipped, flipped_bits, width_of, IsConstantOf};
-ghost use Rattle.body_changes.specs.Kinds.{is_number, MakesConstant};
+ghost use Rattle.body_changes.specs.Kinds.{is_number_or_vector, MakesConstant};
 ghost use Rattle.body_changes.specs.Proposals.{operators_of, IsNewAt, IsPlace, NamesAt};
 
 use crate::constants::{constant, constant_row};
@@ -19,8 +19,8 @@ use wasm_types::PrimitiveTypeInfo;
 
 /// The type, where it is that of numbers or vectors.
 pub(crate) fn number_type(gives: Option<PrimitiveTypeInfo>) -> Option<PrimitiveTypeInfo>
-    ensures some { IfSome result (λ t. (gives ≡ Some t) × IsTrue (is_number t)) }
-    ensures none { IfNone result ((t : PrimitiveTypeInfo) → gives ≡ Some t → is_number t ≡ false) }
+    ensures some { IfSome result (λ t. (gives ≡ Some t) × IsTrue (is_number_or_vector t)) }
+    ensures none { IfNone result ((t : PrimitiveTypeInfo) → gives ≡ Some t → is_number_or_vector t ≡ false) }
 {
     match gives {
         Some(PrimitiveTypeInfo::FuncRef) => None,
@@ -33,7 +33,7 @@ pub(crate) fn number_type(gives: Option<PrimitiveTypeInfo>) -> Option<PrimitiveT
 
 /// Another constant of the type than that instruction: 0, or 1 where it is 0.
 pub(crate) fn distinct(t: PrimitiveTypeInfo, own: &Instr) -> Instr
-    requires { IsTrue (is_number t) }
+    requires { IsTrue (is_number_or_vector t) }
     ensures instruction { IsInstruction result }
     ensures row { result.row ≡ constant_row t }
     ensures typed { IsConstantOf t result }
@@ -49,7 +49,7 @@ pub(crate) fn distinct(t: PrimitiveTypeInfo, own: &Instr) -> Instr
 
 // That constant, or where the instruction is the same, another one.
 fn other_than(t: PrimitiveTypeInfo, own: &Instr, drawn: Instr) -> Instr
-    requires number { IsTrue (is_number t) }
+    requires number { IsTrue (is_number_or_vector t) }
     requires instruction { IsInstruction drawn }
     requires row { drawn.row ≡ constant_row t }
     ensures instruction { IsInstruction result }
@@ -100,7 +100,7 @@ fn flipped_bits(bits: u128, width: u64, word: u64) -> u128
 
 // The constant with those bits.
 fn constant_with(t: PrimitiveTypeInfo, bits: u128) -> Instr
-    requires { IsTrue (is_number t) }
+    requires { IsTrue (is_number_or_vector t) }
     ensures is { result ≡ constant_by t (bits % 2 ^ 64) (bits / 2 ^ 64) }
     ensures instruction { IsInstruction result }
 {
@@ -111,7 +111,7 @@ fn constant_with(t: PrimitiveTypeInfo, bits: u128) -> Instr
 
 // The constant with one bit flipped, which the word names.
 fn flipped(t: PrimitiveTypeInfo, own: &Instr, word: u64) -> Instr
-    requires { IsTrue (is_number t) }
+    requires { IsTrue (is_number_or_vector t) }
     ensures is { result ≡ flipped t own.now word }
     ensures instruction { IsInstruction result }
 {
@@ -120,7 +120,7 @@ fn flipped(t: PrimitiveTypeInfo, own: &Instr, word: u64) -> Instr
 
 // The constant that the words name by its kind; of the fifth kind it is the own one with one bit flipped.
 fn drawn_constant(t: PrimitiveTypeInfo, own: &Instr, words: Words) -> Instr
-    requires { IsTrue (is_number t) }
+    requires { IsTrue (is_number_or_vector t) }
     ensures instruction { IsInstruction result }
     ensures row { result.row ≡ constant_row t }
     ensures own { words.choice / 8 ≡ 4 → result ≡ constant_by t words.low words.high }

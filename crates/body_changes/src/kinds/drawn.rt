@@ -3,7 +3,7 @@ ghost use Rattle.std.specs.Prelude.{◌≡◌, ◌<◌, List, Some, is_some, len
 ghost use Rattle.wasm_code.specs.Instruction.{Instruction};
 ghost use Rattle.body_changes.specs.declared.change.Change.TheVariants.{Draw};
 ghost use Rattle.body_changes.specs.Drawing.{AskTypesAlone};
-ghost use Rattle.body_changes.specs.Kinds.{is_number, MakesDrawn};
+ghost use Rattle.body_changes.specs.Kinds.{is_number_or_vector, MakesDrawn};
 ghost use Rattle.body_changes.specs.Proposals.{IsNewAt, IsPlace, NamesAt};
 
 use crate::drawing::code_of_words;
@@ -22,7 +22,7 @@ fn constant_behind(
     t: PrimitiveTypeInfo,
 ) -> Result<Option<Vec<Instr>>, AllocError>
     requires place { IsPlace place.now }
-    requires gives { (place.now.unit.gives ≡ Some t) × IsTrue (is_number t) }
+    requires gives { (place.now.unit.gives ≡ Some t) × IsTrue (is_number_or_vector t) }
     ensures some { IfOk result (λ o. IsTrue (is_some o)) }
     ensures one { IfOk result (λ o. IfSome o (λ code. length code.items ≡ 1)) }
     ensures plain { IfOk result (λ o. IfSome o (λ code. AskTypesAlone code.items)) }

@@ -1,7 +1,7 @@
 //! Statements, which leave no value: gone, twice, or in another order.
 ghost use Rattle.std.specs.Prelude.{ℕ, List, IfNone, IfOk, IfSome};
 ghost use Rattle.wasm_code.specs.Instruction.{Instruction};
-ghost use Rattle.body_changes.specs.Kinds.{MakesNothing, MakesTurned, MakesTwice};
+ghost use Rattle.body_changes.specs.Kinds.{MakesNoCode, MakesTurned, MakesTwice};
 ghost use Rattle.body_changes.specs.declared.units.Unit.{Unit as UnitOf};
 ghost use Rattle.body_changes.specs.Proposals.{context_at, operators_of, IsPlace, IsStatementBefore};
 
@@ -13,9 +13,9 @@ use wasm_code::Instr;
 
 /// No code, where the unit leaves no value.
 pub(crate) fn deleted(alloc: Global, place: &Place<'_>) -> Option<Vec<Instr>>
-    ensures made { IfSome result (λ code. MakesNothing place.now.unit code.items) }
+    ensures made { IfSome result (λ code. MakesNoCode place.now.unit code.items) }
     ensures none { IfNone result ((code : List Instruction)
-        → ¬ (MakesNothing place.now.unit code)) }
+        → ¬ (MakesNoCode place.now.unit code)) }
 {
     match place.unit.gives {
         Some(_) => None,

@@ -3,7 +3,7 @@
 ghost use Rattle.std.specs.Prelude.{◌≡◌, ◌↔◌, ◌+◌, ◌-◌, ◌<◌, ◌^◌, IsTrue, IfSome, IfNone};
 ghost use Rattle.wasm_code.specs.Instruction.{IsInstruction};
 ghost use Rattle.wasm_code.specs.declared.immediate.Imm.{Imm as Immediate};
-ghost use Rattle.peephole_machine.specs.Values.{Context};
+ghost use Rattle.wasm_execution.specs.Values.{Context};
 ghost use Rattle.rewrite_rules.specs.Access.{conversion_code, conversion_size, code_with, side_code};
 ghost use Rattle.rewrite_rules.specs.Instance.{constant_code, operator_code};
 ghost use Rattle.rewrite_rules.specs.declared.table.Own.TheVariants.{Access as Accesses};
@@ -15,9 +15,9 @@ use crate::instructions::constant;
 use crate::matching::are_equal;
 use crate::own::{Made, Site};
 use crate::trees::instr_at;
-use peephole_machine::IntegerType;
 use rewrite_rules::{AccessKind, AccessSide, Conversion, Operator, access_at};
 use wasm_code::{Imm, Instr, OperatorAndByteOffset};
+use wasm_execution::IntegerType;
 use wasm_types::ModuleInfo;
 
 // The immediate of the row's instruction.

@@ -1,6 +1,6 @@
 //! A branch under a condition → a conditional, and in it the branch.
 ghost use Rattle.std.specs.Prelude.{ℕ, IfSome, IfNone};
-ghost use Rattle.peephole_machine.specs.Values.{Context};
+ghost use Rattle.wasm_execution.specs.Values.{Context};
 ghost use Rattle.rewrite_rules.specs.declared.table.Own.TheVariants.{BrIfToIf};
 ghost use Rattle.body_rewrites.specs.Blocks.{AreBlocks};
 ghost use Rattle.body_rewrites.specs.OwnSites.{HasBranchIf, IsBranchIf, IsSiteOf};

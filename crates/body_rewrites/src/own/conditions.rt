@@ -2,7 +2,7 @@
 ghost use Rattle.std.specs.Prelude.{◌≡◌, ◌↔◌, ℕ, IsTrue, IfSome, IfNone};
 ghost use Rattle.wasm_types.specs.declared.types.PrimitiveTypeInfo.TheVariants as primitive;
 ghost use Rattle.wrapped_code.specs.Conditions.{is_condition};
-ghost use Rattle.peephole_machine.specs.Values.{Context};
+ghost use Rattle.wasm_execution.specs.Values.{Context};
 ghost use Rattle.body_rewrites.specs.Trees.{AreTrees};
 ghost use Rattle.body_rewrites.specs.Own.{HasCondition};
 ghost use Rattle.body_rewrites.specs.OwnSites.{IsAskedBehind};

@@ -1,5 +1,5 @@
 //! A condition that is compared with zero twice → the same without that.
-ghost use Rattle.peephole_machine.specs.Values.{Context};
+ghost use Rattle.wasm_execution.specs.Values.{Context};
 ghost use Rattle.rewrite_rules.specs.declared.table.Own.TheVariants.{DropDoubleCondition};
 ghost use Rattle.body_rewrites.specs.Trees.{AreTrees};
 ghost use Rattle.body_rewrites.specs.OwnSites.{IsSiteOf};

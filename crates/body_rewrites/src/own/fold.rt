@@ -2,8 +2,8 @@
 ghost use Rattle.std.specs.Prelude.{◌≡◌, ◌↔◌, ◌<◌, ◌^◌, ℕ, [], ◌∷◌, IsTrue, IfSome, IfNone};
 ghost use mir.Val.{bits};
 ghost use Rattle.wasm_types.specs.declared.types.PrimitiveTypeInfo.{PrimitiveTypeInfo as ValueType};
-ghost use Rattle.peephole_machine.specs.declared.operation.Operation.{Operation as WholeOperation};
-ghost use Rattle.peephole_machine.specs.Values.{Context, type_of, width_of};
+ghost use Rattle.wasm_execution.specs.declared.operation.Operation.{Operation as WholeOperation};
+ghost use Rattle.wasm_execution.specs.Values.{Context, type_of, width_of};
 ghost use Rattle.rewrite_rules.specs.declared.pattern.Operator.TheVariants.{Whole};
 ghost use Rattle.rewrite_rules.specs.Instance.{operator_code};
 ghost use Rattle.rewrite_rules.specs.declared.table.Own.TheVariants.{Fold};
@@ -12,8 +12,8 @@ ghost use Rattle.body_rewrites.specs.OwnSites.{IsSiteOf, HasOperation, IsValueOn
 use crate::instructions::constant_at;
 use crate::own::{Made, Site};
 use crate::trees::instr_at;
-use peephole_machine::{IntegerType, Operation};
 use wasm_code::{Imm, Instr, OperatorAndByteOffset};
+use wasm_execution::{IntegerType, Operation};
 use wasm_types::PrimitiveTypeInfo;
 
 // The operator that the instruction is.

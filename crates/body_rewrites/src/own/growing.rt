@@ -1,6 +1,6 @@
 //! What rules beside the table do to the number of operators.
 ghost use Rattle.std.specs.Prelude.{◌≡◌, IfSome, IfNone};
-ghost use Rattle.peephole_machine.specs.Values.{Context};
+ghost use Rattle.wasm_execution.specs.Values.{Context};
 ghost use Rattle.body_rewrites.specs.Places.{AreListsOf};
 ghost use Rattle.body_rewrites.specs.Changes.{Change};
 ghost use Rattle.body_rewrites.specs.Growth.{HasGrowth};

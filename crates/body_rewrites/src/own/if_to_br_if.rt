@@ -3,7 +3,7 @@ ghost use Rattle.std.specs.Prelude.{◌≡◌, ℕ, IsTrue, IfSome, IfNone, Some
 ghost use Rattle.wasm_code.specs.declared.immediate.BlockType.TheVariants.{Empty};
 ghost use Rattle.wasm_code.specs.declared.operator.Operator.TheVariants.{End, If};
 ghost use Rattle.body_splices.specs.OwnBytes.{without_offsets};
-ghost use Rattle.peephole_machine.specs.Values.{Context};
+ghost use Rattle.wasm_execution.specs.Values.{Context};
 ghost use Rattle.rewrite_rules.specs.declared.table.Own.TheVariants.{IfToBrIf};
 ghost use Rattle.body_rewrites.specs.OwnSites.{HasOuterBranch, IsOuterBranch, IsSiteOf};
 

@@ -1,6 +1,6 @@
 //! A conditional each part of which is a constant or a variable → a select.
 ghost use Rattle.std.specs.Prelude.{◌+◌, ◌<◌, IsTrue, length};
-ghost use Rattle.peephole_machine.specs.Values.{Context};
+ghost use Rattle.wasm_execution.specs.Values.{Context};
 ghost use Rattle.rewrite_rules.specs.declared.table.Own.TheVariants.{IfToSelect};
 ghost use Rattle.body_rewrites.specs.Trees.{AreTrees};
 ghost use Rattle.body_rewrites.specs.Own.{IsChoice};

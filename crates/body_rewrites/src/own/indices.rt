@@ -1,8 +1,8 @@
 //! Indices of branches by a table, and what bounds them.
 ghost use Rattle.std.specs.Prelude.{◌≡◌, ◌↔◌, ℕ, List, IsTrue, IfSome, IfNone};
 ghost use Rattle.wasm_code.specs.declared.operator.Operator.{Operator as OperatorOf};
-ghost use Rattle.peephole_machine.specs.Values.{Context};
-ghost use Rattle.peephole_machine.specs.declared.integer.IntegerType.TheVariants as integer;
+ghost use Rattle.wasm_execution.specs.Values.{Context};
+ghost use Rattle.wasm_execution.specs.declared.integer.IntegerType.TheVariants as integer;
 ghost use Rattle.rewrite_rules.specs.Instance.{constant_code};
 ghost use Rattle.body_rewrites.specs.Open.{HasInstruction};
 ghost use Rattle.body_rewrites.specs.Trees.{AreTrees};
@@ -15,8 +15,8 @@ use crate::matching::are_equal;
 use crate::own::leaves::read_before;
 use crate::own::unwrap::operator_at;
 use crate::trees::{Tree, instr_at};
-use peephole_machine::IntegerType;
 use wasm_code::{Operator, OperatorAndByteOffset};
+use wasm_execution::IntegerType;
 
 // The number of labels of the operator, where it is a branch by a table.
 fn labels_of(operator: Operator) -> Option<u32>

@@ -3,7 +3,7 @@ ghost use Rattle.std.specs.Prelude.{◌≡◌, ◌↔◌, ℕ, List, IsTrue, IfS
 ghost use Rattle.wasm_code.specs.declared.immediate.ValType.{ValType as BlockValue};
 ghost use Rattle.wasm_code.specs.declared.operator.Operator.{Operator};
 ghost use Rattle.wasm_types.specs.declared.types.PrimitiveTypeInfo.{PrimitiveTypeInfo as ValueType};
-ghost use Rattle.peephole_machine.specs.Values.{Context};
+ghost use Rattle.wasm_execution.specs.Values.{Context};
 ghost use Rattle.rewrite_rules.specs.Flow.{is_leaf};
 ghost use Rattle.body_rewrites.specs.Trees.{AreTrees};
 ghost use Rattle.body_rewrites.specs.Own.{AreLeaves, IsLeafAt, IsReadBefore};
@@ -11,9 +11,9 @@ ghost use Rattle.body_rewrites.specs.Own.{AreLeaves, IsLeafAt, IsReadBefore};
 use crate::cutting::tree_at;
 use crate::own::conditions::is_i32;
 use crate::trees::{Tree, instr_at};
-use peephole_machine::{Row, integer_row};
 use rewrite_rules::value_of;
 use wasm_code::{Instr, OperatorAndByteOffset, ValType};
+use wasm_execution::{Row, integer_row};
 use wasm_types::PrimitiveTypeInfo;
 
 // Whether the instruction is a constant or reads a variable.

@@ -1,7 +1,7 @@
 //! An operator behind which nothing is reached → the same, and a constant that is dropped.
 ghost use Rattle.std.specs.Prelude.{◌≡◌, IsTrue};
-ghost use Rattle.peephole_machine.specs.Values.{Context};
-ghost use Rattle.peephole_programs.specs.control.Standard.{asks_beyond};
+ghost use Rattle.wasm_execution.specs.Values.{Context};
+ghost use Rattle.wasm_equivalence.specs.control.Standard.{asks_beyond};
 ghost use Rattle.wrapped_code.specs.Dead.{never_goes_on};
 ghost use Rattle.rewrite_rules.specs.declared.table.Own.TheVariants.{PutDead};
 ghost use Rattle.body_rewrites.specs.Own.{HasLeave, HasPlainLeave};

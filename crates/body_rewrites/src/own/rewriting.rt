@@ -1,6 +1,6 @@
 //! What rules beside the table write in the place of code.
 ghost use Rattle.std.specs.Prelude.{◌≡◌, IfSome, IfNone};
-ghost use Rattle.peephole_machine.specs.Values.{Context};
+ghost use Rattle.wasm_execution.specs.Values.{Context};
 ghost use Rattle.body_rewrites.specs.Places.{AreListsOf};
 ghost use Rattle.body_rewrites.specs.Changes.{Change, IsWritten};
 ghost use Rattle.body_rewrites.specs.Own.{IsOwnChange};

@@ -1,5 +1,5 @@
 //! A select of constants or variables → a conditional.
-ghost use Rattle.peephole_machine.specs.Values.{Context};
+ghost use Rattle.wasm_execution.specs.Values.{Context};
 ghost use Rattle.rewrite_rules.specs.declared.table.Own.TheVariants.{SelectToIf};
 ghost use Rattle.body_rewrites.specs.Trees.{AreTrees};
 ghost use Rattle.body_rewrites.specs.Blocks.{AreBlocks};

@@ -1,5 +1,5 @@
 //! A set and a get of a local → a tee.
-ghost use Rattle.peephole_machine.specs.Values.{Context};
+ghost use Rattle.wasm_execution.specs.Values.{Context};
 ghost use Rattle.rewrite_rules.specs.declared.table.Own.TheVariants.{SetToTee};
 ghost use Rattle.body_rewrites.specs.OwnSites.{IsSiteOf};
 

@@ -1,6 +1,6 @@
 //! Where a rule beside the table applies.
 ghost use Rattle.std.specs.Prelude.{◌≡◌};
-ghost use Rattle.peephole_machine.specs.Values.{Context};
+ghost use Rattle.wasm_execution.specs.Values.{Context};
 ghost use Rattle.body_rewrites.specs.Places.{AreListsOf};
 ghost use Rattle.body_rewrites.specs.OwnSites.{IsSiteOf};
 

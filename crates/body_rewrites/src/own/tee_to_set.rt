@@ -1,5 +1,5 @@
 //! A tee of a local → a set and a get.
-ghost use Rattle.peephole_machine.specs.Values.{Context};
+ghost use Rattle.wasm_execution.specs.Values.{Context};
 ghost use Rattle.rewrite_rules.specs.declared.table.Own.TheVariants.{TeeToSet};
 ghost use Rattle.body_rewrites.specs.OwnSites.{IsSiteOf};
 

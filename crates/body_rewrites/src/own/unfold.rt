@@ -1,5 +1,5 @@
 //! A constant → the sum of a drawn number and of what is left.
-ghost use Rattle.peephole_machine.specs.Values.{Context};
+ghost use Rattle.wasm_execution.specs.Values.{Context};
 ghost use Rattle.rewrite_rules.specs.declared.table.Own.TheVariants.{Unfold};
 ghost use Rattle.body_rewrites.specs.OwnSites.{IsSiteOf};
 

@@ -1,6 +1,6 @@
 //! `x` in control flow of its own → `x`.
 ghost use Rattle.std.specs.Prelude.{◌≡◌, ◌↔◌, ◌+◌, Some, None, slice_get, ◌<◌, ◌≤◌, ℕ, IfNone, IfSome, IsTrue, length};
-ghost use Rattle.peephole_machine.specs.Values.{Context};
+ghost use Rattle.wasm_execution.specs.Values.{Context};
 ghost use Rattle.wasm_code.specs.declared.immediate.BlockType.TheVariants.{Value};
 ghost use Rattle.body_splices.specs.OwnBytes.{without_offsets};
 ghost use Rattle.rewrite_rules.specs.Wrap.{IsItem, back_of};
@@ -13,9 +13,9 @@ ghost use Rattle.body_rewrites.specs.OwnSites.{IsConstantItem, IsConstantOperato
 use crate::cutting::{number_of, tree_at};
 use crate::own::{Made, Site};
 use crate::trees::Tree;
-use peephole_machine::IntegerType;
 use rewrite_rules::{Wrap, WrapItem, value_of};
 use wasm_code::{BlockType, Operator, OperatorAndByteOffset, ValType};
+use wasm_execution::IntegerType;
 
 // Whether a block gives a value of the type.
 fn gives(block: BlockType, t: ValType) -> bool

@@ -3,10 +3,10 @@ ghost use Rattle.std.specs.Prelude.{◌≡◌, ◌+◌, ◌-◌, ◌%◌, ◌<�
 ghost use mir.Val.{bits};
 ghost use Rattle.body_splices.specs.declared.piece.Piece.{Piece as PieceOf};
 ghost use Rattle.body_splices.specs.declared.piece.Piece.TheVariants.{Kept, New};
-ghost use Rattle.peephole_machine.specs.Values.{width_of};
-ghost use Rattle.peephole_machine.specs.declared.integer.IntegerType.TheVariants as integer;
-ghost use Rattle.peephole_machine.specs.declared.operation.Operation.TheVariants as operation;
-ghost use Rattle.peephole_machine.specs.declared.operation.Binary.TheVariants as binary;
+ghost use Rattle.wasm_execution.specs.Values.{width_of};
+ghost use Rattle.wasm_execution.specs.declared.integer.IntegerType.TheVariants as integer;
+ghost use Rattle.wasm_execution.specs.declared.operation.Operation.TheVariants as operation;
+ghost use Rattle.wasm_execution.specs.declared.operation.Binary.TheVariants as binary;
 ghost use Rattle.rewrite_rules.specs.declared.pattern.Operator.TheVariants.{Whole};
 ghost use Rattle.rewrite_rules.specs.Access.{IsOfRow, side_code};
 ghost use Rattle.rewrite_rules.specs.Numbers.{low};
@@ -16,7 +16,7 @@ ghost use Rattle.rewrite_rules.specs.Flow.{ne_code, eqz_code, below_code, select
 ghost use Rattle.body_rewrites.specs.Changes.{IsWritten};
 ghost use Rattle.rewrite_rules.specs.Wrap.{front_of, back_of};
 ghost use Rattle.body_rewrites.specs.Own.{new, item_piece, item_pieces, made_asks, made_pieces, change_of};
-ghost use Rattle.body_rewrites.specs.OwnSites.{AreOfRows, IsCode, IsWritable, ordered};
+ghost use Rattle.body_rewrites.specs.OwnSites.{AreOfRows, IsNewCode, IsWritable, pieces_in_order};
 ghost use Rattle.body_rewrites.specs.declared.own.Made.TheVariants as made;
 
 use crate::changes::NewCode;
@@ -24,9 +24,9 @@ use crate::instructions::{constant, instr};
 use crate::own::{Made, Site};
 use arrayvec::ArrayVec;
 use body_splices::{Control, Piece};
-use peephole_machine::IntegerType;
 use rewrite_rules::{AccessKind, AccessSide, Conversion, Wrap, WrapItem};
 use wasm_code::{Imm, Instr, ValType};
+use wasm_execution::IntegerType;
 use wasm_types::PrimitiveTypeInfo;
 
 #[tactic(auto, using(crate::proofs::OwnRowLemmas::nop_row))]
@@ -152,7 +152,7 @@ fn list_of(pieces: &[Piece]) -> ArrayVec<Piece, 7>
 // The pieces in the place of code from `start` on.
 fn code(start: usize, pieces: &[Piece], asks: Option<PrimitiveTypeInfo>) -> NewCode
     requires { length pieces.now ≤ 7 }
-    ensures { IsCode start pieces.now (option_to_list asks) result }
+    ensures { IsNewCode start pieces.now (option_to_list asks) result }
 {
     NewCode {
         start,
@@ -174,7 +174,7 @@ fn piece(row: u16, imm: Imm) -> Option<Piece>
 
 // The instruction with the immediate, and one of the conversion.
 fn with_one(start: usize, kind: AccessKind, first: Piece, by: Piece) -> NewCode
-    ensures { IsCode start (ordered kind first (by ∷ [])) [] result }
+    ensures { IsNewCode start (pieces_in_order kind first (by ∷ [])) [] result }
 {
     match kind {
         AccessKind::Load => code(start, &[first, by], None),
@@ -185,7 +185,7 @@ fn with_one(start: usize, kind: AccessKind, first: Piece, by: Piece) -> NewCode
 
 // The instruction with the immediate, and two of the conversion.
 fn with_two(start: usize, kind: AccessKind, first: Piece, number: Piece, by: Piece) -> NewCode
-    ensures { IsCode start (ordered kind first (number ∷ by ∷ [])) [] result }
+    ensures { IsNewCode start (pieces_in_order kind first (number ∷ by ∷ [])) [] result }
 {
     match kind {
         AccessKind::Load => code(start, &[first, number, by], None),
@@ -196,7 +196,7 @@ fn with_two(start: usize, kind: AccessKind, first: Piece, number: Piece, by: Pie
 
 // The side of an access.
 fn side(start: usize, kind: AccessKind, side: AccessSide, immediate: Imm) -> Option<NewCode>
-    ensures some { IfSome result (IsCode start (new (side_code kind side immediate)) []) }
+    ensures some { IfSome result (IsNewCode start (new (side_code kind side immediate)) []) }
     ensures none { IfNone result (¬ (AreOfRows (side_code kind side immediate))) }
 {
     let Some(first) = piece(side.row, immediate) else {
@@ -258,7 +258,7 @@ fn push_items(pieces: &mut ArrayVec<Piece, 7>, items: &[WrapItem], t: ValType, w
 
 // The piece in wrapped code.
 fn wrapped(start: usize, kept: Piece, wrap: Wrap, t: ValType, word: u64) -> NewCode
-    ensures { IsCode start
+    ensures { IsNewCode start
         (item_pieces t word (front_of wrap) ++ kept ∷ item_pieces t word (back_of wrap)) [] result }
 {
     let mut pieces = ArrayVec::new();
@@ -274,7 +274,7 @@ fn wrapped(start: usize, kept: Piece, wrap: Wrap, t: ValType, word: u64) -> NewC
 
 // Two operators as the parts of a conditional, whose condition stands behind them, from that operator up to the last one.
 fn conditional(start: usize, condition: usize, at: usize, t: ValType) -> NewCode
-    ensures { IsCode start (made_pieces start at (made.Conditional t condition) 0) [] result }
+    ensures { IsNewCode start (made_pieces start at (made.Conditional t condition) 0) [] result }
 {
     let second = condition.saturating_sub(1);
     let pieces = [
@@ -296,7 +296,7 @@ fn conditional(start: usize, condition: usize, at: usize, t: ValType) -> NewCode
 
 // The parts of a conditional that ends at `at`, and its condition, and a select.
 fn selected(start: usize, at: usize) -> NewCode
-    ensures { IsCode start (made_pieces start at made.Selected 0) [] result }
+    ensures { IsNewCode start (made_pieces start at made.Selected 0) [] result }
 {
     let pieces = [
         Piece::Kept {
@@ -318,14 +318,14 @@ fn selected(start: usize, at: usize) -> NewCode
 
 // The piece, and two instructions.
 fn followed(start: usize, kept: Piece, one: Instr, other: Instr) -> NewCode
-    ensures { IsCode start (kept ∷ new (one ∷ other ∷ [])) [] result }
+    ensures { IsNewCode start (kept ∷ new (one ∷ other ∷ [])) [] result }
 {
     code(start, &[kept, Piece::New(one), Piece::New(other)], None)
 }
 
 // What stands from `start` on before `end`, and the number where its value isn't below that.
 fn bounded(start: usize, end: usize, count: u32) -> NewCode
-    ensures { IsCode start (Kept start end ∷ New (constant_code integer.I32 count) ∷ Kept start end
+    ensures { IsNewCode start (Kept start end ∷ New (constant_code integer.I32 count) ∷ Kept start end
         ∷ new (constant_code integer.I32 count ∷ below_code ∷ select_code ∷ [])) [] result }
 {
     let limit = constant(IntegerType::I32, count as u64);
@@ -343,7 +343,7 @@ fn bounded(start: usize, end: usize, count: u32) -> NewCode
 // A conditional, and in it a branch to the label that had that depth outside it; none where one byte doesn't hold the label there.
 fn in_conditional(start: usize, label: u8) -> Option<NewCode>
     ensures some { IfSome result
-        (IsCode start (made_pieces start start (made.InConditional label) 0) []) }
+        (IsNewCode start (made_pieces start start (made.InConditional label) 0) []) }
     ensures none { IfNone result (¬ (label + 1 < 2 ^ 8)) }
 {
     if label == 255 {
@@ -360,7 +360,7 @@ fn in_conditional(start: usize, label: u8) -> Option<NewCode>
 // What is made at the site, by the word; none where it isn't made of instructions of the standard.
 pub(crate) fn written(site: Site, at: usize, word: u64) -> Option<NewCode>
     requires { at < 2 ^ 64 - 1 }
-    ensures some { IfSome result (IsCode site.start (made_pieces site.start at site.made word)
+    ensures some { IfSome result (IsNewCode site.start (made_pieces site.start at site.made word)
         (made_asks site.made)) }
     ensures none { IfNone result (¬ (IsWritable site.made)) }
 {

@@ -10,7 +10,8 @@ use Rattle.peephole_graphs.specs.Tree.{Tree, entry, node, Trees, no_trees, â—Œâ–
 use Rattle.peephole_graphs.specs.Forest.{operator_tree, is_root, has, IsInOrder, AreTogether}
 use Rattle.peephole_graphs.proofs.forest.Depth.{top}
 use Rattle.peephole_graphs.proofs.forest.DepthLemmas.{numbers-join, range_more}
-use Rattle.peephole_graphs.proofs.forest.TreeStack.{is_open, opens, forest_value, without_open, last_open, tree_stack, missing, without_open_top, without_open_behind, last_open_behind, operator}
+use Rattle.peephole_graphs.proofs.forest.TreeStack.{is_open, opens, forest_value, without_open, last_open, tree_stack, missing}
+use Rattle.peephole_graphs.proofs.forest.TreeStack.{without_open_top, without_open_behind, last_open_behind, operator}
 use Rattle.peephole_graphs.proofs.forest.ForestLemmas.{rev, join_nil, forest_is, Falling, Falling-tree_stack, tree_in_stack, root_below}
 use Rattle.peephole_graphs.proofs.forest.EntryOperands.{join_assoc, entries, top_last_open, AllOpen, all_last_open}
 

@@ -7,7 +7,7 @@ use Rattle.std.proofs.lemmas.Bool.Decides.{Decides-int_eq}
 use lib.IntN.{pos, negsuc, ◌+ℤ◌, ◌-ℤ◌}
 use Rattle.peephole_graphs.specs.Shape.{Shape}
 use Rattle.peephole_graphs.specs.Tree.{Tree, entry, node, Trees, no_trees, ◌▸◌}
-use Rattle.peephole_graphs.specs.Forest.{height, low, from_height, entry_number, at_height, operator_tree}
+use Rattle.peephole_graphs.specs.Forest.{height, first_operand_height, from_height, entry_number, at_height, operator_tree}
 
 -- the trees at depths count - 1 down to 0
 abbrev pub top : (ℕ → Tree) → ℕ → Trees
@@ -36,12 +36,12 @@ value_zero : (p : ℕ) → entry_number (pos 0 -ℤ pos (suc p)) ≡ p
 value_zero p = let e : pos 0 -ℤ pos (suc p) ≡ negsuc p = omega (arith, ints) in rw e
 
 -- the tree at a place, by the three cases
-at_result : (s : Shape) (earlier : List Shape) (p : ℤ) → s.has_result ≡ true → p ≡ low s earlier →
+at_result : (s : Shape) (earlier : List Shape) (p : ℤ) → s.has_result ≡ true → p ≡ first_operand_height s earlier →
     at_height (s ∷ earlier) p ≡ operator_tree s earlier
-at_result s earlier p h e = let d = Decides-int_eq p (low s earlier) in grind arith
+at_result s earlier p h e = let d = Decides-int_eq p (first_operand_height s earlier) in grind arith
 
-at_other : (s : Shape) (earlier : List Shape) (p : ℤ) → (p ≡ low s earlier → ⊥) → at_height (s ∷ earlier) p ≡ at_height earlier p
-at_other s earlier p h = let d = Decides-int_eq p (low s earlier) in grind arith
+at_other : (s : Shape) (earlier : List Shape) (p : ℤ) → (p ≡ first_operand_height s earlier → ⊥) → at_height (s ∷ earlier) p ≡ at_height earlier p
+at_other s earlier p h = let d = Decides-int_eq p (first_operand_height s earlier) in grind arith
 
 at_none : (s : Shape) (earlier : List Shape) (p : ℤ) → s.has_result ≡ false → at_height (s ∷ earlier) p ≡ at_height earlier p
 at_none s earlier p h = grind arith
@@ -59,7 +59,7 @@ value_is [] d = ap entry (value_zero d)
 value_is (s ∷ earlier) zero = elim (cases_Bool s.has_result) [
   | inl h ↦
       let e = height_is s earlier true h in
-      let p : at_depth (s ∷ earlier) zero ≡ low s earlier = omega (arith, ints) in
+      let p : at_depth (s ∷ earlier) zero ≡ first_operand_height s earlier = omega (arith, ints) in
       at_result s earlier _ h p ∙ (tree_of_top s earlier (value_is earlier) ∙ sym (cond-true _ _ _ h))
   | inr h ↦
       let e = height_is s earlier false h in

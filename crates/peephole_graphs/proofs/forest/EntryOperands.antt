@@ -6,7 +6,8 @@ use Rattle.peephole_graphs.specs.Shape.{Shape}
 use Rattle.peephole_graphs.specs.Tree.{entry, node, Trees, no_trees, ◌▸◌, join}
 use Rattle.peephole_graphs.proofs.forest.Depth.{top}
 use Rattle.peephole_graphs.proofs.forest.DepthLemmas.{top_same, top_first}
-use Rattle.peephole_graphs.proofs.forest.TreeStack.{is_open, opens, forest_value, without_open, last_open, tree_stack, missing, forest_value_top, forest_value_under}
+use Rattle.peephole_graphs.proofs.forest.TreeStack.{is_open, opens, forest_value, without_open, last_open, tree_stack, missing}
+use Rattle.peephole_graphs.proofs.forest.TreeStack.{forest_value_top, forest_value_under}
 use Rattle.peephole_graphs.proofs.forest.TreeStack.{forest_value_done, without_open_top, without_open_behind, last_open_top, last_open_behind, opens_done}
 use Rattle.peephole_graphs.proofs.forest.ForestLemmas.{rev, join_nil}
 

@@ -5,10 +5,11 @@ use Rattle.std.proofs.Math.Bool.{or_comm}
 use Rattle.std.proofs.lemmas.Bool.{cases_Bool, cond-true, cond-false, eq-eqb, ne_eqb, or_left, eqb-true, false_from_ne_true, false≢true}
 use Rattle.peephole_graphs.specs.Shape.{Shape}
 use Rattle.peephole_graphs.specs.Tree.{Tree, entry, node, Trees, no_trees, ◌▸◌, join}
-use Rattle.peephole_graphs.specs.Forest.{operator_tree, trees, is_root, is_operand, without, forest}
+use Rattle.peephole_graphs.specs.Forest.{operator_tree, trees, is_root, is_operand, trees_without, forest}
 use Rattle.peephole_graphs.proofs.forest.Depth.{top, value, tree_of_is}
 use Rattle.peephole_graphs.proofs.forest.DepthLemmas.{top_same, top_first}
-use Rattle.peephole_graphs.proofs.forest.TreeStack.{is_open, forest_value, without_open, last_open, tree_stack, missing, forest_value_top, forest_value_under, forest_value_done}
+use Rattle.peephole_graphs.proofs.forest.TreeStack.{is_open, forest_value, without_open, last_open, tree_stack, missing, forest_value_top}
+use Rattle.peephole_graphs.proofs.forest.TreeStack.{forest_value_under, forest_value_done}
 use Rattle.peephole_graphs.proofs.forest.TreeStack.{without_open_top, without_open_behind, last_open_top, last_open_behind, value_tree_stack, operator}
 
 abbrev pub rev : Trees → Trees
@@ -32,25 +33,25 @@ is_operand_join j no_trees us = refl
 is_operand_join j (entry m ▸ ts) us = is_operand_join j ts us
 is_operand_join j (node i s kids ▸ ts) us = grind (arith, is_operand_join j ts us)
 
-without_join : (test : ℕ → Bool) (ts us : Trees) → without test (join ts us) ≡ join (without test ts) (without test us)
+without_join : (test : ℕ → Bool) (ts us : Trees) → trees_without test (join ts us) ≡ join (trees_without test ts) (trees_without test us)
 without_join test no_trees us = refl
 without_join test (entry m ▸ ts) us = ap (λ x. entry m ▸ x) (without_join test ts us)
 without_join test (node i s kids ▸ ts) us = grind (arith, without_join test ts us)
 
-without_rev : (test : ℕ → Bool) (ts : Trees) → without test (rev ts) ≡ rev (without test ts)
+without_rev : (test : ℕ → Bool) (ts : Trees) → trees_without test (rev ts) ≡ rev (trees_without test ts)
 without_rev test no_trees = refl
 without_rev test (entry m ▸ ts) = without_join test (rev ts) (entry m ▸ no_trees) ∙ ap (λ x. join x (entry m ▸ no_trees)) (without_rev test ts)
 without_rev test (node i s kids ▸ ts) =
-    grind (arith, without_join test (rev ts) (node i s kids ▸ no_trees), without_rev test ts, join_nil (rev (without test ts)))
+    grind (arith, without_join test (rev ts) (node i s kids ▸ no_trees), without_rev test ts, join_nil (rev (trees_without test ts)))
 
 -- two tests, one after the other
-without_both : (p q : ℕ → Bool) (ts : Trees) → without (λ j. p j || q j) ts ≡ without q (without p ts)
+without_both : (p q : ℕ → Bool) (ts : Trees) → trees_without (λ j. p j || q j) ts ≡ trees_without q (trees_without p ts)
 without_both p q no_trees = refl
 without_both p q (entry m ▸ ts) = ap (λ x. entry m ▸ x) (without_both p q ts)
 without_both p q (node i s kids ▸ ts) = grind (arith, without_both p q ts)
 
-without_same : (p q : ℕ → Bool) → ((j : ℕ) → p j ≡ q j) → (ts : Trees) → without p ts ≡ without q ts
-without_same p q h ts = ap (λ (test : ℕ → Bool). without test ts) (λ i j. h j i)
+without_same : (p q : ℕ → Bool) → ((j : ℕ) → p j ≡ q j) → (ts : Trees) → trees_without p ts ≡ trees_without q ts
+without_same p q h ts = ap (λ (test : ℕ → Bool). trees_without test ts) (λ i j. h j i)
 
 -- all are operators' trees, the numbers fall, from below `n` on
 abbrev pub Falling : Trees → ℕ → Type 0
@@ -84,17 +85,17 @@ root_below (node i s kids ▸ ts) n zero j f h = absurd (false≢true h)
 root_below (node i s kids ▸ ts) n (suc k) j f h =
     let own = f.0 in grind (arith, root_below ts i k j f.1, root_below ts i (suc k) j f.1, eqb-true i j)
 
-without_below : (p q : ℕ → Bool) (ts : Trees) (n : ℕ) → Falling ts n → ((j : ℕ) → j < n → p j ≡ q j) → without p ts ≡ without q ts
+without_below : (p q : ℕ → Bool) (ts : Trees) (n : ℕ) → Falling ts n → ((j : ℕ) → j < n → p j ≡ q j) → trees_without p ts ≡ trees_without q ts
 without_below p q no_trees n f h = refl
 without_below p q (entry m ▸ ts) n f h = absurd f
 without_below p q (node i s kids ▸ ts) n f h = ap₂ (λ b x. cond b x (node i s kids ▸ x)) (h i f.0) (without_below p q ts i f.1 (λ j l. h j (omega arith)))
 
-without_none : (ts : Trees) → without (λ j. false) ts ≡ ts
+without_none : (ts : Trees) → trees_without (λ j. false) ts ≡ ts
 without_none no_trees = refl
 without_none (entry m ▸ ts) = ap (λ x. entry m ▸ x) (without_none ts)
 without_none (node i s kids ▸ ts) = ap (λ x. node i s kids ▸ x) (without_none ts)
 
-without_last_open : (ts : Trees) (n k : ℕ) → Falling ts n → without (λ j. is_root j (last_open ts k)) ts ≡ without_open ts k
+without_last_open : (ts : Trees) (n k : ℕ) → Falling ts n → trees_without (λ j. is_root j (last_open ts k)) ts ≡ without_open ts k
 without_last_open no_trees n k f = refl
 without_last_open (entry m ▸ ts) n k f = absurd f
 without_last_open (node i s kids ▸ ts) n zero f = without_none (node i s kids ▸ ts)
@@ -174,6 +175,6 @@ forest_is (s ∷ earlier) =
     let split : (j : ℕ) → here j ≡ (before j || now j) = λ j. is_operand_join j ts own ∙ ap (λ x. before j || x) (taken_by s earlier j) in
     let left = without_last_open (tree_stack earlier) (length earlier) s.operands (Falling-tree_stack earlier) in
     let old = without_same here (λ j. before j || now j) split ts ∙ (without_both before now ts
-    ∙ (ap (without now) (forest_is earlier) ∙ (without_rev now (tree_stack earlier) ∙ ap rev left))) in
+    ∙ (ap (trees_without now) (forest_is earlier) ∙ (without_rev now (tree_stack earlier) ∙ ap rev left))) in
     let alone = not_taken (s ∷ earlier) (length earlier) (omega arith) in
     without_join here ts own ∙ ap₂ join old (cond-false _ _ _ alone ∙ ap (λ x. x ▸ no_trees) (tree_in_stack s earlier))

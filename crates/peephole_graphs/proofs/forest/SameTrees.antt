@@ -7,7 +7,8 @@ use Rattle.peephole_graphs.specs.Tree.{Tree, entry, node, Trees, no_trees, â—Œâ–
 use Rattle.peephole_graphs.specs.Forest.{forest}
 use Rattle.peephole_graphs.proofs.forest.Depth.{top}
 use Rattle.peephole_graphs.proofs.forest.DepthLemmas.{top_same, top_first}
-use Rattle.peephole_graphs.proofs.forest.TreeStack.{is_open, opens, forest_value, without_open, tree_stack, missing, without_open_zero, forest_value_top, forest_value_under}
+use Rattle.peephole_graphs.proofs.forest.TreeStack.{is_open, opens, forest_value, without_open, tree_stack, missing, without_open_zero}
+use Rattle.peephole_graphs.proofs.forest.TreeStack.{forest_value_top, forest_value_under}
 use Rattle.peephole_graphs.proofs.forest.ForestLemmas.{rev, join_nil, forest_is}
 use Rattle.peephole_graphs.proofs.forest.EntryOperands.{join_assoc, count, AllOpen, entries, Operands, Reads, nothing, one_more, reads_tree_stack}
 

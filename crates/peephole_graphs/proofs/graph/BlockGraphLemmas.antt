@@ -12,12 +12,14 @@ use Rattle.peephole_graphs.specs.Tree.{Trees, no_trees, ◌▸◌}
 use Rattle.peephole_graphs.specs.Forest.{forest, has}
 use Rattle.peephole_graphs.specs.Color.{color_after}
 use Rattle.peephole_graphs.specs.Graph.{undef, GraphEntry, undefs, tree_at_entry, tree_of_entry, roots, item}
-use Rattle.peephole_graphs.proofs.graph.BlockGraph.{entry_at, parent_at, result_count, missing_count, IsOperatorOrMissing, IsBlockEntry, is_operator, IsBlockGraph}
-use Rattle.peephole_graphs.specs.Step.{down, mark, Growth, grown}
+use Rattle.peephole_graphs.proofs.graph.BlockGraph.{entry_at, parent_at, result_count, missing_count, IsOperatorOrMissing, IsBlockEntry}
+use Rattle.peephole_graphs.proofs.graph.BlockGraph.{is_operator, IsBlockGraph}
+use Rattle.peephole_graphs.specs.Step.{down, mark, GraphGrowth, grown}
 use Rattle.peephole_graphs.proofs.Lists.{has_append, has_reverse, has_either, has_itself, has_each}
 use Rattle.peephole_graphs.proofs.forest.TreeStack.{is_open, opens, without_open, tree_stack}
 use Rattle.peephole_graphs.proofs.graph.DistinctChildren.{children_once}
-use Rattle.peephole_graphs.proofs.graph.StackGraph.{graph, IsGraph, is_graph, graph_forest, open_at, stack_length, length-mark, behind, more_of, place_of, taken_of}
+use Rattle.peephole_graphs.proofs.graph.StackGraph.{graph, IsGraph, is_graph, graph_forest, open_at, stack_length, length-mark, behind}
+use Rattle.peephole_graphs.proofs.graph.StackGraph.{more_of, place_of, taken_of}
 use Rattle.peephole_graphs.proofs.graph.StackGraph.{new_entry}
 
 -- the own entry of an operator
@@ -133,7 +135,7 @@ pub result_count_is : (block : List Shape) → result_count block ≡ opens (tre
 result_count_is [] = refl
 result_count_is (s ∷ earlier) = grind (arith, result_count_is earlier, opens_without_open (tree_stack earlier) s.operands)
 
-pub stack_height : (block : List Shape) (g : Growth) → IsGraph block g → length g.stack ≡ result_count block
+pub stack_height : (block : List Shape) (g : GraphGrowth) → IsGraph block g → length g.stack ≡ result_count block
 stack_height block g h = ap length h.stack_is ∙ (stack_length (tree_at_entry g.nodes) (roots g.parents) ∙
     (ap opens h.tree_stack_is ∙ sym (result_count_is block)))
 
@@ -166,7 +168,7 @@ entry_weaker preserving s earlier e h = (let l = h.0 in omega arith, go e.shape 
     go (Some t) u = let l = h.0 in (grind (arith, nat_tests), grind (arith, nat_tests))
 
 -- what was taken was an operator's entry without a parent
-pub taken_root : (earlier : List Shape) (g : Growth) → IsGraph earlier g → (k i : ℕ) → has i (take k g.stack) ≡ true →
+pub taken_root : (earlier : List Shape) (g : GraphGrowth) → IsGraph earlier g → (k i : ℕ) → has i (take k g.stack) ≡ true →
     (parent_at g.parents i ≡ None) × (i < length g.nodes) × (is_operator (entry_at g.nodes i).shape ≡ true)
 taken_root earlier g ig k i h =
     let e = has_filter (open_at (tree_at_entry g.nodes)) i (roots g.parents) (sym (ap (has i) ig.stack_is) ∙ has_take i k g.stack h) in
@@ -175,7 +177,7 @@ taken_root earlier g ig k i h =
 
 -- ---- a step: the operator `s` behind the block `earlier`, whose graph is `g`
 
-module _ (s : Shape) (g : Growth) (n c : ℕ) where
+module _ (s : Shape) (g : GraphGrowth) (n c : ℕ) where
   pub old_entry : (i : ℕ) → i < length g.nodes → entry_at (grown g s n c).nodes i ≡ entry_at g.nodes i
   old_entry i l = at_old (undef 0) (new_entry s g n c) (undef n) (more_of s g) g.nodes i l
 
@@ -185,8 +187,8 @@ module _ (s : Shape) (g : Growth) (n c : ℕ) where
   pub own_entry : entry_at (grown g s n c).nodes (place_of s g) ≡ new_entry s g n c
   own_entry = at_own (undef 0) (new_entry s g n c) (undef n) (more_of s g) g.nodes
 
-module _ (preserving : Bool) (s : Shape) (earlier : List Shape) (g : Growth) where
-  abbrev after : Growth
+module _ (preserving : Bool) (s : Shape) (earlier : List Shape) (g : GraphGrowth) where
+  abbrev after : GraphGrowth
   after = grown g s (length earlier) (color_after preserving earlier)
 
   abbrev before : List (Option ℕ)

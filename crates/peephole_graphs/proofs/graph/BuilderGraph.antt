@@ -11,11 +11,11 @@ use Rattle.peephole_graphs.specs.declared.dfg.StackEntry.{StackEntry}
 use Rattle.peephole_graphs.specs.declared.growing.Growing.{Growing}
 use Rattle.peephole_graphs.specs.Forest.{IsInOrder}
 use Rattle.peephole_graphs.specs.Graph.{GraphEntry}
-use Rattle.peephole_graphs.specs.Step.{Growth}
+use Rattle.peephole_graphs.specs.Step.{GraphGrowth}
 use Rattle.peephole_graphs.specs.Downwards.{Kin}
 use Rattle.peephole_graphs.specs.Measures.{forwards}
 use Rattle.peephole_graphs.specs.Source.{Source, shapes_in}
-use Rattle.peephole_graphs.specs.Entries.{kins_of, shape_of}
+use Rattle.peephole_graphs.specs.Entries.{kins_of, instruction_shape_of}
 use Rattle.peephole_graphs.specs.Growing.{undef_entry}
 use Rattle.peephole_graphs.specs.GraphOf.{IsSmall, IsGraphOf, IsOwnEntry}
 use Rattle.peephole_graphs.specs.Building.{HasGrown, graph_in}
@@ -36,7 +36,7 @@ use Rattle.peephole_graphs.proofs.BuilderLemmas.{Kept, nodes_in, state_of, over,
 none_index : {P : Type 0} (i : ℕ) → ◌≡◌ {A = Option ℕ} None (Some i) → P
 none_index i e = cc
 
-operator_some : (info : Module) (o : Option Instruction) → is_operator (option_map (shape_of info) o) ≡ is_some o
+operator_some : (info : Module) (o : Option Instruction) → is_operator (option_map (instruction_shape_of info) o) ≡ is_some o
 operator_some info None = refl
 operator_some info (Some i) = refl
 
@@ -53,7 +53,7 @@ module _ (source : Source) (g : Growing) (h : Kept source g) where
   state_is = sym h.state
 
   facts_are : Facts source.preserving (shapes_in source) (nodes_in source g) (reverse g.parents.items)
-  facts_are = subst (λ (x : Growth). Facts source.preserving (shapes_in source) x.nodes x.parents) state_is (facts source.preserving (shapes_in source))
+  facts_are = subst (λ (x : GraphGrowth). Facts source.preserving (shapes_in source) x.nodes x.parents) state_is (facts source.preserving (shapes_in source))
 
   count : length (nodes_in source g) ≡ length g.entries.items
   count = nodes_length source.info source.first g.entries.items
@@ -111,7 +111,7 @@ module _ (source : Source) (g : Growing) (h : Kept source g) where
   is_graph = is_graph_of source (graph_in g) (record {
     fit = h.fit;
     small = h.small;
-    block_graph = subst (λ (x : Growth). IsBlockGraph source.preserving (shapes_in source) x.nodes x.parents) state_is
+    block_graph = subst (λ (x : GraphGrowth). IsBlockGraph source.preserving (shapes_in source) x.nodes x.parents) state_is
         (block_graph source.preserving (shapes_in source));
     finds = λ k i. (found_is_own k i, own_is_found k i);
     keys = λ m l. let b = block_length source.info source.operators h.fit in let w = facts_are.owns m (omega arith) in
@@ -126,12 +126,12 @@ module _ (source : Source) (g : Growing) (h : Kept source g) where
       let block = shapes_in source in
       let es = g.entries.items in
       let forward : IsTrue (forwards (kins_of es)) ↔ IsInOrder block = subst (λ (x : List Kin). IsTrue (forwards x) ↔ IsInOrder block)
-      (ap (λ (x : Growth). kins x.nodes) state_is ∙ kins_same source.info source.first es) (order_forwards source.preserving block h.small) in
+      (ap (λ (x : GraphGrowth). kins x.nodes) state_is ∙ kins_same source.info source.first es) (order_forwards source.preserving block h.small) in
       let order = in_order source (graph_in g) is_graph in
       record {
         graph = is_graph;
         contiguous = λ on. contiguous source.info source.first block es (ap (λ (k : Bool). (graph k block).nodes) (sym on) ∙
-            ap (λ (x : Growth). x.nodes) state_is) h.later (block_raises source.info source.operators) (subst (λ k. IsSmall k block) on h.small);
+            ap (λ (x : GraphGrowth). x.nodes) state_is) h.later (block_raises source.info source.operators) (subst (λ k. IsSmall k block) on h.small);
         measured = h.measured;
         lies = (λ t. order.1 (forward.0 t), λ a. forward.1 (order.0 a));
       }

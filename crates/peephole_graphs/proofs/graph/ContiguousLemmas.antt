@@ -18,10 +18,10 @@ use Rattle.peephole_graphs.specs.Color.{total_change, color_at}
 use Rattle.peephole_graphs.specs.Graph.{GraphEntry, undef}
 use Rattle.peephole_graphs.specs.GraphOf.{IsSmall}
 use Rattle.peephole_graphs.proofs.graph.BlockGraph.{entry_at}
-use Rattle.peephole_graphs.specs.Step.{down, Growth, grown}
+use Rattle.peephole_graphs.specs.Step.{down, GraphGrowth, grown}
 use Rattle.peephole_graphs.specs.Downwards.{Kin, downwards, kin_at, HasOneColor}
 use Rattle.peephole_graphs.specs.Entries.{EntryView, entry_view, graph_entries}
-use Rattle.peephole_graphs.specs.Contiguous.{operators_of, AreConsecutive, HasContiguousTrees}
+use Rattle.peephole_graphs.specs.Contiguous.{entry_operators_of, AreConsecutive, HasContiguousTrees}
 use Rattle.peephole_graphs.specs.Growing.{undef_entry}
 use Rattle.peephole_graphs.proofs.forest.DepthLemmas.{range_more}
 use Rattle.peephole_graphs.proofs.Lists.{all_left, all_right, all_reverse, all_flat_map, all_has, all_within, map_same, flat_map_same}
@@ -35,7 +35,7 @@ use Rattle.peephole_graphs.proofs.forest.ColorRise.{Raises}
 
 -- ---- the numbers and colours of entries
 
-abbrev below : Growth → ℕ → List ℕ
+abbrev below : GraphGrowth → ℕ → List ℕ
 below g i = downwards (kins g.nodes) i
 
 abbrev numbers : List GraphEntry → List ℕ → List ℕ
@@ -62,17 +62,17 @@ end_more ns n (a, z, e, h) = (a, suc z, omega arith, ap (λ x. x ++ n ∷ []) h 
 
 -- ---- a step of the graph
 
-abbrev operands_of : Shape → Growth → List ℕ
+abbrev operands_of : Shape → GraphGrowth → List ℕ
 operands_of s g = reverse (taken_of s g)
 
 -- the entries below some are below the graph's end
 inside_below : (nodes : List GraphEntry) (i : ℕ) → All (λ j. j < length nodes) (downwards (kins nodes) i)
 inside_below nodes i = subst (λ m. All (λ j. j < m) (downwards (kins nodes) i)) (length-map nodes kin_of) (down_below (kins nodes) i)
 
-below_inside : (g : Growth) (is : List ℕ) → All (λ i. i < length g.nodes) (flat_map (below g) is)
+below_inside : (g : GraphGrowth) (is : List ℕ) → All (λ i. i < length g.nodes) (flat_map (below g) is)
 below_inside g is = all_flat_map (below g) (length g.nodes) is (inside_below g.nodes)
 
-module _ (s : Shape) (g : Growth) (n c : ℕ) where
+module _ (s : Shape) (g : GraphGrowth) (n c : ℕ) where
   abbrev new : List GraphEntry
   new = (grown g s n c).nodes
 
@@ -180,7 +180,7 @@ stack_low earlier =
     let l = color_low earlier e.number in
     (t.1, omega arith))
 
-abbrev open_entries : Growth → ℕ → List ℕ
+abbrev open_entries : GraphGrowth → ℕ → List ℕ
 open_entries g j = flat_map (below g) (reverse (take j g.stack))
 
 -- the operators of the last open trees, where they have the last colour, end at the block's end
@@ -245,7 +245,7 @@ open_end (s ∷ earlier) (suc j) ps low h = elim (cases_Bool s.has_result) [
 
 -- ---- every tree of one colour
 
-abbrev IsTogether : Growth → ℕ → Type 0
+abbrev IsTogether : GraphGrowth → ℕ → Type 0
 IsTogether g i = AreColored g.nodes (entry_at g.nodes i).color (below g i) → AreConsecutive (numbers g.nodes (below g i))
 
 own_together : (s : Shape) (earlier : List Shape) → All Raises earlier → total_change earlier < 4294967295 →
@@ -298,7 +298,7 @@ range_shift first a (suc z) =
     ap (λ x. (first + a) ∷ x) (range_shift first (suc a) z ∙ ap (λ x. range_from x z) e)
 
 pub number_seen : (info : Module) (first : ℕ) (es : List StackEntry) → All (λ (x : EntryView). first ≤ x.operator) (map entry_view es) →
-    (j : ℕ) → j < length es → slice_index (operators_of es) j ≡ first + (entry_at (graph_entries info first es) j).number
+    (j : ℕ) → j < length es → slice_index (entry_operators_of es) j ≡ first + (entry_at (graph_entries info first es) j).number
 number_seen info first es later j l =
     let d = undef_entry 0 in
     let low = All-get_or (λ (e : StackEntry). first ≤ e.operator_idx) es j d l (later_entries first es later) in
@@ -322,8 +322,8 @@ contiguous info first block es same later ps small i l one =
     AreConsecutive (numbers x (downwards (kins x) i))) same (together block ps small) i own painted in (
       first + stretch.0,
       stretch.1,
-      ap (λ x. map (λ j. slice_index (operators_of es) j) (downwards x i)) (sym (kins_same info first es))
-          ∙ (map_same (λ j. slice_index (operators_of es) j) (λ j. first + (entry_at nodes j).number) down (length nodes) inside
+      ap (λ x. map (λ j. slice_index (entry_operators_of es) j) (downwards x i)) (sym (kins_same info first es))
+          ∙ (map_same (λ j. slice_index (entry_operators_of es) j) (λ j. first + (entry_at nodes j).number) down (length nodes) inside
           (λ j w. number_seen info first es later j (omega arith)) ∙ (sym (map-map (λ x. first + x) (λ j. (entry_at nodes j).number) down)
           ∙ (ap (map (λ x. first + x)) stretch.2 ∙ range_shift first stretch.0 stretch.1))),
     )

@@ -13,10 +13,10 @@ use Rattle.peephole_graphs.specs.declared.dfg.StackEntry.{StackEntry}
 use Rattle.peephole_graphs.specs.Dfg.{IsSameEntry}
 use Rattle.peephole_graphs.specs.Forest.{has}
 use Rattle.peephole_graphs.specs.Downwards.{Kin, downwards}
-use Rattle.peephole_graphs.specs.Contiguous.{operators_of}
-use Rattle.peephole_graphs.specs.Order.{is_operator_at, forest_operators, AreInOrder}
+use Rattle.peephole_graphs.specs.Contiguous.{entry_operators_of}
+use Rattle.peephole_graphs.specs.Order.{is_operator_at, forest_operators, TreesAreInOrder}
 use Rattle.peephole_graphs.specs.Entries.{kin, kins_of, roots_of, children_at, IsForest}
-use Rattle.peephole_graphs.specs.Measures.{sizes_kept, flags_kept, sizes_of, flags_of, Measured, forwards}
+use Rattle.peephole_graphs.specs.Measures.{sizes_kept, flags_kept, sizes_of, color_flags_of, SubtreesAreMeasured, forwards}
 use Rattle.peephole_graphs.specs.declared.subtree.Subtree.{Subtree}
 use Rattle.peephole_graphs.specs.Layout.{entry_nodes, node_count_of, HasTrees}
 use Rattle.peephole_graphs.proofs.graph.WritableLemmas.{CanBeWritten, heads_writable, from_heads}
@@ -58,10 +58,10 @@ module _ (es fs : List StackEntry) (h : AllZip IsSameEntry es fs) where
   heads_same : map (λ (e : StackEntry). head_of e.operator) fs ≡ map (λ (e : StackEntry). head_of e.operator) es
   heads_same = map_same (λ (e : StackEntry). head_of e.operator) (λ e f s. s.0.0) es fs h
 
-  pub copied_measured : (subtrees subtrees' : List Subtree) → subtrees' ≡ subtrees → Measured es subtrees → Measured fs subtrees'
+  pub copied_measured : (subtrees subtrees' : List Subtree) → subtrees' ≡ subtrees → SubtreesAreMeasured es subtrees → SubtreesAreMeasured fs subtrees'
   copied_measured subtrees subtrees' e m = record {
     sizes_are = ap (λ x. reverse (sizes_kept x)) e ∙ (m.sizes_are ∙ ap sizes_of (sym kins_same));
-    flags_are = ap (λ x. reverse (flags_kept x)) e ∙ (m.flags_are ∙ ap flags_of (sym kins_same));
+    flags_are = ap (λ x. reverse (flags_kept x)) e ∙ (m.flags_are ∙ ap color_flags_of (sym kins_same));
   }
 
   pub copied_trees : (own_entry own_entry' : ℕ → Option ℕ) → ((k : ℕ) → own_entry' k ≡ own_entry k) → HasTrees es own_entry → HasTrees fs own_entry'
@@ -96,11 +96,11 @@ module _ (es fs : List StackEntry) (h : AllZip IsSameEntry es fs) where
   operators_same parents =
       let test : List Bool → ℕ → Bool = λ xs i. slice_index_or xs i false in
       let tests : is_operator_at fs ≡ is_operator_at es = ap test (map_same (λ (e : StackEntry). is_some (instr_of e.operator)) own_same es fs h) in
-      let numbers : operators_of fs ≡ operators_of es = map_same (λ (e : StackEntry). e.operator_idx) (λ e f s. s.2) es fs h in
+      let numbers : entry_operators_of fs ≡ entry_operators_of es = map_same (λ (e : StackEntry). e.operator_idx) (λ e f s. s.2) es fs h in
       λ j. map (λ i. slice_index (numbers j) i) (filter (tests j) (flat_map (downwards (kins_same j)) (roots_of parents)))
 
   pub copied_order : (parents parents' : List (Option ℕ)) → parents' ≡ parents →
-      IsTrue (forwards (kins_of es)) ↔ AreInOrder es parents → IsTrue (forwards (kins_of fs)) ↔ AreInOrder fs parents'
+      IsTrue (forwards (kins_of es)) ↔ TreesAreInOrder es parents → IsTrue (forwards (kins_of fs)) ↔ TreesAreInOrder fs parents'
   copied_order parents parents' e lies =
       let kins = ap forwards kins_same in
       let order = ap (forest_operators fs) e ∙ operators_same parents in (

@@ -18,9 +18,9 @@ use Rattle.peephole_graphs.specs.Tree.{Tree, ◌▸◌}
 use Rattle.peephole_graphs.specs.Forest.{has}
 use Rattle.peephole_graphs.specs.Graph.{GraphEntry, roots, undefs, trees_at, tree_of_entry, tree_at_entry}
 use Rattle.peephole_graphs.specs.Growing.{undef_entry}
-use Rattle.peephole_graphs.specs.Entries.{Graph, IsForest, kin, kins_of, entry_view, shape_of, graph_entry, graph_entries, roots_of, entry_tree}
+use Rattle.peephole_graphs.specs.Entries.{Graph, IsForest, kin, kins_of, entry_view, instruction_shape_of, graph_entry, graph_entries, roots_of, entry_tree}
 use Rattle.peephole_graphs.specs.Downwards.{Kin, downwards, kin_at}
-use Rattle.peephole_graphs.specs.Shown.{last_of}
+use Rattle.peephole_graphs.specs.Shown.{last_tree_of}
 use Rattle.peephole_graphs.specs.EntryTrees.{EndsWithTheLastTree, HasOwnTree, IsEntryOperand, HasChildrenBefore}
 use Rattle.peephole_graphs.proofs.graph.BlockGraph.{entry_at}
 use Rattle.peephole_graphs.proofs.DfgLemmas.{nodes_length, kins_length, get_item}
@@ -97,7 +97,7 @@ entry_operand source given i e s u =
     let none : instr_of e.operator ≡ None = ap instr_of u ∙ undef_instr in
     let own = seen_tree source.info source.first given.entries i e s (rw no_children (All-nil (λ c. c < i))) in (
       own.0,
-      own.1 ∙ ap (λ x. tree_of_entry (option_map (shape_of source.info) x) (children_of e.operator)
+      own.1 ∙ ap (λ x. tree_of_entry (option_map (instruction_shape_of source.info) x) (children_of e.operator)
           (e.operator_idx - source.first) own.0 (entry_tree source given)) none,
     )
 
@@ -193,7 +193,7 @@ root_last parents m n s =
     ∙ ap (λ (q : Option ℕ). front ++ q ∷ []) (get_or_from_slice_get parents m None None s)) in
     ap roots_of all ∙ (roots_root front ∙ ap (λ k. roots_of front ++ k ∷ []) (length-take-le m parents (omega arith)))
 
-last_pick : (g : ℕ → Tree) (t : Tree) (is : List ℕ) (i : ℕ) → last_of t (trees_at g (is ++ i ∷ [])) ≡ g i
+last_pick : (g : ℕ → Tree) (t : Tree) (is : List ℕ) (i : ℕ) → last_tree_of t (trees_at g (is ++ i ∷ [])) ≡ g i
 last_pick g t [] i = refl
 last_pick g t (j ∷ is) i = last_pick g (g j) is i
 
@@ -204,5 +204,5 @@ last_tree source given h n e =
     let there : m < length given.entries = slice_get_within given.entries m own.0 own.1 in
     let paired = h.forest_is.paired in
     let roots_are = root_last given.parents m (omega arith) (h.last n e).1 in
-    ap (last_of (tree.entry 0)) (sym h.trees ∙ ap (trees_at (entry_tree source given)) roots_are)
+    ap (last_tree_of (tree.entry 0)) (sym h.trees ∙ ap (trees_at (entry_tree source given)) roots_are)
     ∙ last_pick (entry_tree source given) (tree.entry 0) (roots_of (take m given.parents)) m

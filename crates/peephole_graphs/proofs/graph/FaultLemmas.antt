@@ -10,8 +10,8 @@ use Rattle.std.proofs.lemmas.List.Elements.{All-head, All-nil, All-push}
 use Rattle.wasm_code.specs.declared.operator.Operator.{Operator}
 use Rattle.wasm_types.specs.Module.{Module}
 use Rattle.peephole_graphs.specs.Shape.{Shape, Judged, Fits, Unfit, Unknown, judge, IsFit, AreFit, shapes_of_block}
-use Rattle.peephole_graphs.specs.GraphOf.{IsSmall, FirstFault, IsLarge}
-use Rattle.peephole_graphs.specs.Faults.{Fault, held_by_none, calls_unknown, too_large, has_room, fault_behind, fault_among, fault_of, HasNoFault}
+use Rattle.peephole_graphs.specs.GraphOf.{IsSmall, FirstFault, ShapeDoesNotFit}
+use Rattle.peephole_graphs.specs.Faults.{Fault, held_by_none, calls_unknown, too_large, has_room, fault_behind, fault_among, block_fault_of, HasNoFault}
 use Rattle.peephole_graphs.specs.Faults.{FindsNoGraph, FindsUnknown, FindsTooLarge}
 use Rattle.peephole_graphs.proofs.Lists.{all_left, all_right}
 use Rattle.peephole_graphs.proofs.BuilderLemmas.{block_push}
@@ -101,7 +101,7 @@ module _ (info : Module) (preserving : Bool) where
   HasFault f os = FirstFault (record { info = info; preserving = preserving; first = 0; operators = os })
       (λ block j. fault_behind preserving block j ≡ Some f)
 
-  found_again : (f : Fault) (os : Operators) → HasFault f os → fault_of info preserving os ≡ Some f
+  found_again : (f : Fault) (os : Operators) → HasFault f os → block_fault_of info preserving os ≡ Some f
   found_again f os h =
       let back = reverse-reverse h.before in
       let none = none_among (reverse h.before) (subst FitsAndIsSmall (sym back) (h.fit, h.small)) in
@@ -163,12 +163,12 @@ unknown_is preserving block (Unknown other) function h = let same : other ≡ fu
 unknown_is preserving block (Fits s) function h =
     let e = (room_fault (has_room preserving block s) (calls_unknown function) h).1 in absurd cc
 
-large_is : (preserving : Bool) (block : List Shape) (j : Judged) → fault_behind preserving block j ≡ Some too_large → IsLarge preserving block j
+large_is : (preserving : Bool) (block : List Shape) (j : Judged) → fault_behind preserving block j ≡ Some too_large → ShapeDoesNotFit preserving block j
 large_is preserving block Unfit h = absurd cc
 large_is preserving block (Unknown other) h = absurd cc
 large_is preserving block (Fits s) h = (s, refl, λ small. false≢true (sym (room_fault _ _ h).0 ∙ (roomy preserving block s small.0).1 small))
 
-large_found : (preserving : Bool) (block : List Shape) (j : Judged) → IsSmall preserving block → IsLarge preserving block j →
+large_found : (preserving : Bool) (block : List Shape) (j : Judged) → IsSmall preserving block → ShapeDoesNotFit preserving block j →
     fault_behind preserving block j ≡ Some too_large
 large_found preserving block j small h =
     let r = false_from_ne_true (has_room preserving block h.0) (λ e. h.2 ((roomy preserving block h.0 small).0 e)) in
@@ -176,12 +176,12 @@ large_found preserving block j small h =
 
 is_found : (s : Source) (f : Fault) (P : List Shape → Judged → Type 0) →
     ((block : List Shape) (j : Judged) → IsSmall s.preserving block → P block j → fault_behind s.preserving block j ≡ Some f) →
-    FirstFault s P → fault_of s.info s.preserving s.operators ≡ Some f
+    FirstFault s P → block_fault_of s.info s.preserving s.operators ≡ Some f
 is_found s f P g h = found_again s.info s.preserving f s.operators (said_otherwise s 0 P (λ block j. fault_behind s.preserving block j ≡ Some f) g h)
 
 says : (s : Source) (f : Fault) (P : List Shape → Judged → Type 0) →
     ((block : List Shape) (j : Judged) → IsSmall s.preserving block → fault_behind s.preserving block j ≡ Some f → P block j) →
-    fault_of s.info s.preserving s.operators ≡ Some f → FirstFault s P
+    block_fault_of s.info s.preserving s.operators ≡ Some f → FirstFault s P
 says s f P g h = said_otherwise (record { info = s.info; preserving = s.preserving; first = 0; operators = s.operators }) s.first
     (λ block j. fault_behind s.preserving block j ≡ Some f) P g (subst (HasFault s.info s.preserving f) (reverse-reverse s.operators)
     (fault_found s.info s.preserving f (reverse s.operators) h))
@@ -208,6 +208,6 @@ finds_unknown s function = (
 
 pub finds_too_large : FindsTooLarge
 finds_too_large s = (
-  says s too_large (IsLarge s.preserving) (λ block j small h. large_is s.preserving block j h),
-  is_found s too_large (IsLarge s.preserving) (large_found s.preserving),
+  says s too_large (ShapeDoesNotFit s.preserving) (λ block j small h. large_is s.preserving block j h),
+  is_found s too_large (ShapeDoesNotFit s.preserving) (large_found s.preserving),
 )

@@ -19,7 +19,7 @@ use Rattle.peephole_graphs.specs.Dfg.{graph_of, IsSameEntry, IsSameGraph}
 use Rattle.peephole_graphs.specs.Entries.{EntryView, entry_view, graph_entry, roots_of}
 use Rattle.peephole_graphs.specs.Forest.{has}
 use Rattle.peephole_graphs.specs.Graph.{tree_at_entry, trees_at}
-use Rattle.peephole_graphs.specs.GraphOf.{IsEntryOf, IsGraphOf, IsMissing, IsOperator}
+use Rattle.peephole_graphs.specs.GraphOf.{IsStackEntryOf, IsGraphOf, IsMissing, IsOperator}
 use Rattle.peephole_graphs.specs.Source.{Source}
 use Rattle.peephole_graphs.specs.Tree.{Trees}
 use Rattle.peephole_graphs.proofs.graph.EntryCopies.{copied_forest, map_same}
@@ -42,7 +42,7 @@ missing_same e f h m = (
 operator_same : (s : Source) (n : ℕ) (e f : StackEntry) → IsSameEntry e f → IsOperator s n e → IsOperator s n f
 operator_same s n e f h (i, at, there, instr, color) = (i, at, there, ap instr_of_head h.0.0 ∙ instr, h.1 ∙ color)
 
-entry_same : (s : Source) (e f : StackEntry) → IsSameEntry e f → IsEntryOf s e → IsEntryOf s f
+entry_same : (s : Source) (e f : StackEntry) → IsSameEntry e f → IsStackEntryOf s e → IsStackEntryOf s f
 entry_same s e f h (n, l, at, inl own) = (n, l, h.2 ∙ at, inl (operator_same s n e f h own))
 entry_same s e f h (n, l, at, inr missing) = (n, l, h.2 ∙ at, inr (missing_same e f h missing))
 

@@ -23,8 +23,8 @@ use Rattle.peephole_graphs.specs.Forest.{has}
 use Rattle.peephole_graphs.specs.Color.{color_at}
 use Rattle.peephole_graphs.specs.Graph.{GraphEntry, undef, item}
 use Rattle.peephole_graphs.specs.Growing.{undef_entry}
-use Rattle.peephole_graphs.specs.Entries.{EntryView, entry_view, shape_of, graph_entry, graph_entries, children_at, Graph}
-use Rattle.peephole_graphs.specs.GraphOf.{IsGraphOf, IsMissing, IsOperator, IsEntryOf}
+use Rattle.peephole_graphs.specs.Entries.{EntryView, entry_view, instruction_shape_of, graph_entry, graph_entries, children_at, Graph}
+use Rattle.peephole_graphs.specs.GraphOf.{IsGraphOf, IsMissing, IsOperator, IsStackEntryOf}
 use Rattle.peephole_graphs.proofs.Lists.{all_slice_get}
 use Rattle.peephole_graphs.proofs.graph.BlockGraph.{entry_at, parent_at, shape_at, IsBlockEntry, IsOperatorOrMissing}
 use Rattle.peephole_graphs.proofs.graph.Representation.{Represents, IsOwnOrUndef}
@@ -140,7 +140,7 @@ module _ (source : Source) (e : StackEntry) (fit : AreFit source.info source.ope
   abbrev seen : GraphEntry
   seen = graph_entry source.info source.first (entry_view e)
 
-  entry_into : IsEntryOf source e → IsBlockEntry source.preserving (shapes_in source) seen
+  entry_into : IsStackEntryOf source e → IsBlockEntry source.preserving (shapes_in source) seen
   entry_into (n, l, at, kind) =
       let block = shapes_in source in
       let P : Option Shape → Type 0 = λ o. IsOperatorOrMissing source.preserving block o seen in
@@ -154,20 +154,20 @@ module _ (source : Source) (e : StackEntry) (fit : AreFit source.info source.ope
               let own = operator_fits source.info o.operator.0 o.shape o.judged in
               let fits = shape_fit source.info o.operator.0 o.shape o.judged in
               let turned = shape_turned (operator_shapes source.info source.operators) n in
-              let shape : shape_at block (e.operator_idx - source.first) ≡ Some (shape_of source.info i) = cc in
-              subst P (sym (ap (option_map (shape_of source.info)) instr)) (shape, color ∙ ap (color_at source.preserving block) (sym number))
-          | inr (missing, color) ↦ subst P (sym (ap (λ (l : Lang). option_map (shape_of source.info) (instr_of l)) missing ∙
-              ap (option_map (shape_of source.info)) undef_instr)) (ap children_of missing ∙ undef_children, color)
+              let shape : shape_at block (e.operator_idx - source.first) ≡ Some (instruction_shape_of source.info i) = cc in
+              subst P (sym (ap (option_map (instruction_shape_of source.info)) instr)) (shape, color ∙ ap (color_at source.preserving block) (sym number))
+          | inr (missing, color) ↦ subst P (sym (ap (λ (l : Lang). option_map (instruction_shape_of source.info) (instr_of l)) missing ∙
+              ap (option_map (instruction_shape_of source.info)) undef_instr)) (ap children_of missing ∙ undef_children, color)
         ],
       )
 
-  entry_from : source.first ≤ e.operator_idx → IsOwnOrUndef e → IsBlockEntry source.preserving (shapes_in source) seen → IsEntryOf source e
+  entry_from : source.first ≤ e.operator_idx → IsOwnOrUndef e → IsBlockEntry source.preserving (shapes_in source) seen → IsStackEntryOf source e
   entry_from later missing (l, kind) =
       let count = block_length source.info source.operators fit in
       (e.operator_idx - source.first, omega arith, omega arith, go (instr_of e.operator) refl kind)
     where
       go : (o : Option Instruction) → instr_of e.operator ≡ o → IsOperatorOrMissing source.preserving (shapes_in source)
-          (option_map (shape_of source.info) o) seen → IsOperator source (e.operator_idx - source.first) e ⊎ IsMissing e
+          (option_map (instruction_shape_of source.info) o) seen → IsOperator source (e.operator_idx - source.first) e ⊎ IsMissing e
       go None w k = inr (missing w, k.1)
       go (Some i) w k =
           let count = block_length source.info source.operators fit in
@@ -208,13 +208,14 @@ module _ (source : Source) (given : Graph) where
   kids p i = ap (has i) (children_seen source.info source.first given.entries p)
 
   module _ (h : IsGraphOf source given) where
-    own : (e : StackEntry) → IsEntryOf source e → instr_of e.operator ≡ None → e.operator ≡ Undef
+    own : (e : StackEntry) → IsStackEntryOf source e → instr_of e.operator ≡ None → e.operator ≡ Undef
     own e (n, l, at, inl (i, offset, there, instr, color)) w = some_none i (sym instr ∙ w)
     own e (n, l, at, inr (missing, color)) w = missing
 
-    lacks : (i : ℕ) (e : StackEntry) → IsAt i e → option_map (shape_of source.info) (instr_of e.operator) ≡ None → IsMissing e
+    lacks : (i : ℕ) (e : StackEntry) → IsAt i e → option_map (instruction_shape_of source.info) (instr_of e.operator) ≡ None → IsMissing e
     lacks i e s none = elim (h.entry i e s).3 [
-      | inl (j, offset, there, instr, color) ↦ some_none (shape_of source.info j) (sym (ap (option_map (shape_of source.info)) instr) ∙ none)
+      | inl (j, offset, there, instr, color) ↦ some_none (instruction_shape_of source.info j)
+          (sym (ap (option_map (instruction_shape_of source.info)) instr) ∙ none)
       | inr missing ↦ missing
     ]
 
@@ -286,7 +287,7 @@ module _ (source : Source) (given : Graph) where
           (subst (IsBlockEntry source.preserving (shapes_in source)) (at i e s) (h.block_graph.entries i (omega arith)));
       taker = λ p i e x se sx w m.
           let same = h.block_graph.taker p i (ap (λ (y : GraphEntry). has i y.children) (at p e se) ∙ w)
-          (ap (λ (y : GraphEntry). y.shape) (at i x sx) ∙ ap (option_map (shape_of source.info)) (ap instr_of m.0 ∙ undef_instr)) in
+          (ap (λ (y : GraphEntry). y.shape) (at i x sx) ∙ ap (option_map (instruction_shape_of source.info)) (ap instr_of m.0 ∙ undef_instr)) in
           let p' = number i x sx in
           let q' = number p e se in
           let a = later i x sx in

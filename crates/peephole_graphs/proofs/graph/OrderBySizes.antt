@@ -12,13 +12,15 @@ use Rattle.peephole_graphs.specs.Tree.{Tree, entry, node, Trees, no_trees, ◌�
 use Rattle.peephole_graphs.specs.Forest.{is_root, has, IsInOrder}
 use Rattle.peephole_graphs.specs.Color.{color_after}
 use Rattle.peephole_graphs.specs.Graph.{trees_at, roots, tree_at_entry, undef}
-use Rattle.peephole_graphs.specs.Step.{Growth, grown}
+use Rattle.peephole_graphs.specs.Step.{GraphGrowth, grown}
 use Rattle.peephole_graphs.proofs.forest.TreeStack.{is_open, without_open, last_open, tree_stack}
 use Rattle.peephole_graphs.proofs.forest.ForestLemmas.{rev, forest_is, Falling, Falling-tree_stack, root_below}
 use Rattle.peephole_graphs.proofs.forest.EntryOperands.{all_last_open}
-use Rattle.peephole_graphs.proofs.forest.ConsecutiveOperators.{numbers_rev, range_parts, parts_apart, forest_numbers, some_root, without_open_if_none, in_right, one_in, order_tree_stack}
+use Rattle.peephole_graphs.proofs.forest.ConsecutiveOperators.{numbers_rev, range_parts, parts_apart, forest_numbers, some_root}
+use Rattle.peephole_graphs.proofs.forest.ConsecutiveOperators.{without_open_if_none, in_right, one_in, order_tree_stack}
 use Rattle.peephole_graphs.proofs.forest.ConsecutiveOperators.{range_last, spread}
-use Rattle.peephole_graphs.proofs.graph.StackGraph.{graph, IsGraph, is_graph, FallingIds, FallingIds-filter, FallingIds-take, FallingIds-without_open, open_at, without_open_ids}
+use Rattle.peephole_graphs.proofs.graph.StackGraph.{graph, IsGraph, is_graph, FallingIds, FallingIds-filter, FallingIds-take}
+use Rattle.peephole_graphs.proofs.graph.StackGraph.{FallingIds-without_open, open_at, without_open_ids}
 use Rattle.peephole_graphs.proofs.graph.StackGraph.{stack_trees, behind, more_of, place_of, taken_of, roots_fall, new_roots}
 use Rattle.peephole_graphs.proofs.graph.Totals.{size_of_entry, size_own, size_old}
 
@@ -140,11 +142,11 @@ contig_same f g (i ∷ is) end n h e c =
     (c.0, subst (λ x. Contig g (end - x) is) (e i h.0) (contig_same f g is (end - f i) i h.1 (λ j l. e j (let k = h.0 in omega arith)) c.1))
 
 -- what a step of the graph takes is a chain
-abbrev IsChained : Shape → Growth → Type 0
+abbrev IsChained : Shape → GraphGrowth → Type 0
 IsChained s g = chain (size_of_entry g) (length g.nodes) (taken_of s g) ≡ true
 
 -- the same of the roots
-chained_roots : (s : Shape) (earlier : List Shape) (g : Growth) → IsGraph earlier g → IsChained s g →
+chained_roots : (s : Shape) (earlier : List Shape) (g : GraphGrowth) → IsGraph earlier g → IsChained s g →
     chain (size_of_entry g) (length g.nodes) (take s.operands (filter (open_at (tree_at_entry g.nodes)) (roots g.parents))) ≡ true
 chained_roots s earlier g ig h = ap (λ x. chain (size_of_entry g) (length g.nodes) (take s.operands x)) (sym ig.stack_is) ∙ h
 

@@ -20,7 +20,7 @@ use Rattle.peephole_graphs.specs.Graph.{trees_at}
 use Rattle.peephole_graphs.specs.Downwards.{downwards}
 use Rattle.peephole_graphs.specs.Source.{Source, shapes_in}
 use Rattle.peephole_graphs.specs.Entries.{Graph, kins_of, roots_of, entry_tree}
-use Rattle.peephole_graphs.specs.Contiguous.{operators_of}
+use Rattle.peephole_graphs.specs.Contiguous.{entry_operators_of}
 use Rattle.peephole_graphs.specs.Order.{is_operator_at, operators_among, forest_operators}
 use Rattle.peephole_graphs.specs.GraphOf.{IsGraphOf}
 use Rattle.peephole_graphs.specs.Shown.{ShowsTheOrder}
@@ -45,7 +45,7 @@ module _ (source : Source) (given : Graph) (h : IsGraphOf source given) where
 
   among_append : (is js : List ℕ) → among (is ++ js) ≡ among is ++ among js
   among_append is js =
-      let index = λ (i : ℕ). slice_index (operators_of given.entries) i in
+      let index = λ (i : ℕ). slice_index (entry_operators_of given.entries) i in
       let test = is_operator_at given.entries in
       ap (map index) (filter-append test is js) ∙ map-append index (filter test is) (filter test js)
 
@@ -67,8 +67,8 @@ module _ (source : Source) (given : Graph) (h : IsGraphOf source given) where
       let is_operator = λ (x : StackEntry). is_some (instr_of x.operator) in
       let test : is_operator_at given.entries i ≡ b = get_or-map is_operator given.entries i e false l ∙ (ap is_operator here ∙ w) in
       let number = get_or-map (λ (x : StackEntry). x.operator_idx) given.entries i e 0 l ∙ ap (λ (x : StackEntry). x.operator_idx) here in
-      ap (λ t. map (λ i. slice_index (operators_of given.entries) i) (cond t (i ∷ []) [])) test
-      ∙ (elim b as (λ t. map (λ i. slice_index (operators_of given.entries) i) (cond t (i ∷ []) []) ≡ cond t (e.operator_idx ∷ []) []) [
+      ap (λ t. map (λ i. slice_index (entry_operators_of given.entries) i) (cond t (i ∷ []) [])) test
+      ∙ (elim b as (λ t. map (λ i. slice_index (entry_operators_of given.entries) i) (cond t (i ∷ []) []) ≡ cond t (e.operator_idx ∷ []) []) [
         | true ↦ ap (λ n. n ∷ []) number
         | false ↦ refl
       ])

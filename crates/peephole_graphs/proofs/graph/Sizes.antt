@@ -12,7 +12,7 @@ use Rattle.std.proofs.lemmas.List.Sums.{sum_by-append, sum_by-cons}
 use Rattle.peephole_graphs.specs.Graph.{item}
 use Rattle.peephole_graphs.specs.Step.{down}
 use Rattle.peephole_graphs.specs.Downwards.{Kin, downwards, kin_at}
-use Rattle.peephole_graphs.specs.Measures.{are_colored, sizes_of, flags_of, are_alike}
+use Rattle.peephole_graphs.specs.Measures.{are_colored, sizes_of, color_flags_of, are_alike}
 use Rattle.peephole_graphs.proofs.Lists.{all_reverse, all_flat_map, sum_by-reverse, sum_by_same}
 use Rattle.peephole_graphs.proofs.graph.StackGraph.{behind}
 use Rattle.peephole_graphs.proofs.graph.BlockGraphLemmas.{at_old, at_more, item_last, item_before}
@@ -48,7 +48,7 @@ pub sizes_length : (xs : List Kin) → length (sizes_of xs) ≡ length xs
 sizes_length [] = refl
 sizes_length (e ∷ xs) = ap suc (sizes_length xs)
 
-pub flags_length : (xs : List Kin) → length (flags_of xs) ≡ length xs
+pub flags_length : (xs : List Kin) → length (color_flags_of xs) ≡ length xs
 flags_length [] = refl
 flags_length (e ∷ xs) = ap suc (flags_length xs)
 
@@ -100,7 +100,7 @@ kin_older e xs i l = item_before (record { children = []; color = 0 }) e xs i l
 colored_older : (e : Kin) (xs : List Kin) (c i : ℕ) → are_colored (e ∷ xs) c (downwards xs i) ≡ are_colored xs c (downwards xs i)
 colored_older e xs c i = colored_same (e ∷ xs) xs c (length xs) (downwards xs i) (down_below xs i) (kin_older e xs)
 
-pub flag_at : (xs : List Kin) (i : ℕ) → i < length xs → are_colored xs (kin_at xs i).color (downwards xs i) ≡ item false (flags_of xs) i
+pub flag_at : (xs : List Kin) (i : ℕ) → i < length xs → are_colored xs (kin_at xs i).color (downwards xs i) ≡ item false (color_flags_of xs) i
 flag_at [] i l = absurd (omega arith)
 flag_at (e ∷ xs) i l =
     let ih = flag_at xs i in
@@ -117,7 +117,7 @@ down_last (e ∷ xs) i l = ⊎_elim
     (cases_eq (length xs) i)
 
 alike : (xs : List Kin) (c i : ℕ) → i < length xs →
-    are_colored xs c (downwards xs i) ≡ (item false (flags_of xs) i && ((kin_at xs i).color == c))
+    are_colored xs c (downwards xs i) ≡ (item false (color_flags_of xs) i && ((kin_at xs i).color == c))
 alike xs c i l =
     let flag = flag_at xs i l in
     let own = down_last xs i l in
@@ -148,7 +148,7 @@ colored_down zs c b zero f h = refl
 colored_down zs c b (suc k) f h = let one = h (b + k) (omega arith) (omega arith) in
     grind (arith, nat_tests, colored_append zs c (f (b + k)) (flat_map f (down b k)))
 
-flags_replicate : (u : Kin) (k : ℕ) (xs : List Kin) → u.children ≡ [] → flags_of (replicate k u ++ xs) ≡ replicate k true ++ flags_of xs
+flags_replicate : (u : Kin) (k : ℕ) (xs : List Kin) → u.children ≡ [] → color_flags_of (replicate k u ++ xs) ≡ replicate k true ++ color_flags_of xs
 flags_replicate u zero xs e = refl
 flags_replicate u (suc k) xs e =
     let ih = flags_replicate u k xs e in
@@ -158,8 +158,8 @@ flags_replicate u (suc k) xs e =
 
 pub flags_step : (new u : Kin) (more : ℕ) (xs : List Kin) (taken : List ℕ) → u.children ≡ [] → u.color ≡ 4294967295 →
     new.color < 4294967295 → new.children ≡ down (length xs) more ++ reverse taken → All (λ i. i < length xs) taken →
-    flags_of (new ∷ (replicate more u ++ xs)) ≡ ((more == 0) && are_alike (item false (flags_of xs))
-    (λ i. (kin_at xs i).color) new.color taken) ∷ (replicate more true ++ flags_of xs)
+    color_flags_of (new ∷ (replicate more u ++ xs)) ≡ ((more == 0) && are_alike (item false (color_flags_of xs))
+    (λ i. (kin_at xs i).color) new.color taken) ∷ (replicate more true ++ color_flags_of xs)
 flags_step new u more xs taken e v l d h =
     let ys = replicate more u ++ xs in
     let zs = new ∷ ys in
@@ -170,11 +170,12 @@ flags_step new u more xs taken e v l d h =
     let one : are_colored zs c (flat_map (downwards ys) (down (length xs) more)) ≡ (more == 0) =
     colored_down zs c (length xs) more (downwards ys) (λ i a b. ap (are_colored zs c) (down_more u more xs i e a b) ∙
     ap (λ x. x && true) (ap (λ (k : Kin). k.color == c) (at_more none new u more xs i a b) ∙ ne_eqb u.color c (λ w. omega arith))) in
-    let two : are_colored zs c (flat_map (downwards ys) (reverse taken)) ≡ are_alike (item false (flags_of xs))
-    (λ i. (kin_at xs i).color) c taken = colored_gather zs c (downwards ys) (item false (flags_of xs)) (λ i. (kin_at xs i).color) (reverse taken) (length xs)
+    let two : are_colored zs c (flat_map (downwards ys) (reverse taken)) ≡ are_alike (item false (color_flags_of xs))
+    (λ i. (kin_at xs i).color) c taken = colored_gather zs c (downwards ys) (item false (color_flags_of xs)) (λ i. (kin_at xs i).color)
+    (reverse taken) (length xs)
     (all_reverse (λ i. i < length xs) taken h)
     (λ i b. ap (are_colored zs c) (down_old u more xs i b) ∙ (colored_same zs xs c (length xs) (downwards xs i) (down_below xs i) old ∙ alike xs c i b)) ∙
-    alike_reverse (item false (flags_of xs)) (λ i. (kin_at xs i).color) c taken in
+    alike_reverse (item false (color_flags_of xs)) (λ i. (kin_at xs i).color) c taken in
     let kids = ap (λ x. are_colored zs c (flat_map (downwards ys) x)) d ∙
     ap (are_colored zs c) (flat_map-append (downwards ys) (down (length xs) more) (reverse taken)) in
     let own = ap (are_colored zs c) (down_own new ys) ∙ colored_append zs c (flat_map (downwards ys) new.children) (length ys ∷ []) in

@@ -12,14 +12,14 @@ use Rattle.peephole_graphs.specs.Tree.{Tree, entry, node, no_trees, ◌▸◌, j
 use Rattle.peephole_graphs.specs.Forest.{forest, has}
 use Rattle.peephole_graphs.specs.Color.{color_after}
 use Rattle.peephole_graphs.specs.Graph.{undef, GraphEntry, trees_at, undefs, tree_at_entry, roots}
-use Rattle.peephole_graphs.specs.Step.{down, mark, Growth, grown}
+use Rattle.peephole_graphs.specs.Step.{down, mark, GraphGrowth, grown}
 use Rattle.peephole_graphs.proofs.forest.Depth.{top}
 use Rattle.peephole_graphs.proofs.forest.TreeStack.{is_open, opens, forest_value, without_open, last_open, tree_stack, missing, operator}
 use Rattle.peephole_graphs.proofs.forest.ForestLemmas.{rev, forest_is}
 use Rattle.peephole_graphs.proofs.forest.EntryOperands.{entries, top_last_open}
 use Rattle.peephole_graphs.proofs.Lists.{has_each}
 
-abbrev pub graph : Bool → List Shape → Growth
+abbrev pub graph : Bool → List Shape → GraphGrowth
 graph preserving [] = record { nodes = []; parents = []; stack = [] }
 graph preserving (s ∷ earlier) = grown (graph preserving earlier) s (length earlier) (color_after preserving earlier)
 
@@ -171,7 +171,7 @@ pick_down : (at : ℕ → Tree) (base m k : ℕ) → ((d : ℕ) → d < k → at
 pick_down at base m zero h = refl
 pick_down at base m (suc k) h = ap₂ (λ x y. x ▸ y) (h k (omega arith)) (pick_down at base m k (λ d l. h d (omega arith)))
 
-pub record IsGraph (block : List Shape) (g : Growth) : Type 0 where
+pub record IsGraph (block : List Shape) (g : GraphGrowth) : Type 0 where
   pub same_length : length g.parents ≡ length g.nodes
   pub undefs_are : undefs g.nodes ≡ missing block
   pub tree_stack_is : trees_at (tree_at_entry g.nodes) (roots g.parents) ≡ tree_stack block
@@ -179,19 +179,19 @@ pub record IsGraph (block : List Shape) (g : Growth) : Type 0 where
 
 -- ---- what a step takes and adds
 
-abbrev pub more_of : Shape → Growth → ℕ
+abbrev pub more_of : Shape → GraphGrowth → ℕ
 more_of s g = s.operands - length g.stack
 
-abbrev pub place_of : Shape → Growth → ℕ
+abbrev pub place_of : Shape → GraphGrowth → ℕ
 place_of s g = length g.nodes + more_of s g
 
-abbrev pub taken_of : Shape → Growth → List ℕ
+abbrev pub taken_of : Shape → GraphGrowth → List ℕ
 taken_of s g = take s.operands g.stack
 
-abbrev pub new_entry : Shape → Growth → ℕ → ℕ → GraphEntry
+abbrev pub new_entry : Shape → GraphGrowth → ℕ → ℕ → GraphEntry
 new_entry s g n c = record { shape = Some s; children = down (length g.nodes) (more_of s g) ++ reverse (taken_of s g); number = n; color = c }
 
-module _ (block : List Shape) (g : Growth) (ig : IsGraph block g) where
+module _ (block : List Shape) (g : GraphGrowth) (ig : IsGraph block g) where
   pub roots_fall : FallingIds (roots g.parents) (length g.nodes)
   roots_fall = subst (FallingIds (roots g.parents)) ig.same_length (FallingIds-roots g.parents)
 
@@ -218,7 +218,7 @@ module _ (block : List Shape) (g : Growth) (ig : IsGraph block g) where
         ∙ (ap (λ x. filter (λ j. if has j (take s.operands x) then false else true) rs) ig.stack_is
         ∙ roots_without_open (open_at (tree_at_entry g.nodes)) rs (length g.nodes) s.operands roots_fall)))
 
-pub is_graph_step : (s : Shape) (earlier : List Shape) (g : Growth) (c : ℕ) → IsGraph earlier g → IsGraph (s ∷ earlier) (grown g s (length earlier) c)
+pub is_graph_step : (s : Shape) (earlier : List Shape) (g : GraphGrowth) (c : ℕ) → IsGraph earlier g → IsGraph (s ∷ earlier) (grown g s (length earlier) c)
 is_graph_step s earlier g c ih =
     let n = length earlier in
     let k = s.operands in
@@ -261,5 +261,5 @@ is_graph preserving [] = record { same_length = refl; undefs_are = refl; tree_st
 is_graph preserving (s ∷ earlier) = is_graph_step s earlier (graph preserving earlier) (color_after preserving earlier) (is_graph preserving earlier)
 
 -- The trees of the entries without a parent, ascending, are the forest.
-pub graph_forest : (block : List Shape) (g : Growth) → IsGraph block g → trees_at (tree_at_entry g.nodes) (reverse (roots g.parents)) ≡ forest block
+pub graph_forest : (block : List Shape) (g : GraphGrowth) → IsGraph block g → trees_at (tree_at_entry g.nodes) (reverse (roots g.parents)) ≡ forest block
 graph_forest block g h = pick_reverse (tree_at_entry g.nodes) (roots g.parents) ∙ (ap rev h.tree_stack_is ∙ sym (forest_is block))

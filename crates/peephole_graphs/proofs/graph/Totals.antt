@@ -8,11 +8,12 @@ use Rattle.std.proofs.lemmas.List.Sums.{sum_by-cons}
 use Rattle.peephole_graphs.specs.Shape.{Shape}
 use Rattle.peephole_graphs.specs.Color.{color_after}
 use Rattle.peephole_graphs.specs.Graph.{GraphEntry, roots, tree_at_entry, undef, item}
-use Rattle.peephole_graphs.specs.Step.{Growth, grown, down}
+use Rattle.peephole_graphs.specs.Step.{GraphGrowth, grown, down}
 use Rattle.peephole_graphs.specs.Downwards.{Kin, kin_at}
-use Rattle.peephole_graphs.specs.Measures.{sizes_of, flags_of, are_alike}
+use Rattle.peephole_graphs.specs.Measures.{sizes_of, color_flags_of, are_alike}
 use Rattle.peephole_graphs.proofs.Lists.{sum_by_same}
-use Rattle.peephole_graphs.proofs.graph.StackGraph.{graph, IsGraph, is_graph, FallingIds-without_open, open_at, without_open_ids, behind, roots_fall, falls_below, more_of}
+use Rattle.peephole_graphs.proofs.graph.StackGraph.{graph, IsGraph, is_graph, FallingIds-without_open, open_at, without_open_ids, behind}
+use Rattle.peephole_graphs.proofs.graph.StackGraph.{roots_fall, falls_below, more_of}
 use Rattle.peephole_graphs.proofs.graph.StackGraph.{place_of, taken_of, new_entry, taken_below, new_roots}
 use Rattle.peephole_graphs.proofs.graph.BlockGraphLemmas.{at_old, at_own}
 use Rattle.peephole_graphs.proofs.graph.Sizes.{sizes_step, flags_step, sizes_length}
@@ -27,20 +28,21 @@ pub map_replicate : {A B : Type 0} (f : A → B) (k : ℕ) (x : A) → map f (re
 map_replicate f zero x = refl
 map_replicate f (suc k) x = ap (λ y. f x ∷ y) (map_replicate f k x)
 
-abbrev pub new_kin : Shape → Growth → ℕ → Kin
+abbrev pub new_kin : Shape → GraphGrowth → ℕ → Kin
 new_kin s g c = kin_of (new_entry s g 0 c)
 
-abbrev pub size_of_entry : Growth → ℕ → ℕ
+abbrev pub size_of_entry : GraphGrowth → ℕ → ℕ
 size_of_entry g i = item 0 (sizes_of (kins g.nodes)) i
 
 -- ---- a step
 
 -- the kins behind it
-pub kins_step : (s : Shape) (g : Growth) (n c : ℕ) → kins (grown g s n c).nodes ≡ new_kin s g c ∷ (replicate (more_of s g) (kin_of (undef n)) ++ kins g.nodes)
+pub kins_step : (s : Shape) (g : GraphGrowth) (n c : ℕ) → kins (grown g s n c).nodes ≡ new_kin s g c
+    ∷ (replicate (more_of s g) (kin_of (undef n)) ++ kins g.nodes)
 kins_step s g n c = ap (λ x. new_kin s g c ∷ x) (map-append kin_of (replicate (more_of s g) (undef n)) g.nodes ∙
     ap (λ x. x ++ kins g.nodes) (map_replicate kin_of (more_of s g) (undef n)))
 
-module _ (s : Shape) (earlier : List Shape) (g : Growth) (n c : ℕ) (ig : IsGraph earlier g) where
+module _ (s : Shape) (earlier : List Shape) (g : GraphGrowth) (n c : ℕ) (ig : IsGraph earlier g) where
   kids_are : (new_kin s g c).children ≡ down (length (kins g.nodes)) (more_of s g) ++ reverse (taken_of s g)
   kids_are = ap (λ x. down x (more_of s g) ++ reverse (taken_of s g)) (sym (length-map g.nodes kin_of))
 
@@ -52,10 +54,10 @@ module _ (s : Shape) (earlier : List Shape) (g : Growth) (n c : ℕ) (ig : IsGra
   sizes_grown = ap sizes_of (kins_step s g n c) ∙
       sizes_step (new_kin s g c) (kin_of (undef n)) (more_of s g) (kins g.nodes) (taken_of s g) refl kids_are inside
 
-  pub flags_grown : c < 4294967295 → flags_of (kins (grown g s n c).nodes) ≡ ((more_of s g == 0) &&
-      are_alike (item false (flags_of (kins g.nodes))) (λ i. (kin_at (kins g.nodes) i).color) c (taken_of s g)) ∷
-      (replicate (more_of s g) true ++ flags_of (kins g.nodes))
-  flags_grown b = ap flags_of (kins_step s g n c) ∙
+  pub flags_grown : c < 4294967295 → color_flags_of (kins (grown g s n c).nodes) ≡ ((more_of s g == 0) &&
+      are_alike (item false (color_flags_of (kins g.nodes))) (λ i. (kin_at (kins g.nodes) i).color) c (taken_of s g)) ∷
+      (replicate (more_of s g) true ++ color_flags_of (kins g.nodes))
+  flags_grown b = ap color_flags_of (kins_step s g n c) ∙
       flags_step (new_kin s g c) (kin_of (undef n)) (more_of s g) (kins g.nodes) (taken_of s g) refl refl b kids_are inside
 
   pub size_own : size_of_entry (grown g s n c) (place_of s g) ≡ suc (more_of s g + sum_by (size_of_entry g) (taken_of s g))

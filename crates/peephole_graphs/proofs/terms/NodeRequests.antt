@@ -9,9 +9,10 @@ use Rattle.std.proofs.lemmas.List.Elements.{All-nil, All-cons, All-append, All-p
 use Rattle.peephole_nodes.specs.declared.id.Id.{Id}
 use Rattle.peephole_lang.specs.Term.{Term, Terms, absent, node, no_terms, ◌▸◌, Node, numbers_of}
 use Rattle.peephole_graphs.specs.Layout.{node_count_of, node_count, IsWhole, AreWhole}
-use Rattle.peephole_graphs.specs.Rebuild.{CanAnswer, IsReached, IsPart, AreParts, IsTree, IsTooLong, Piece, child_count, in_postfix, all_in_postfix, AreAsked}
+use Rattle.peephole_graphs.specs.Rebuild.{CanAnswer, NodeIsReached, IsPart, AreParts, IsRebuiltTree, TreeIsTooLong, Piece, child_count}
+use Rattle.peephole_graphs.specs.Rebuild.{in_postfix, all_in_postfix, AreNodesOfTree}
 use Rattle.peephole_graphs.specs.Rebuild.{piece_by}
-use Rattle.peephole_graphs.specs.Rebuild.IsReached.{the_root, a_child}
+use Rattle.peephole_graphs.specs.Rebuild.NodeIsReached.{the_root, a_child}
 
 -- ---- terms one after another
 
@@ -78,12 +79,12 @@ module _ {H : Type 0} (Answers : ℕ → Node H → Type 0) where
 
   -- What was asked, and trees of the ids that are left, are a tree of the root; the ids are reached.
   pub record HasRequests (root : ℕ) (ids : List ℕ) (asked : List (Piece H)) : Type 0 where
-    pub reached : All (IsReached Answers root) ids
+    pub reached : All (NodeIsReached Answers root) ids
     pub grows : (ts : Terms H) → AreParts Answers ids ts →
         (t : Term H) × IsPart Answers root t × (AreWhole ts → IsWhole t) × (in_postfix t ≡ all_in_postfix ts ++ asked)
 
   start : (root : ℕ) → HasRequests root (root ∷ []) []
-  start root = record { reached = All-cons (IsReached Answers root) root [] the_root (All-nil (IsReached Answers root)); grows = first }
+  start root = record { reached = All-cons (NodeIsReached Answers root) root [] the_root (All-nil (NodeIsReached Answers root)); grows = first }
     where
       first : (ts : Terms H) → AreParts Answers (root ∷ []) ts →
           (t : Term H) × IsPart Answers root t × (AreWhole ts → IsWhole t) × (in_postfix t ≡ all_in_postfix ts ++ [])
@@ -91,9 +92,9 @@ module _ {H : Type 0} (Answers : ℕ → Node H → Type 0) where
       first (t ▸ no_terms) p = (t, p.0, λ w. w.0, sym (append-nil (in_postfix t ++ []) ∙ append-nil (in_postfix t)))
       first (t ▸ (u ▸ ts)) p = absurd p.1
 
-  children_reached : (root id : ℕ) (n : Node H) → IsReached Answers root id → Answers id n → All (IsReached Answers root) n.children
+  children_reached : (root id : ℕ) (n : Node H) → NodeIsReached Answers root id → Answers id n → All (NodeIsReached Answers root) n.children
   children_reached root id n r a =
-      All-weaker (Contains n.children) (IsReached Answers root) (λ child c. a_child id child n r a c) n.children (All-contains_itself n.children)
+      All-weaker (Contains n.children) (NodeIsReached Answers root) (λ child c. a_child id child n r a c) n.children (All-contains_itself n.children)
 
   abbrev own_piece : Node H → Piece H
   own_piece n = record { head = n.head; count = length n.children }
@@ -115,9 +116,9 @@ module _ {H : Type 0} (Answers : ℕ → Node H → Type 0) where
   step : (root : ℕ) (rest : List ℕ) (id : ℕ) (n : Node H) (asked : List (Piece H)) → Answers id n → HasRequests root (rest ++ id ∷ []) asked →
       HasRequests root (rest ++ n.children) (own_piece n ∷ asked)
   step root rest id n asked a h =
-      let reached = All-pop (IsReached Answers root) (rest ++ id ∷ []) rest (Some id) refl h.reached in
+      let reached = All-pop (NodeIsReached Answers root) (rest ++ id ∷ []) rest (Some id) refl h.reached in
       record {
-        reached = All-append (IsReached Answers root) rest n.children reached.0 (children_reached root id n reached.1 a);
+        reached = All-append (NodeIsReached Answers root) rest n.children reached.0 (children_reached root id n reached.1 a);
         grows = λ ts p.
             let (us, kids, of_front, of_back, joined) = split rest n.children ts p in
             let of = h.grows (join us (node n.head kids ▸ no_terms)) (over_id rest id n us kids a of_front of_back) in (
@@ -130,12 +131,12 @@ module _ {H : Type 0} (Answers : ℕ → Node H → Type 0) where
       }
 
   -- none is left
-  end : (root : ℕ) (asked : List (Piece H)) → HasRequests root [] asked → (t : Term H) × IsTree Answers root t × (asked ≡ in_postfix t)
+  end : (root : ℕ) (asked : List (Piece H)) → HasRequests root [] asked → (t : Term H) × IsRebuiltTree Answers root t × (asked ≡ in_postfix t)
   end root asked h = let of = h.grows no_terms tt in (of.0, (of.1, of.2 tt), sym of.3)
 
   -- with the node that was asked for last there are too many
   long : (root : ℕ) (rest : List ℕ) (id : ℕ) (n : Node H) (asked : List (Piece H)) → Answers id n → 2 ^ 32 ≤ length asked →
-      HasRequests root (rest ++ id ∷ []) asked → IsTooLong Answers root
+      HasRequests root (rest ++ id ∷ []) asked → TreeIsTooLong Answers root
   long root rest id n asked a l h =
       let us = absents rest in
       let kids = absents n.children in
@@ -182,12 +183,12 @@ module _ {L H : Type 0} (head : L → H) (children : L → List ℕ) (post : Id 
       (step (CanAnswer head children post) root.0 (numbers_of rest) id.0 (own n) (pieces_of head children nodes) (n, a, refl) before)
 
   pub requests_end : (root count : ℕ) (ids : List Id) (nodes : List (Bor L)) → count ≡ length ids → count ≡ 0 → Requests root ids nodes →
-      (t : Term H) × IsTree (CanAnswer head children post) root t × AreAsked head children nodes t
+      (t : Term H) × IsRebuiltTree (CanAnswer head children post) root t × AreNodesOfTree head children nodes t
   requests_end root count [] nodes e z h = end (CanAnswer head children post) root (pieces_of head children nodes) h
   requests_end root count (id ∷ ids) nodes e z h = absurd (omega arith)
 
   pub requests_too_long : (root id : Id) (ids rest : List Id) (nodes : List (Bor L)) (n : Bor L) → ids ≡ rest ++ id ∷ [] → post id n →
-      2 ^ 32 ≤ length nodes → Requests root.0 ids nodes → IsTooLong (CanAnswer head children post) root.0
+      2 ^ 32 ≤ length nodes → Requests root.0 ids nodes → TreeIsTooLong (CanAnswer head children post) root.0
   requests_too_long root id ids rest nodes n top a l h =
       let many = length_pieces head children nodes in
       let before = rw (top, numbers_append rest (id ∷ [])) at h in

@@ -9,8 +9,8 @@ use Rattle.peephole_lang.specs.Term.{Term, Terms, absent, node, no_terms, ◌▸
 use Rattle.peephole_lang.specs.laws.PlaceLemmas.{IsAt, at_place}
 use Rattle.peephole_lang.specs.laws.PlaceLemmas.IsAt.{last, before}
 use Rattle.peephole_graphs.specs.Layout.{node_count_of, node_count, IsWhole, AreWhole}
-use Rattle.peephole_graphs.specs.Rebuild.{IsReached, IsPart, AreParts, IsTree, IsTooLong, IsToldBy, told_tree}
-use Rattle.peephole_graphs.specs.Rebuild.IsReached.{the_root, a_child}
+use Rattle.peephole_graphs.specs.Rebuild.{NodeIsReached, IsPart, AreParts, IsRebuiltTree, TreeIsTooLong, IsToldBy, told_tree}
+use Rattle.peephole_graphs.specs.Rebuild.NodeIsReached.{the_root, a_child}
 
 -- ---- the tree of a node whose children stand before it
 
@@ -35,7 +35,7 @@ tree_of {H} {n} (before {e} {earlier} {k} l a) h =
 
 module _ {H : Type 0} (Answers : ℕ → Node H → Type 0) (root : ℕ) (nodes : List (Node H)) (told : IsToldBy Answers root nodes) where
   abbrev From : ℕ → Type 0
-  From id = IsReached Answers root id
+  From id = NodeIsReached Answers root id
 
   abbrev at : ℕ → Term H
   at = tree_at (reverse nodes)
@@ -89,8 +89,8 @@ module _ {H : Type 0} (Answers : ℕ → Node H → Type 0) (root : ℕ) (nodes 
         let more = sizes is ts (All-tail From i is r) p.1 in
         omega arith
 
-  pub told_whole : (t : Term H) → IsTree Answers root t → t ≡ told_tree nodes root
+  pub told_whole : (t : Term H) → IsRebuiltTree Answers root t → t ≡ told_tree nodes root
   told_whole t p = whole root t the_root p.0 p.1
 
-  pub told_too_long : IsTooLong Answers root → 2 ^ 32 < node_count_of (told_tree nodes root)
+  pub told_too_long : TreeIsTooLong Answers root → 2 ^ 32 < node_count_of (told_tree nodes root)
   told_too_long h = let more = sized root h.0 the_root h.1 in let many = h.2 in omega arith

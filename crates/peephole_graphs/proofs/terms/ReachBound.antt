@@ -12,8 +12,8 @@ use Rattle.std.proofs.lemmas.Map.Keys.{IsDistinct-from_apart}
 use Rattle.std.proofs.lemmas.Map.Steps.{length-le_from_distinct_below}
 use Rattle.peephole_lang.specs.Term.{Term, Terms, absent, node, no_terms, ◌▸◌, Node}
 use Rattle.peephole_graphs.specs.Layout.{node_count_of, node_count}
-use Rattle.peephole_graphs.specs.Rebuild.{IsReached, IsPart, AreParts, IsTooLong, IsReachedOnce}
-use Rattle.peephole_graphs.specs.Rebuild.IsReached.{the_root, a_child}
+use Rattle.peephole_graphs.specs.Rebuild.{NodeIsReached, IsPart, AreParts, TreeIsTooLong, IsReachedOnce}
+use Rattle.peephole_graphs.specs.Rebuild.NodeIsReached.{the_root, a_child}
 
 abbrev AllDiffer : List ℕ → Type 0
 AllDiffer is = AllPairs (λ a b. a ≢ b) is
@@ -61,7 +61,7 @@ module _ {H : Type 0} (Answers : ℕ → Node H → Type 0) where
   -- ---- one reached from another
 
   abbrev From : ℕ → ℕ → Type 0
-  From id x = IsReached Answers id x
+  From id x = NodeIsReached Answers id x
 
   abbrev FromSome : List ℕ → ℕ → Type 0
   FromSome is x = (child : ℕ) × Contains is child × From child x
@@ -190,5 +190,5 @@ module _ {H : Type 0} (Answers : ℕ → Node H → Type 0) where
         let many = s.many in
         omega arith
 
-    pub not_too_long : root < 2 ^ 32 → IsTooLong Answers root → ⊥
+    pub not_too_long : root < 2 ^ 32 → TreeIsTooLong Answers root → ⊥
     not_too_long l h = let few = few_nodes h.0 h.1 in let many = h.2 in omega arith

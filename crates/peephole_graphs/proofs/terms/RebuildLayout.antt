@@ -6,7 +6,7 @@ use Rattle.std.proofs.lemmas.List.{length-map}
 use Rattle.peephole_nodes.specs.declared.id.Id.{Id}
 use Rattle.peephole_lang.specs.Term.{Term, numbers_of}
 use Rattle.peephole_graphs.specs.Layout.{node_by, IsWhole}
-use Rattle.peephole_graphs.specs.Rebuild.{IsLaidOut, piece_by, in_postfix, AreAsked}
+use Rattle.peephole_graphs.specs.Rebuild.{IsLaidOut, piece_by, in_postfix, AreNodesOfTree}
 use Rattle.peephole_graphs.proofs.terms.NodeRequests.{pieces_of, one_more}
 use Rattle.peephole_graphs.proofs.LayoutLemmas.{term_is}
 use Rattle.peephole_graphs.proofs.terms.LayoutWalk.{LayoutState, layout_state, LeadsTo, layout_begins, layout_ends}
@@ -19,7 +19,7 @@ module _ {L H : Type 0} (head : L → H) (children : L → List ℕ) where
   now_laid expr finished = layout_state (map (node_by head children) expr) (numbers_of finished)
 
   pub asked_begins : (asked : List (Bor L)) (expr : List L) (finished : List Id) (t : Term H) → expr ≡ [] → finished ≡ [] → IsWhole t →
-      AreAsked head children asked t → LeadsTo t (pieces_of head children asked) (now_laid expr finished)
+      AreNodesOfTree head children asked t → LeadsTo t (pieces_of head children asked) (now_laid expr finished)
   asked_begins asked expr finished t e f w a =
       subst (λ x. LeadsTo t x (now_laid expr finished)) (sym a)
       (subst (λ x. LeadsTo t (in_postfix t) x) (sym (ap₂ (λ (x : List L) (y : List Id). now_laid x y) e f)) (layout_begins t w))

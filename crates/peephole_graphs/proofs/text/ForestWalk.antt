@@ -19,10 +19,11 @@ use Rattle.peephole_lang.specs.Term.{node, AreBelow, numbers_of}
 use Rattle.peephole_lang.specs.Text.{text_of}
 use Rattle.peephole_graphs.specs.declared.dfg.StackEntry.{StackEntry}
 use Rattle.peephole_graphs.specs.Entries.{roots_of}
-use Rattle.peephole_graphs.specs.ForestText.{Line, is_followed, branch, edge, tree_lines, child_lines, entries_as_nodes, entry_term, root_lines, forest_lines}
+use Rattle.peephole_graphs.specs.ForestText.{EntryLine, is_followed, branch, edge, tree_lines, child_lines, entries_as_nodes, entry_term}
+use Rattle.peephole_graphs.specs.ForestText.{root_lines, forest_lines}
 use Rattle.peephole_graphs.specs.ForestText.{entry_text, with_lines, forest_text, default_lines, default_text, IsText}
 use Rattle.peephole_graphs.specs.ForestText.{Tells, answer_bytes, Answers, AnswersAmong, HasLines, GivesText, IsForestText}
-use Rattle.peephole_graphs.specs.ForestSteps.{has_some, edges, trees_of, level_lines, HasEntry}
+use Rattle.peephole_graphs.specs.ForestSteps.{has_some_children, edges, trees_of, level_lines, HasEntry}
 use Rattle.peephole_graphs.proofs.graph.GraphLemmas.{roots_root, roots_child}
 use Rattle.peephole_graphs.proofs.graph.EntryTreeLemmas.{nodes_below}
 use Rattle.peephole_lang.specs.laws.PlaceLemmas.{IsAt, tree_is, children_in, at_place}
@@ -80,25 +81,26 @@ module _ {F : Type 0} (g : Shared F (Bor StackEntry × Unit {0}) (Result (String
 
 -- ---- lines one behind another
 
-abbrev line : List ℕ → StackEntry → Line
+abbrev line : List ℕ → StackEntry → EntryLine
 line prefix e = record { prefix = prefix; entry = e }
 
 -- of what answers of entries there are
 module _ (A : StackEntry → Text → Type 0) where
   -- a line, and those behind it
-  one_more : (before now : List ℕ) (l : Line) (ls : List Line) (whole : Text) → HasEntry A (before ++ l.prefix) l.entry (Ok now) →
+  one_more : (before now : List ℕ) (l : EntryLine) (ls : List EntryLine) (whole : Text) → HasEntry A (before ++ l.prefix) l.entry (Ok now) →
       HasLines A now ls whole → HasLines A before (l ∷ ls) whole
   one_more before now l ls whole (Ok text, given, is) rest =
       (Ok text, given, subst (λ (x : List ℕ). HasLines A x ls whole) (same_Ok is) rest)
   one_more before now l ls whole (Err x, given, is) rest = absurd cc
 
   -- a line's refusal
-  line_fails : (before : List ℕ) (l : Line) (ls : List Line) (x : Error) → HasEntry A (before ++ l.prefix) l.entry (Err x) → HasLines A before (l ∷ ls) (Err x)
+  line_fails : (before : List ℕ) (l : EntryLine) (ls : List EntryLine) (x : Error) → HasEntry A (before ++ l.prefix) l.entry (Err x) →
+      HasLines A before (l ∷ ls) (Err x)
   line_fails before l ls x (Ok text, given, is) = absurd cc
   line_fails before l ls x (Err y, given, is) = (Err y, given, is)
 
   -- lines behind lines
-  lines_more : (before text : List ℕ) (ks ls : List Line) (whole : Text) → HasLines A before ks (Ok text) → HasLines A text ls whole →
+  lines_more : (before text : List ℕ) (ks ls : List EntryLine) (whole : Text) → HasLines A before ks (Ok text) → HasLines A text ls whole →
       HasLines A before (ks ++ ls) whole
   lines_more before text [] ls whole is rest = subst (λ (x : List ℕ). HasLines A x ls whole) (same_Ok is) rest
   lines_more before text (k ∷ ks) ls whole (Ok own, given, is) rest =
@@ -106,7 +108,7 @@ module _ (A : StackEntry → Text → Type 0) where
   lines_more before text (k ∷ ks) ls whole (Err x, given, is) rest = absurd cc
 
   -- a refusal before further lines
-  lines_fail : (before : List ℕ) (ks ls : List Line) (x : Error) → HasLines A before ks (Err x) → HasLines A before (ks ++ ls) (Err x)
+  lines_fail : (before : List ℕ) (ks ls : List EntryLine) (x : Error) → HasLines A before ks (Err x) → HasLines A before (ks ++ ls) (Err x)
   lines_fail before [] ls x is = absurd cc
   lines_fail before (k ∷ ks) ls x (Ok own, given, is) = (Ok own, given, lines_fail ((before ++ k.prefix) ++ entry_text k.entry own) ks ls x is)
   lines_fail before (k ∷ ks) ls x (Err y, given, is) = (Err y, given, is)
@@ -116,9 +118,9 @@ module _ (A : StackEntry → Text → Type 0) where
 level_lines-append : (entries : List StackEntry) (inner : List ℕ) (ks js : List (List Id)) →
     level_lines entries inner (ks ++ js) ≡ level_lines entries (inner ++ edges ks) js ++ level_lines entries inner ks
 level_lines-append entries inner [] js = sym (append-nil (level_lines entries (inner ++ []) js) ∙ ap (λ p. level_lines entries p js) (append-nil inner))
-level_lines-append entries inner (k ∷ ks) js = simp (level_lines-append entries (inner ++ edge (has_some k)) ks js, append_assoc)
+level_lines-append entries inner (k ∷ ks) js = simp (level_lines-append entries (inner ++ edge (has_some_children k)) ks js, append_assoc)
 
-followed_is : (entries : List StackEntry) (ids : List Id) → is_followed (trees_of entries ids) ≡ has_some ids
+followed_is : (entries : List StackEntry) (ids : List Id) → is_followed (trees_of entries ids) ≡ has_some_children ids
 followed_is entries [] = refl
 followed_is entries (i ∷ is) = refl
 
@@ -139,7 +141,7 @@ module _ (entries : List StackEntry) (i : ℕ) (e : StackEntry) (b : AreBelow (e
 
   -- the next line, and the levels behind it
   down_lines : (rest : List (List Id)) (child : Id) (later : List Id) → child.0 ≡ i → level_lines entries [] (rest ++ (child ∷ later) ∷ [])
-      ≡ line (edges rest ++ branch (has_some later)) e ∷ level_lines entries [] (rest ++ later ∷ ids_of e.operator ∷ [])
+      ≡ line (edges rest ++ branch (has_some_children later)) e ∷ level_lines entries [] (rest ++ later ∷ ids_of e.operator ∷ [])
   down_lines rest child later same =
       let here = ap (entry_term entries) same ∙ tree_entry in
       rw (
@@ -152,11 +154,11 @@ module _ (entries : List StackEntry) (i : ℕ) (e : StackEntry) (b : AreBelow (e
 -- ---- the same, by what the code looks up
 
 -- whether a child follows
-pub some_later : (ids : List Id) (b : Bool) → b ≡ (length ids == 0) → b ≡ false → has_some ids ≡ true
+pub some_later : (ids : List Id) (b : Bool) → b ≡ (length ids == 0) → b ≡ false → has_some_children ids ≡ true
 some_later [] b e f = absurd (false≢true (sym f ∙ e))
 some_later (i ∷ is) b e f = refl
 
-pub none_later : (ids : List Id) (b : Bool) → b ≡ (length ids == 0) → b ≡ true → has_some ids ≡ false
+pub none_later : (ids : List Id) (b : Bool) → b ≡ (length ids == 0) → b ≡ true → has_some_children ids ≡ false
 none_later [] b e t = refl
 none_later (i ∷ is) b e t = absurd (false≢true (sym (ne_eqb (suc (length is)) 0 (omega arith)) ∙ (sym e ∙ t)))
 
@@ -174,21 +176,23 @@ measure entries levels = 2 * length (level_lines entries [] (shown levels)) + le
 
 edges-append : (ks js : List (List Id)) → edges (ks ++ js) ≡ edges ks ++ edges js
 edges-append [] js = refl
-edges-append (k ∷ ks) js = ap (λ x. edge (has_some k) ++ x) (edges-append ks js) ∙ sym (append_assoc (edge (has_some k)) (edges ks) (edges js))
+edges-append (k ∷ ks) js = ap (λ x. edge (has_some_children k) ++ x) (edges-append ks js)
+    ∙ sym (append_assoc (edge (has_some_children k)) (edges ks) (edges js))
 
 -- one more level's edge
 pub edge_added : (levels : List Ids) (i : ℕ) (d : Ids) (old text now : List ℕ) → i < length levels →
-    text ≡ old ++ edges (shown (take i levels)) → now ≡ text ++ edge (has_some (get_or levels i d).now) → now ≡ old ++ edges (shown (take (i + 1) levels))
+    text ≡ old ++ edges (shown (take i levels)) → now ≡ text ++ edge (has_some_children (get_or levels i d).now) →
+    now ≡ old ++ edges (shown (take (i + 1) levels))
 edge_added levels i d old text now l e n =
     let k = get_or levels i d in
     let front = take i levels in
-    let own = edge (has_some k.now) in
+    let own = edge (has_some_children k.now) in
     let all : edges (shown (take (i + 1) levels)) ≡ edges (shown front) ++ own =
     ap edges (map_more (λ (x : Ids). x.now) levels i d l) ∙ (edges-append (shown front) (k.now ∷ []) ∙ ap (λ x. edges (shown front) ++ x) (append-nil own)) in
     n ∙ (ap (λ x. x ++ own) e ∙ (append_assoc old (edges (shown front)) own ∙ ap (λ x. old ++ x) (sym all)))
 
 -- What is still to come, behind what is written, makes the whole, which is these lines behind a text.
-abbrev pub IsRest : (StackEntry → Text → Type 0) → List StackEntry → List ℕ → List Line → List Ids → List ℕ → Type 0
+abbrev pub IsRest : (StackEntry → Text → Type 0) → List StackEntry → List ℕ → List EntryLine → List Ids → List ℕ → Type 0
 IsRest A entries before lines levels text =
     (whole : Text) → HasLines A text (level_lines entries [] (shown levels)) whole → HasLines A before lines whole
 
@@ -225,30 +229,31 @@ module _ {entries : List StackEntry} {levels rest : List Ids} {k : Ids} {child :
   child_there = at_child_of (Contains entries) (All-contains_itself entries)
 
   -- the lines behind the next one
-  abbrev more : List Line
+  abbrev more : List EntryLine
   more = level_lines entries [] (shown rest ++ later.now ∷ ids_of e.operator ∷ [])
 
-  next_lines : level_lines entries [] (shown levels) ≡ line (edges (shown rest) ++ branch (has_some later.now)) e ∷ more
+  next_lines : level_lines entries [] (shown levels) ≡ line (edges (shown rest) ++ branch (has_some_children later.now)) e ∷ more
   next_lines =
       ap (level_lines entries []) (shown_top levels rest k (child ∷ later.now) t.top t.ids)
       ∙ down_lines entries child.0 e t.below at_child t.is (shown rest) child later.now refl
 
   -- the next line, with the levels `seen` that the code lends
-  module _ (A : StackEntry → Text → Type 0) (before : List ℕ) (lines : List Line) (seen : List Ids) (text : List ℕ)
+  module _ (A : StackEntry → Text → Type 0) (before : List ℕ) (lines : List EntryLine) (seen : List Ids) (text : List ℕ)
       (rest_is : IsRest A entries before lines levels text) (s : seen ≡ rest) where
     abbrev HasNext : Text → Type 0
-    HasNext = HasEntry A (text ++ (edges (shown seen) ++ branch (has_some later.now))) e
+    HasNext = HasEntry A (text ++ (edges (shown seen) ++ branch (has_some_children later.now))) e
 
-    next_here : (next : Text) → HasNext next → HasEntry A (text ++ (edges (shown rest) ++ branch (has_some later.now))) e next
-    next_here next h = subst (λ (x : List Ids). HasEntry A (text ++ (edges (shown x) ++ branch (has_some later.now))) e next) s h
+    next_here : (next : Text) → HasNext next → HasEntry A (text ++ (edges (shown rest) ++ branch (has_some_children later.now))) e next
+    next_here next h = subst (λ (x : List Ids). HasEntry A (text ++ (edges (shown x) ++ branch (has_some_children later.now))) e next) s h
 
-    whole_is : (whole : Text) → HasLines A text (line (edges (shown rest) ++ branch (has_some later.now)) e ∷ more) whole → HasLines A before lines whole
-    whole_is whole h = rest_is whole (subst (λ (ls : List Line). HasLines A text ls whole) (sym next_lines) h)
+    whole_is : (whole : Text) → HasLines A text (line (edges (shown rest) ++ branch (has_some_children later.now)) e ∷ more) whole →
+        HasLines A before lines whole
+    whole_is whole h = rest_is whole (subst (λ (ls : List EntryLine). HasLines A text ls whole) (sym next_lines) h)
 
     -- a refusal at the next line is the whole's
     pub child_failed : (x : Error) → Fails HasNext x → Fails (HasLines A before lines) x
     child_failed x r =
-        let own = line (edges (shown rest) ++ branch (has_some later.now)) e in
+        let own = line (edges (shown rest) ++ branch (has_some_children later.now)) e in
         passed HasNext (HasLines A before lines) x (λ h. whole_is (Err x) (line_fails A text own more x (next_here (Err x) h))) r
 
   -- the levels with the next child's children on top
@@ -256,11 +261,11 @@ module _ {entries : List StackEntry} {levels rest : List Ids} {k : Ids} {child :
     next_shown : shown next ≡ shown rest ++ later.now ∷ ids_of e.operator ∷ []
     next_shown = rw (n, append_assoc rest (later ∷ []) (kids ∷ []), map-append (λ (x : Ids). x.now) rest (later ∷ kids ∷ []), lb)
 
-    pub child_written : (A : StackEntry → Text → Type 0) (before : List ℕ) (lines : List Line) (seen : List Ids) (text now : List ℕ) →
-        IsRest A entries before lines levels text → seen ≡ rest → HasEntry A (text ++ (edges (shown seen) ++ branch (has_some later.now))) e (Ok now) →
+    pub child_written : (A : StackEntry → Text → Type 0) (before : List ℕ) (lines : List EntryLine) (seen : List Ids) (text now : List ℕ) →
+        IsRest A entries before lines levels text → seen ≡ rest → HasEntry A (text ++ (edges (shown seen) ++ branch (has_some_children later.now))) e (Ok now) →
         IsRest A entries before lines next now
     child_written A before lines seen text now rest_is s r whole h =
-        whole_is A before lines seen text rest_is s whole (one_more A text now (line (edges (shown rest) ++ branch (has_some later.now)) e) more whole
+        whole_is A before lines seen text rest_is s whole (one_more A text now (line (edges (shown rest) ++ branch (has_some_children later.now)) e) more whole
         (next_here A before lines seen text rest_is s (Ok now) r)
         (subst (λ (x : List (List Id)). HasLines A now (level_lines entries [] x) whole) next_shown h))
 
@@ -275,7 +280,7 @@ module _ {entries : List StackEntry} {levels rest : List Ids} {k : Ids} {child :
     pub down_smaller : measure entries next < measure entries levels
     down_smaller =
         let p = ap (λ (x : List (List Id)). length (level_lines entries [] x)) next_shown in
-        let q = ap (λ (x : List Line). length x) next_lines in
+        let q = ap (λ (x : List EntryLine). length x) next_lines in
         let c = ap (λ (x : List Ids). length x) n in
         let d = ap (λ (x : List Ids). length x) t.top in
         omega (arith, length-append (rest ++ later ∷ []) (kids ∷ []), length-append rest (later ∷ []), length-append rest (k ∷ []))
@@ -288,20 +293,20 @@ module _ (entries : List StackEntry) (levels rest : List Ids) (k : Ids) (top : l
   up_shown : k.now ≡ [] → level_lines entries [] (shown levels) ≡ level_lines entries [] (shown rest)
   up_shown none = ap (level_lines entries []) (shown_top levels rest k [] top none) ∙ level_lines-append entries [] (shown rest) ([] ∷ [])
 
-  pub walk_up : k.now ≡ [] → (A : StackEntry → Text → Type 0) (before : List ℕ) (lines : List Line) (text : List ℕ) →
+  pub walk_up : k.now ≡ [] → (A : StackEntry → Text → Type 0) (before : List ℕ) (lines : List EntryLine) (text : List ℕ) →
       IsRest A entries before lines levels text → IsRest A entries before lines rest text
-  walk_up none A before lines text rest_is whole h = rest_is whole (subst (λ (ls : List Line). HasLines A text ls whole) (sym (up_shown none)) h)
+  walk_up none A before lines text rest_is whole h = rest_is whole (subst (λ (ls : List EntryLine). HasLines A text ls whole) (sym (up_shown none)) h)
 
   pub up_smaller : k.now ≡ [] → measure entries rest < measure entries levels
   up_smaller none =
-      let p = ap (λ (x : List Line). length x) (up_shown none) in
+      let p = ap (λ (x : List EntryLine). length x) (up_shown none) in
       let d = ap (λ (x : List Ids). length x) top in
       omega (arith, p, length-append rest (k ∷ []))
 
 -- the root's own line
 module _ (entries : List StackEntry) (i : ℕ) (e : StackEntry) (b : AreBelow (entries_as_nodes entries)) (l : i < length entries)
     (is : e ≡ get_or entries i e) where
-  abbrev below_it : List Line
+  abbrev below_it : List EntryLine
   below_it = child_lines [] (trees_of entries (ids_of e.operator))
 
   own_lines : tree_lines [] [] (entry_term entries i) ≡ line [] e ∷ below_it
@@ -314,8 +319,8 @@ module _ (entries : List StackEntry) (i : ℕ) (e : StackEntry) (b : AreBelow (e
       HasEntry A before e (Ok text) → IsRest A entries before (tree_lines [] [] (entry_term entries i)) levels text
   walk_start k levels ids top A before text r whole h =
       let same : level_lines entries [] (shown levels) ≡ below_it = rw (top, ids) refl in
-      subst (λ (ls : List Line). HasLines A before ls whole) (sym own_lines)
-      (one_more A before text (line [] e) below_it whole (at_start A before (Ok text) r) (subst (λ (ls : List Line). HasLines A text ls whole) same h))
+      subst (λ (ls : List EntryLine). HasLines A before ls whole) (sym own_lines)
+      (one_more A before text (line [] e) below_it whole (at_start A before (Ok text) r) (subst (λ (ls : List EntryLine). HasLines A text ls whole) same h))
 
   pub start_inside : (k : Ids) (levels : List Ids) → k.now ≡ ids_of e.operator → levels ≡ k ∷ [] → IsInside entries levels
   start_inside k levels ids top =
@@ -325,7 +330,7 @@ module _ (entries : List StackEntry) (i : ℕ) (e : StackEntry) (b : AreBelow (e
   pub start_failed : (A : StackEntry → Text → Type 0) (before : List ℕ) (x : Error) → Fails (HasEntry A before e) x →
       Fails (HasLines A before (tree_lines [] [] (entry_term entries i))) x
   start_failed A before x r = passed (HasEntry A before e) (HasLines A before (tree_lines [] [] (entry_term entries i))) x
-      (λ h. subst (λ (ls : List Line). HasLines A before ls (Err x)) (sym own_lines)
+      (λ h. subst (λ (ls : List EntryLine). HasLines A before ls (Err x)) (sym own_lines)
       (line_fails A before (line [] e) below_it x (at_start A before (Err x) h))) r
 
 -- ---- the roots
@@ -342,7 +347,7 @@ more_roots xs (None ∷ ys) =
 more_roots xs (Some p ∷ ys) =
     let more = more_roots (xs ++ Some p ∷ []) ys in (more.0, rw (← append_assoc xs (Some p ∷ []) ys, more.1, roots_child xs p))
 
-abbrev pub first_lines : List StackEntry → List (Option ℕ) → ℕ → List Line
+abbrev pub first_lines : List StackEntry → List (Option ℕ) → ℕ → List EntryLine
 first_lines entries parents i = root_lines entries (roots_of (take i parents))
 
 module _ (A : StackEntry → Text → Type 0) (entries : List StackEntry) (parents : List (Option ℕ)) (i : ℕ) (old text : List ℕ) (l : i < length parents)
@@ -358,7 +363,7 @@ module _ (A : StackEntry → Text → Type 0) (entries : List StackEntry) (paren
 
   pub root_written : get_or parents i None ≡ None → (whole : Text) → HasLines A text (tree_lines [] [] (entry_term entries i)) whole →
       HasLines A old (first_lines entries parents (i + 1)) whole
-  root_written none whole w = subst (λ (ls : List Line). HasLines A old ls whole) (sym (with_root none))
+  root_written none whole w = subst (λ (ls : List EntryLine). HasLines A old ls whole) (sym (with_root none))
       (lines_more A old text (first_lines entries parents i) (tree_lines [] [] (entry_term entries i)) whole e w)
 
   pub child_passed : (p : ℕ) → get_or parents i None ≡ Some p → HasLines A old (first_lines entries parents (i + 1)) (Ok text)
@@ -375,7 +380,7 @@ module _ (A : StackEntry → Text → Type 0) (entries : List StackEntry) (paren
       ap (root_lines entries) (ap roots_of (sym (take-append-drop (i + 1) parents)) ∙ more.1) ∙
       root_lines-append entries (roots_of front) more.0 in
       passed (HasLines A text (tree_lines [] [] (entry_term entries i))) (HasLines A old (forest_lines entries parents)) x
-      (λ h. subst (λ (ls : List Line). HasLines A old ls (Err x)) (sym all)
+      (λ h. subst (λ (ls : List EntryLine). HasLines A old ls (Err x)) (sym all)
       (lines_fail A old (first_lines entries parents (i + 1)) late x (root_written none (Err x) h))) r
 
 -- ---- where the text of each entry is told by a function
@@ -390,7 +395,7 @@ agrees t (Err x) (inl same) = inl same
 agrees t (Err x) (inr memory) = inr (ap (λ (y : Error). no y) memory)
 
 lines_by : (A : StackEntry → Text → Type 0) (said : StackEntry → Text) → ((e : StackEntry) (a : Text) → A e a → Agrees (said e) a) →
-    (before : List ℕ) (ls : List Line) (whole : Text) → HasLines A before ls whole → Agrees (with_lines said before ls) whole
+    (before : List ℕ) (ls : List EntryLine) (whole : Text) → HasLines A before ls whole → Agrees (with_lines said before ls) whole
 lines_by A said all before [] whole is = inl (sym is)
 lines_by A said all before (l ∷ ls) whole (Ok own, given, is) = elim (all l.entry (Ok own) given) [
   | inl same ↦ rw same (lines_by A said all ((before ++ l.prefix) ++ entry_text l.entry own) ls whole is)
@@ -426,7 +431,7 @@ said_text g f entries parents r h said told =
 abbrev pub by_operator : StackEntry → Result (List ℕ) Error
 by_operator e = Ok (text_of e.operator)
 
-default_is : (before : List ℕ) (ls : List Line) → with_lines by_operator before ls ≡ Ok (before ++ default_lines ls)
+default_is : (before : List ℕ) (ls : List EntryLine) → with_lines by_operator before ls ≡ Ok (before ++ default_lines ls)
 default_is before [] = ap (λ x. Ok x) (sym (append-nil before))
 default_is before (l ∷ ls) =
     let own = entry_text l.entry (text_of l.entry.operator) in

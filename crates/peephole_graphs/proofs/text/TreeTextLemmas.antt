@@ -9,11 +9,11 @@ use Rattle.std.proofs.lemmas.Option.{get_or_from_slice_get}
 use Rattle.wasm_code.specs.Instruction.{Instruction}
 use Rattle.peephole_nodes.specs.Payload.{imm_of}
 use Rattle.peephole_nodes.specs.PayloadText.{payload_text}
-use Rattle.peephole_nodes.specs.Text.{name_in}
+use Rattle.peephole_nodes.specs.Text.{variant_name_in}
 use Rattle.peephole_nodes.specs.Variants.{variants, variant_at}
 use Rattle.peephole_nodes.specs.laws.PayloadLemmas.{imm_back}
 use Rattle.peephole_nodes.specs.laws.VariantLemmas.{has_variant}
-use Rattle.peephole_lang.specs.Lang.{place_of, payload_of, count_of}
+use Rattle.peephole_lang.specs.Lang.{place_of, payload_of, variant_child_count}
 use Rattle.peephole_lang.specs.Node.{head_of, instr_of, instr_of_head, children_of}
 use Rattle.peephole_lang.specs.Term.{Term, node, pick}
 use Rattle.peephole_lang.specs.Text.{text_of}
@@ -25,13 +25,13 @@ use Rattle.peephole_graphs.specs.declared.dfg.StackEntry.{StackEntry}
 use Rattle.peephole_graphs.specs.Shape.{Shape}
 use Rattle.peephole_graphs.specs.Tree as tree
 use Rattle.peephole_graphs.specs.Tree.{Tree, Trees, no_trees, ◌▸◌, join}
-use Rattle.peephole_graphs.specs.Forest.{is_operand, trees, operator_tree, without, forest}
+use Rattle.peephole_graphs.specs.Forest.{is_operand, trees, operator_tree, trees_without, forest}
 use Rattle.peephole_graphs.specs.Color.{color_at}
 use Rattle.peephole_graphs.specs.Graph as graph
 use Rattle.peephole_graphs.specs.Growing.{undef_entry}
 use Rattle.peephole_graphs.specs.Source.{Source, shapes_in}
-use Rattle.peephole_graphs.specs.Entries.{Graph, shape_of, roots_of, entry_tree}
-use Rattle.peephole_graphs.specs.ForestText.{Line, line_text, is_followed, branch, edge, tree_lines, child_lines, root_lines, default_lines, entry_text}
+use Rattle.peephole_graphs.specs.Entries.{Graph, instruction_shape_of, roots_of, entry_tree}
+use Rattle.peephole_graphs.specs.ForestText.{EntryLine, line_text, is_followed, branch, edge, tree_lines, child_lines, root_lines, default_lines, entry_text}
 use Rattle.peephole_graphs.specs.ForestText as shown
 use Rattle.peephole_graphs.specs.GraphOf.{IsGraphOf, IsMissing}
 use Rattle.peephole_graphs.specs.Shown.{ShowsTheForest}
@@ -54,10 +54,11 @@ head_of_instr h i e = record { place = grind arith; imm = grind arith }
 
 node_text : (l : Lang) (i : Instruction) → instr_of l ≡ Some i → text_of l ≡ instruction_text i
 node_text l i e =
-    let own = has_variant (place_of l) (payload_of l) (count_of l) (fits_own l) in
+    let own = has_variant (place_of l) (payload_of l) (variant_child_count l) (fits_own l) in
     let h = head_of_instr (head_of l) i e in
     let v = own.variant in
-    ap (λ o. name_in o ++ payload_text (payload_of l)) own.at ∙ (ap (λ o. v.name ++ written_payload o) (sym (imm_back v.payload (payload_of l) own.kind))
+    ap (λ o. variant_name_in o ++ payload_text (payload_of l)) own.at
+    ∙ (ap (λ o. v.name ++ written_payload o) (sym (imm_back v.payload (payload_of l) own.kind))
     ∙ sym (ap₂ variant_text (ap variant_at h.place ∙ own.at) (sym h.imm)))
 
 undef_text : text_of Undef ≡ codes "undef"
@@ -66,7 +67,7 @@ undef_text = refl
 
 -- ---- the lines of a tree
 
-lines_append : (xs ys : List Line) → default_lines (xs ++ ys) ≡ default_lines xs ++ default_lines ys
+lines_append : (xs ys : List EntryLine) → default_lines (xs ++ ys) ≡ default_lines xs ++ default_lines ys
 lines_append [] ys = refl
 lines_append (l ∷ ls) ys =
     let own = l.prefix ++ entry_text l.entry (text_of l.entry.operator) in
@@ -124,7 +125,7 @@ module _ (source : Source) (given : Graph) (h : IsGraphOf source given) where
   operator_shown i e instr s is later painted kids taker prefix inner =
       let n = e.operator_idx - source.first in
       let at : e.operator_idx ≡ source.first + n = omega arith in
-      let own = instruction_text (shape_of source.info instr).instr in
+      let own = instruction_text (instruction_shape_of source.info instr).instr in
       let text = node_text e.operator instr is ∙ ap instruction_text (sym (shape_instr source.info instr)) in
       let operands = graph.trees_at seen_tree (children_of e.operator) in
       ap₂ (λ (t rest : List ℕ). (prefix ++ entry_text e t) ++ rest) text (children_shown i e s kids inner)
@@ -165,7 +166,7 @@ nodes_join no_trees us h k = k
 nodes_join (tree.entry m ▸ ts) us h k = absurd (cc)
 nodes_join (tree.node i s kids ▸ ts) us h k = nodes_join ts us h k
 
-nodes_without : (test : ℕ → Bool) (ts : Trees) → are_nodes ts ≡ true → are_nodes (without test ts) ≡ true
+nodes_without : (test : ℕ → Bool) (ts : Trees) → are_nodes ts ≡ true → are_nodes (trees_without test ts) ≡ true
 nodes_without test no_trees h = refl
 nodes_without test (tree.entry m ▸ ts) h = absurd (cc)
 nodes_without test (tree.node i s kids ▸ ts) h = grind (arith, nodes_without test ts h)

@@ -12,7 +12,9 @@ use Rattle.peephole_nodes.specs.declared.simd.Simd.{Simd as VectorNode}
 use Rattle.peephole_lang.specs.declared.lang.Head.{Head}
 use Rattle.peephole_lang.specs.declared.lang.Lang.{Lang}
 use Rattle.peephole_lang.specs.declared.lang.Lang.TheVariants as lang
-use Rattle.peephole_nodes.specs.laws.Again.{no_child, one_child, several, no_node, plain, of_index, of_i32, of_i64, of_f32, of_f64, of_memory, of_ref, of_value, of_memory_init, of_memory_copy, of_table_init, of_table_copy, made, made_with}
+use Rattle.peephole_nodes.specs.laws.Again.{no_child, one_child, several, no_node, plain, of_index, of_i32, of_i64, of_f32, of_f64}
+use Rattle.peephole_nodes.specs.laws.Again.{of_memory, of_ref, of_value, of_memory_init, of_memory_copy, of_table_init, of_table_copy, made}
+use Rattle.peephole_nodes.specs.laws.Again.{made_with}
 use Rattle.peephole_nodes.specs.Numeric.{numeric_place_of, numeric_ids_of}
 use Rattle.peephole_nodes.specs.laws.NumericAgain.{numeric_makers, numeric_again, numeric_given_back}
 use Rattle.peephole_nodes.specs.Simd.{simd_place_of, simd_payload_of}
@@ -130,7 +132,9 @@ unfolding again numeric_seen simd_seen
 simd_back s = rw (simd_no_numeric s (simd_ids_of s), simd_given_back s) refl
 
 given_back : (l : Lang) → again (place_of l) (payload_of l) (ids_of l) ≡ Some (seen l)
-unfolding place_of payload_of ids_of no_child one_child several no_node plain of_index of_i32 of_i64 of_f32 of_f64 of_memory of_ref of_value of_memory_init of_memory_copy of_table_init of_table_copy made made_with numeric_makers numeric_again simd_makers simd_again seen own_makers own_index own_again numeric_seen simd_seen again
+unfolding place_of payload_of ids_of no_child one_child several no_node plain of_index of_i32 of_i64 of_f32 of_f64 of_memory of_ref of_value
+    of_memory_init of_memory_copy of_table_init of_table_copy made made_with numeric_makers numeric_again simd_makers simd_again seen own_makers
+    own_index own_again numeric_seen simd_seen again
 given_back lang.RandI32 = refl
 given_back lang.RandI64 = refl
 given_back lang.RandF32 = refl

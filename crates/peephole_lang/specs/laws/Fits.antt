@@ -3,13 +3,13 @@
 use Rattle.std.specs.Prelude.{◌≡◌, true, refl}
 use Rattle.peephole_lang.specs.declared.lang.Lang.{Lang}
 use Rattle.peephole_lang.specs.declared.lang.Lang.TheVariants as lang
-use Rattle.peephole_lang.specs.Lang.{place_of, payload_of, count_of}
+use Rattle.peephole_lang.specs.Lang.{place_of, payload_of, variant_child_count}
 use Rattle.peephole_nodes.specs.laws.NumericFits.{numeric_fits}
 use Rattle.peephole_nodes.specs.laws.SimdFits.{simd_fits}
-use Rattle.peephole_nodes.specs.Variants.{variants, fits}
+use Rattle.peephole_nodes.specs.Variants.{variants, variant_fits}
 
-pub fits_own : (l : Lang) → fits (place_of l) (payload_of l) (count_of l) ≡ true
-unfolding place_of payload_of count_of variants
+pub fits_own : (l : Lang) → variant_fits (place_of l) (payload_of l) (variant_child_count l) ≡ true
+unfolding place_of payload_of variant_child_count variants
 fits_own lang.RandI32 = refl
 fits_own lang.RandI64 = refl
 fits_own lang.RandF32 = refl

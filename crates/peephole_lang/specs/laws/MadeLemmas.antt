@@ -4,21 +4,28 @@ use Rattle.std.proofs.Common.{sym, ap, ap₂, ◌∙◌, inl, inr}
 use Rattle.std.specs.Option.{option_map}
 use Rattle.std.proofs.lemmas.Bool.{and_parts, and_from, cases_eq, ne_eqb, eqb-true}
 use Rattle.wasm_code.specs.declared.immediate.ValType.TheVariants as types
-use Rattle.node_payloads.specs.declared.payload.RefType.TheVariants as ref
+use Rattle.peephole_payloads.specs.declared.payload.RefType.TheVariants as ref
 use Rattle.peephole_nodes.specs.declared.payload.Payload.{Payload}
 use Rattle.peephole_nodes.specs.declared.payload.Payload.TheVariants as payload
 use Rattle.peephole_nodes.specs.declared.payload.PayloadKind.{PayloadKind}
 use Rattle.peephole_nodes.specs.declared.payload.PayloadKind.TheVariants as kind
 use Rattle.peephole_nodes.specs.declared.arity.Arity.{Arity}
 use Rattle.peephole_nodes.specs.declared.arity.Arity.TheVariants as arity
-use Rattle.peephole_lang.specs.LangShapes.{is_plain_leaf, is_plain_one, is_plain_three, is_index_leaf, is_index_one, is_index_two, is_index_three, is_memory_one, is_memory_two, is_i32_leaf, is_i64_leaf, is_f32_leaf, is_f64_leaf, is_ref_leaf, is_memory_init_three, is_memory_copy_three, is_table_init_three, is_table_copy_three, is_value_three}
-use Rattle.peephole_nodes.specs.NumericShapes.{is_numeric_plain_one_to_171, is_numeric_plain_one_from_172, is_numeric_plain_two_to_100, is_numeric_plain_two_from_101}
-use Rattle.peephole_nodes.specs.SimdShapes.{is_simd_memory_one, is_simd_memory_two, is_simd_v128_leaf, is_simd_shuffle_two, is_simd_plain_one_to_383, is_simd_plain_one_from_384, is_simd_plain_two_to_279, is_simd_plain_two_280_to_370, is_simd_plain_two_371_to_428, is_simd_plain_two_from_429, is_simd_plain_three, is_simd_lane_one, is_simd_lane_two, is_simd_memory_lane_two}
-use Rattle.peephole_nodes.specs.Payload.{is_of}
+use Rattle.peephole_lang.specs.LangShapes.{is_plain_leaf, is_plain_one, is_plain_three, is_index_leaf, is_index_one, is_index_two}
+use Rattle.peephole_lang.specs.LangShapes.{is_index_three, is_memory_one, is_memory_two, is_i32_leaf, is_i64_leaf, is_f32_leaf, is_f64_leaf}
+use Rattle.peephole_lang.specs.LangShapes.{is_ref_leaf, is_memory_init_three, is_memory_copy_three, is_table_init_three}
+use Rattle.peephole_lang.specs.LangShapes.{is_table_copy_three, is_value_three}
+use Rattle.peephole_nodes.specs.NumericShapes.{is_numeric_plain_one_to_171, is_numeric_plain_one_from_172, is_numeric_plain_two_to_100}
+use Rattle.peephole_nodes.specs.NumericShapes.{is_numeric_plain_two_from_101}
+use Rattle.peephole_nodes.specs.SimdShapes.{is_simd_memory_one, is_simd_memory_two, is_simd_v128_leaf, is_simd_shuffle_two}
+use Rattle.peephole_nodes.specs.SimdShapes.{is_simd_plain_one_to_383, is_simd_plain_one_from_384, is_simd_plain_two_to_279}
+use Rattle.peephole_nodes.specs.SimdShapes.{is_simd_plain_two_280_to_370, is_simd_plain_two_371_to_428, is_simd_plain_two_from_429}
+use Rattle.peephole_nodes.specs.SimdShapes.{is_simd_plain_three, is_simd_lane_one, is_simd_lane_two, is_simd_memory_lane_two}
+use Rattle.peephole_nodes.specs.Payload.{is_payload_of}
 use Rattle.peephole_lang.specs.Making.{is_made}
 use Rattle.peephole_lang.specs.laws.TableLemmas.{place_is}
 use Rattle.peephole_nodes.specs.laws.VariantLemmas.{HasVariant, has_variant}
-use Rattle.peephole_nodes.specs.Variants.{Variant, variants, variant_at, is_right, is_node_of, fits}
+use Rattle.peephole_nodes.specs.Variants.{Variant, variants, variant_at, is_right, is_node_of, variant_fits}
 
 -- ---- what a test says of each row of a list, it says of one
 
@@ -64,17 +71,23 @@ any_made arity.Any place = (place == 11) || (place == 13)
 any_made _ place = true
 
 pub variants_made : all_of (λ v. is_made v.place (example v.payload) (count_in v.children) && any_made v.children v.place) variants ≡ true
-unfolding all_of variants example count_in any_made is_plain_leaf is_plain_one is_plain_three is_index_leaf is_index_one is_index_two is_index_three is_memory_one is_memory_two is_i32_leaf is_i64_leaf is_f32_leaf is_f64_leaf is_ref_leaf is_memory_init_three is_memory_copy_three is_table_init_three is_table_copy_three is_value_three is_numeric_plain_one_to_171 is_numeric_plain_one_from_172 is_numeric_plain_two_to_100 is_numeric_plain_two_from_101 is_simd_memory_one is_simd_memory_two is_simd_v128_leaf is_simd_shuffle_two is_simd_plain_one_to_383 is_simd_plain_one_from_384 is_simd_plain_two_to_279 is_simd_plain_two_280_to_370 is_simd_plain_two_371_to_428 is_simd_plain_two_from_429 is_simd_plain_three is_simd_lane_one is_simd_lane_two is_simd_memory_lane_two
+unfolding all_of variants example count_in any_made is_plain_leaf is_plain_one is_plain_three is_index_leaf is_index_one is_index_two is_index_three
+    is_memory_one is_memory_two is_i32_leaf is_i64_leaf is_f32_leaf is_f64_leaf is_ref_leaf is_memory_init_three is_memory_copy_three
+    is_table_init_three is_table_copy_three is_value_three is_numeric_plain_one_to_171 is_numeric_plain_one_from_172 is_numeric_plain_two_to_100
+    is_numeric_plain_two_from_101 is_simd_memory_one is_simd_memory_two is_simd_v128_leaf is_simd_shuffle_two is_simd_plain_one_to_383
+    is_simd_plain_one_from_384 is_simd_plain_two_to_279 is_simd_plain_two_280_to_370 is_simd_plain_two_371_to_428 is_simd_plain_two_from_429
+    is_simd_plain_three is_simd_lane_one is_simd_lane_two is_simd_memory_lane_two
 variants_made = refl
 
 -- ---- what fits a variant
 
-pub fits_variant : (place : ℕ) (p : Payload) (given : ℕ) → HasVariant place p given → fits place p given ≡ true
-fits_variant place p given h = ap (λ o. is_node_of o p given) h.at ∙ and_from (is_of h.variant.payload p) (is_right h.variant.children given) h.kind h.right
+pub fits_variant : (place : ℕ) (p : Payload) (given : ℕ) → HasVariant place p given → variant_fits place p given ≡ true
+fits_variant place p given h = ap (λ o. is_node_of o p given) h.at
+    ∙ and_from (is_payload_of h.variant.payload p) (is_right h.variant.children given) h.kind h.right
 
 -- ---- whether a node is made goes by the kind of payload alone
 
-made_as : (k : PayloadKind) (p : Payload) (place given : ℕ) → is_of k p ≡ true → is_made place p given ≡ is_made place (example k) given
+made_as : (k : PayloadKind) (p : Payload) (place given : ℕ) → is_payload_of k p ≡ true → is_made place p given ≡ is_made place (example k) given
 unfolding example
 made_as kind.Nothing payload.Nothing place given e = refl
 made_as kind.Index (payload.Index _) place given e = refl
@@ -128,16 +141,18 @@ any_at : (place given : ℕ) (v : Variant) → variant_at place ≡ Some v → (
 any_at place given v e (inl is) = ap (λ n. is_made n (example v.payload) given) is ∙ any_at_11 v given (sym (ap variant_at is) ∙ e)
 any_at place given v e (inr is) = ap (λ n. is_made n (example v.payload) given) is ∙ any_at_13 v given (sym (ap variant_at is) ∙ e)
 
-made_of : (place given : ℕ) (v : Variant) → variant_at place ≡ Some v → v.place ≡ place → is_right v.children given ≡ true → is_made place (example v.payload) given ≡ true
+made_of : (place given : ℕ) (v : Variant) → variant_at place ≡ Some v → v.place ≡ place → is_right v.children given ≡ true →
+    is_made place (example v.payload) given ≡ true
 made_of place given v at same right =
-    let known = and_parts (is_made v.place (example v.payload) (count_in v.children)) (any_made v.children v.place) (one_of _ variants place v variants_made at) in
+    let known = and_parts (is_made v.place (example v.payload) (count_in v.children)) (any_made v.children v.place)
+    (one_of _ variants place v variants_made at) in
     elim (counted v.children given right) [
       | inl any ↦ any_at place given v at (any_place place (ap₂ any_made (sym any) (sym same) ∙ known.1))
       | inr is ↦ ap₂ (λ m n. is_made m (example v.payload) n) (sym same) is ∙ known.0
     ]
 
 -- what fits is made
-pub fits_made : (place : ℕ) (p : Payload) (given : ℕ) → fits place p given ≡ true → is_made place p given ≡ true
+pub fits_made : (place : ℕ) (p : Payload) (given : ℕ) → variant_fits place p given ≡ true → is_made place p given ≡ true
 fits_made place p given e =
     let h = has_variant place p given e in
     made_as h.variant.payload p place given h.kind ∙ made_of place given h.variant h.at (place_is place h.variant h.at) h.right

@@ -16,14 +16,16 @@ use Rattle.peephole_nodes.specs.laws.PayloadLemmas.{same_payload, payload_itself
 use Rattle.peephole_lang.specs.Text.{text_of}
 use Rattle.peephole_nodes.specs.Text.{text_at}
 
-pub same_head : (place place' : ℕ) (p p' : Payload) → place ≡ place' → p ≡ p' → ◌≡◌ {A = Head} (record { place = place; payload = p }) (record { place = place'; payload = p' })
+pub same_head : (place place' : ℕ) (p p' : Payload) → place ≡ place' → p ≡ p' →
+    ◌≡◌ {A = Head} (record { place = place; payload = p }) (record { place = place'; payload = p' })
 same_head place place' p p' e f = ap₂ (λ (k : ℕ) (q : Payload). record { place = k; payload = q }) e f
 
 matches_says : (l m : Lang) → lang_matches l m ≡ true → IsAlike head_of ids_of l m
 matches_says l m e =
     let places = and_parts (place_of l == place_of m) _ e in
     let payloads = and_parts (payload_eq.ghosts.eq (payload_of l) (payload_of m)) _ places.1 in (
-      same_head (place_of l) (place_of m) (payload_of l) (payload_of m) ((unsigned_Decides (place_of l) (place_of m)).0 places.0) (same_payload (payload_of l) (payload_of m) payloads.0),
+      same_head (place_of l) (place_of m) (payload_of l) (payload_of m) ((unsigned_Decides (place_of l) (place_of m)).0 places.0)
+          (same_payload (payload_of l) (payload_of m) payloads.0),
       (unsigned_Decides (given_of l) (given_of m)).0 payloads.1,
     )
 

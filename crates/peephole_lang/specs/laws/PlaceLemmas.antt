@@ -18,7 +18,8 @@ last_or_before n i l = elim (eqb_tells n i) [ inl h ↦ inl h.1 | inr h ↦ let 
 tree_before : {H : Type 0} (e : Node H) (earlier : List (Node H)) (k : ℕ) → k < length earlier → tree_at (e ∷ earlier) k ≡ tree_at earlier k
 tree_before e earlier k l = cond-false _ _ _ (ne_eqb (length earlier) k (omega arith))
 
-tree_last : {H : Type 0} (e : Node H) (earlier : List (Node H)) (k : ℕ) → length earlier ≡ k → tree_at (e ∷ earlier) k ≡ node e.head (pick (tree_at earlier) e.children)
+tree_last : {H : Type 0} (e : Node H) (earlier : List (Node H)) (k : ℕ) → length earlier ≡ k →
+    tree_at (e ∷ earlier) k ≡ node e.head (pick (tree_at earlier) e.children)
 tree_last e earlier k l = cond-true _ _ _ (eq-eqb (length earlier) k l)
 
 -- what stands at a place of the list the other way round
@@ -32,11 +33,13 @@ children_in (before l h) b = children_in h b.1
 
 pub tree_is : {H : Type 0} {n : Node H} {ns : List (Node H)} {i : ℕ} → IsAt n ns i → AreBelow ns → tree_at ns i ≡ node n.head (pick (tree_at ns) n.children)
 tree_is {H} {n} (last {earlier} {k} l) b =
-    tree_last n earlier k l ∙ ap (λ x. node n.head x) (sym (pick_same (tree_at (n ∷ earlier)) (tree_at earlier) n.children (length earlier) b.0 (tree_before n earlier)))
+    tree_last n earlier k l ∙ ap (λ x. node n.head x) (sym (pick_same (tree_at (n ∷ earlier)) (tree_at earlier) n.children (length earlier) b.0
+    (tree_before n earlier)))
 tree_is {H} {n} (before {e} {earlier} {k} l h) b =
     let wider : (j : ℕ) → j < k → j < length earlier = λ j g. omega arith in
     tree_before e earlier k l ∙ (tree_is h b.1
-    ∙ ap (λ x. node n.head x) (sym (pick_same (tree_at (e ∷ earlier)) (tree_at earlier) n.children (length earlier) (All-weaker (λ j. j < k) (λ j. j < length earlier) wider n.children (children_in h b.1)) (tree_before e earlier))))
+    ∙ ap (λ x. node n.head x) (sym (pick_same (tree_at (e ∷ earlier)) (tree_at earlier) n.children (length earlier)
+    (All-weaker (λ j. j < k) (λ j. j < length earlier) wider n.children (children_in h b.1)) (tree_before e earlier))))
 
 is_at : {H : Type 0} (ns : List (Node H)) (i : ℕ) (n : Node H) → i < length ns → n ≡ get_or (reverse ns) i n → IsAt n ns i
 is_at [] i n l e = absurd (omega arith)
@@ -58,12 +61,14 @@ is_at {H} (x ∷ earlier) i n l e =
 abbrev pub view : {L H : Type 0} → (L → H) → (L → List ℕ) → L → Node H
 view head children l = record { head = head l; children = children l }
 
-pub at_place : {L H : Type 0} (head : L → H) (children : L → List ℕ) (expr : List L) (i : ℕ) (l : L) → i < length expr → l ≡ get_or expr i l → IsAt (view head children l) (nodes_of head children expr) i
+pub at_place : {L H : Type 0} (head : L → H) (children : L → List ℕ) (expr : List L) (i : ℕ) (l : L) → i < length expr → l ≡ get_or expr i l →
+    IsAt (view head children l) (nodes_of head children expr) i
 at_place {L} {H} head children expr i l h e =
     let n = length-reverse (map (view head children) expr) in
     let m = length-map expr (view head children) in
     is_at (nodes_of head children expr) i (view head children l) (omega arith)
-    (ap (view head children) e ∙ (sym (get_or-map (view head children) expr i l (view head children l) h) ∙ ap (λ (x : List (Node H)). get_or x i (view head children l)) (sym (twice (map (view head children) expr)))))
+    (ap (view head children) e ∙ (sym (get_or-map (view head children) expr i l (view head children l) h)
+    ∙ ap (λ (x : List (Node H)). get_or x i (view head children l)) (sym (twice (map (view head children) expr)))))
   where
     twice : (xs : List (Node H)) → reverse (reverse xs) ≡ xs
     twice xs = grind (arith, common_steps)

@@ -10,7 +10,7 @@ use Rattle.peephole_lang.specs.declared.variants.TheConstants.{VARIANTS}
 use Rattle.peephole_lang.specs.declared.names.TheConstants.{BY_FRONT}
 use Rattle.peephole_nodes.specs.Variants.{Variant, variants, variant_at}
 use Rattle.peephole_lang.specs.VariantRows.{variant_row}
-use Rattle.peephole_nodes.specs.Fronts.{front_of, front_at}
+use Rattle.peephole_nodes.specs.Fronts.{variant_front_of, front_at}
 use Rattle.peephole_lang.specs.laws.FrontLemmas.{last_byte, is_below}
 
 both : {a b : Bool} → cond a b false ≡ true → (a ≡ true) × (b ≡ true)
@@ -60,19 +60,21 @@ agree-true false false e = refl
 
 dotted : List Variant → Bool
 dotted [] = true
-dotted (v ∷ vs) = cond (agree (eqb (last_byte 0 (front_of v)) 46) (has_payload v.payload)) (dotted vs) false
+dotted (v ∷ vs) = cond (agree (eqb (last_byte 0 (variant_front_of v)) 46) (has_payload v.payload)) (dotted vs) false
 
 all_dotted : dotted variants ≡ true
 unfolding dotted agree has_payload last_byte variants
 all_dotted = refl
 
-dotted_in : (vs : List Variant) (k : ℕ) (v : Variant) → dotted vs ≡ true → slice_get vs k ≡ Some v → eqb (last_byte 0 (front_of v)) 46 ≡ has_payload v.payload
+dotted_in : (vs : List Variant) (k : ℕ) (v : Variant) → dotted vs ≡ true → slice_get vs k ≡ Some v →
+    eqb (last_byte 0 (variant_front_of v)) 46 ≡ has_payload v.payload
 unfolding dotted
 dotted_in [] k v all e = absurd cc
-dotted_in (first ∷ vs) zero v all e = subst (λ w. eqb (last_byte 0 (front_of w)) 46 ≡ has_payload w.payload) (same_Some first v e) (agree-true _ _ (both all).0)
+dotted_in (first ∷ vs) zero v all e = subst (λ w. eqb (last_byte 0 (variant_front_of w)) 46 ≡ has_payload w.payload) (same_Some first v e)
+    (agree-true _ _ (both all).0)
 dotted_in (first ∷ vs) (suc k) v all e = dotted_in vs k v (both all).1 e
 
-pub dot_with_payload : (k : ℕ) (v : Variant) → variant_at k ≡ Some v → eqb (last_byte 0 (front_of v)) 46 ≡ has_payload v.payload
+pub dot_with_payload : (k : ℕ) (v : Variant) → variant_at k ≡ Some v → eqb (last_byte 0 (variant_front_of v)) 46 ≡ has_payload v.payload
 dot_with_payload k v e = dotted_in variants k v all_dotted e
 
 -- ---- each variant's place is among the places by front

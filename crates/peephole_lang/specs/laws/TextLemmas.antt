@@ -11,15 +11,15 @@ use Rattle.peephole_nodes.specs.declared.arity.Arity.{Arity}
 use Rattle.peephole_nodes.specs.declared.arity.Arity.TheVariants as arity
 use Rattle.peephole_lang.specs.laws.Fits.{fits_own}
 use Rattle.peephole_nodes.specs.Fronts.{front_at}
-use Rattle.peephole_lang.specs.Lang.{place_of, payload_of, ids_of, count_of}
+use Rattle.peephole_lang.specs.Lang.{place_of, payload_of, ids_of, variant_child_count}
 use Rattle.peephole_nodes.specs.laws.VariantLemmas.{has_variant, fitting_text}
 use Rattle.peephole_lang.specs.Names.{rest_after, behind_name}
 use Rattle.peephole_lang.specs.Node.{head_of, IsNode}
-use Rattle.peephole_nodes.specs.Payload.{is_of}
+use Rattle.peephole_nodes.specs.Payload.{is_payload_of}
 use Rattle.peephole_nodes.specs.laws.PayloadLemmas.{payload_back}
 use Rattle.peephole_nodes.specs.PayloadText.{inner_text, payload_text, read_payload}
 use Rattle.peephole_lang.specs.Text.{text_of, wrong_count, checked_reading, with_place, read_found, reads}
-use Rattle.peephole_nodes.specs.Text.{name_in}
+use Rattle.peephole_nodes.specs.Text.{variant_name_in}
 use Rattle.peephole_lang.specs.laws.TableLemmas.{place_is}
 use Rattle.peephole_lang.specs.laws.VariantLemmas.{found_at}
 use Rattle.peephole_nodes.specs.Variants.{Variant, is_right}
@@ -28,7 +28,7 @@ use Rattle.peephole_nodes.specs.Variants.{Variant, is_right}
 
 -- a node's text is what begins its variant's texts, and its payload's text
 pub text_is : (l : Lang) → text_of l ≡ front_at (place_of l) ++ inner_text (payload_of l)
-text_is l = fitting_text (place_of l) (payload_of l) (count_of l) (fits_own l)
+text_is l = fitting_text (place_of l) (payload_of l) (variant_child_count l) (fits_own l)
 
 -- ---- reading
 
@@ -36,7 +36,7 @@ after_front : (front rest : List ℕ) → rest_after front (front ++ rest) ≡ S
 after_front [] rest = refl
 after_front (c ∷ front) rest = cond-true _ _ _ (eq-eqb c c refl) ∙ after_front front rest
 
-rest_back : (k : PayloadKind) (p : Payload) → is_of k p ≡ true → behind_name k (Some (payload_text p)) ≡ Some (inner_text p)
+rest_back : (k : PayloadKind) (p : Payload) → is_payload_of k p ≡ true → behind_name k (Some (payload_text p)) ≡ Some (inner_text p)
 rest_back kind.Nothing payload.Nothing is = refl
 rest_back kind.Nothing _ is = absurd (true≢false (sym is))
 rest_back _ payload.Nothing is = absurd (true≢false (sym is))
@@ -54,7 +54,8 @@ checked_right arity.One p = refl
 checked_right (arity.Several n) p = refl
 checked_right arity.Any p = refl
 
-read_right : (v : Variant) (place : ℕ) (p : Payload) (rest : List ℕ) (count : ℕ) → v.place ≡ place → wrong_count v.children count ≡ None → read_payload v.payload rest ≡ Ok p
+read_right : (v : Variant) (place : ℕ) (p : Payload) (rest : List ℕ) (count : ℕ) → v.place ≡ place → wrong_count v.children count ≡ None →
+    read_payload v.payload rest ≡ Ok p
     → read_found (Some (v, rest)) count ≡ Ok (record { place = place; payload = p })
 read_right v place p rest count at right read =
     ap₂ (λ wrong r. with_place v.place (checked_reading v.children wrong r)) right read
@@ -63,12 +64,14 @@ read_right v place p rest count at right read =
 -- what a node's text reads as, with its children, is that node
 pub reads_back : (l : Lang) → IsNode l → reads (text_of l) (length (ids_of l)) ≡ Ok (head_of l)
 reads_back l is =
-    let own = has_variant (place_of l) (payload_of l) (count_of l) (fits_own l) in
+    let own = has_variant (place_of l) (payload_of l) (variant_child_count l) (fits_own l) in
     let v = own.variant in
     let p = payload_of l in
-    let whole : text_of l ≡ v.name ++ payload_text p = ap (λ o. name_in o ++ payload_text p) own.at in
+    let whole : text_of l ≡ v.name ++ payload_text p = ap (λ o. variant_name_in o ++ payload_text p) own.at in
     let fits : behind_name v.payload (rest_after v.name (text_of l)) ≡ Some (inner_text p) =
-    ap (λ text. behind_name v.payload (rest_after v.name text)) whole ∙ (ap (behind_name v.payload) (after_front v.name (payload_text p)) ∙ rest_back v.payload p own.kind) in
-    let right : wrong_count v.children (length (ids_of l)) ≡ None = ap (wrong_count v.children) is.1 ∙ right_none v.children (count_of l) own.right in
+    ap (λ text. behind_name v.payload (rest_after v.name text)) whole
+    ∙ (ap (behind_name v.payload) (after_front v.name (payload_text p)) ∙ rest_back v.payload p own.kind) in
+    let right : wrong_count v.children (length (ids_of l)) ≡ None =
+    ap (wrong_count v.children) is.1 ∙ right_none v.children (variant_child_count l) own.right in
     ap (λ found. read_found found (length (ids_of l))) (found_at (place_of l) v (text_of l) (inner_text p) own.at fits)
     ∙ read_right v (place_of l) p (inner_text p) (length (ids_of l)) (place_is (place_of l) v own.at) right (payload_back v.payload p own.kind is.0)

@@ -17,7 +17,7 @@ use Rattle.peephole_lang.specs.declared.names.TheConstants.{BY_FRONT}
 use Rattle.peephole_nodes.specs.Variants.{Variant, variants, variant_at}
 use Rattle.peephole_lang.specs.Names.{rest_after, behind_name, found_or, find_in}
 use Rattle.peephole_lang.specs.Fronts.{front_order}
-use Rattle.peephole_nodes.specs.Fronts.{dot_of, front_of, front_at}
+use Rattle.peephole_nodes.specs.Fronts.{dot_of, variant_front_of, front_at}
 use Rattle.peephole_lang.specs.laws.FrontLemmas.{standing_is, may_follow, equal_is, above}
 use Rattle.peephole_lang.specs.laws.TableLemmas.{place_is, has_payload, dot_with_payload, StandsAt, is_listed, rises}
 
@@ -57,13 +57,13 @@ fits_by_kind kind.Nothing (Some (c ∷ rest)) = refl
 fits_by_kind _ None = refl
 fits_by_kind _ (Some rest) = all_may_follow (rest_after (codes ".") rest)
 
-pub fits_where_equal : (k : ℕ) (v : Variant) (text : List ℕ) → variant_at k ≡ Some v → is_some (fit v text) ≡ is_eq (front_order (front_of v) text)
+pub fits_where_equal : (k : ℕ) (v : Variant) (text : List ℕ) → variant_at k ≡ Some v → is_some (fit v text) ≡ is_eq (front_order (variant_front_of v) text)
 fits_where_equal k v text at =
     fits_by_kind v.payload (rest_after v.name text)
     ∙ ap (may_follow (has_payload v.payload)) (sym (after_both v.name (dot_of v.payload) text))
-    ∙ ap (λ ends. may_follow ends (rest_after (front_of v) text)) (sym (dot_with_payload k v at))
-    ∙ sym (equal_is 0 (front_of v) text)
-    ∙ ap is_eq (sym (standing_is (front_of v) text))
+    ∙ ap (λ ends. may_follow ends (rest_after (variant_front_of v) text)) (sym (dot_with_payload k v at))
+    ∙ sym (equal_is 0 (variant_front_of v) text)
+    ∙ ap is_eq (sym (standing_is (variant_front_of v) text))
 
 rest_by_kind : (k : PayloadKind) (rest : Option (List ℕ)) (payload_text : List ℕ)
     → behind_name k rest ≡ Some payload_text → behind (dot_of k) rest ≡ Some payload_text
@@ -75,7 +75,7 @@ rest_by_kind _ None payload_text e = e
 rest_by_kind _ (Some rest) payload_text e = e
 
 -- the text of the payload stands behind the variant's front
-pub behind_front : (v : Variant) (text payload_text : List ℕ) → fit v text ≡ Some payload_text → rest_after (front_of v) text ≡ Some payload_text
+pub behind_front : (v : Variant) (text payload_text : List ℕ) → fit v text ≡ Some payload_text → rest_after (variant_front_of v) text ≡ Some payload_text
 behind_front v text payload_text e = after_both v.name (dot_of v.payload) text ∙ rest_by_kind v.payload (rest_after v.name text) payload_text e
 
 -- ---- no two fronts stand `Equal` to a text
@@ -98,7 +98,8 @@ next_above text k d lt stays =
 -- along the places by front, the standings rise
 pub standings_rise : (text : List ℕ) → IsNonDecreasingBy (λ place. ordering_index (front_order (front_at place) text)) BY_FRONT
 standings_rise text =
-    IsNonDecreasingBy-from_all_adjacent (λ place. ordering_index (front_order (front_at place) text)) BY_FRONT (λ k d lt. rank_rises _ _ (next_above text k d lt))
+    IsNonDecreasingBy-from_all_adjacent (λ place. ordering_index (front_order (front_at place) text)) BY_FRONT
+    (λ k d lt. rank_rises _ _ (next_above text k d lt))
 
 equal_not_less : (o : Ordering) → o ≡ Equal → o ≢ Less
 equal_not_less o equal less = let clash : Equal ≡ Less = sym equal ∙ less in absurd cc
@@ -126,8 +127,8 @@ one_index text i j li lj first second = elim (cases_order i j) [
 
 -- ---- at most one variant fits a text
 
-own_front : (k : ℕ) (v : Variant) → variant_at k ≡ Some v → front_at v.place ≡ front_of v
-own_front k v at = ap front_at (place_is k v at) ∙ ap (λ found. unwrap_or (option_map front_of found) []) at
+own_front : (k : ℕ) (v : Variant) → variant_at k ≡ Some v → front_at v.place ≡ variant_front_of v
+own_front k v at = ap front_at (place_is k v at) ∙ ap (λ found. unwrap_or (option_map variant_front_of found) []) at
 
 -- where the variant's place stands among the places by front, and that its front stands `Equal` to the text there
 abbrev pub StandsEqual : Variant → List ℕ → Type 0
@@ -136,7 +137,7 @@ StandsEqual v text = (s : StandsAt v.place BY_FRONT) × (standing_at text s.0 �
 pub stands_equal : (k : ℕ) (v : Variant) (text : List ℕ) → variant_at k ≡ Some v → IsSome (fit v text) → StandsEqual v text
 stands_equal k v text at fits =
     let s = is_listed k v at in
-    let front : front_at (get_or BY_FRONT s.0 0) ≡ front_of v = ap front_at s.2 ∙ own_front k v at in
+    let front : front_at (get_or BY_FRONT s.0 0) ≡ variant_front_of v = ap front_at s.2 ∙ own_front k v at in
     (s, ap (λ f. front_order f text) front ∙ is_equal _ (sym (fits_where_equal k v text at) ∙ fits))
 
 one_at : (i j : ℕ) (v w : Variant) (text : List ℕ) → variant_at i ≡ Some v → variant_at j ≡ Some w → IsSome (fit v text) → IsSome (fit w text) → v ≡ w

@@ -2,14 +2,14 @@
 -- takes both and has no answer where they aren't those of the variant.
 use Rattle.std.specs.Prelude.{ℕ, ℤ, List, [], ◌∷◌, Option, Some, None}
 use Rattle.wasm_code.specs.declared.immediate.ValType.{ValType}
-use Rattle.node_payloads.specs.declared.payload.MemArg.{MemArg}
-use Rattle.node_payloads.specs.declared.payload.MemArgLane.{MemArgLane}
-use Rattle.node_payloads.specs.declared.payload.MemoryCopy.{MemoryCopy}
-use Rattle.node_payloads.specs.declared.payload.MemoryInit.{MemoryInit}
-use Rattle.node_payloads.specs.declared.payload.RefType.{RefType}
-use Rattle.node_payloads.specs.declared.payload.Shuffle.{Shuffle}
-use Rattle.node_payloads.specs.declared.payload.TableCopy.{TableCopy}
-use Rattle.node_payloads.specs.declared.payload.TableInit.{TableInit}
+use Rattle.peephole_payloads.specs.declared.payload.MemArg.{MemArg}
+use Rattle.peephole_payloads.specs.declared.payload.MemArgLane.{MemArgLane}
+use Rattle.peephole_payloads.specs.declared.payload.MemoryCopy.{MemoryCopy}
+use Rattle.peephole_payloads.specs.declared.payload.MemoryInit.{MemoryInit}
+use Rattle.peephole_payloads.specs.declared.payload.RefType.{RefType}
+use Rattle.peephole_payloads.specs.declared.payload.Shuffle.{Shuffle}
+use Rattle.peephole_payloads.specs.declared.payload.TableCopy.{TableCopy}
+use Rattle.peephole_payloads.specs.declared.payload.TableInit.{TableInit}
 use Rattle.peephole_nodes.specs.declared.id.Id.{Id}
 use Rattle.peephole_nodes.specs.declared.payload.Payload.{Payload}
 use Rattle.peephole_nodes.specs.declared.payload.Payload.TheVariants as payload

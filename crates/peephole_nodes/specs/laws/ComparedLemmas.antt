@@ -14,7 +14,11 @@ use Rattle.peephole_nodes.specs.Compared.{node_eq}
 use Rattle.peephole_nodes.specs.laws.PayloadLemmas.{same_payload, payload_itself}
 
 same_id : (a b : Id) → Decides (id_eq.ghosts.eq a b) (a ≡ b)
-same_id a b = (λ e. let same : a.0 ≡ b.0 = (unsigned_Decides a.0 b.0).0 e in ap (λ (k : ℕ). record { 0 = k }) same, λ e. (unsigned_Decides a.0 b.0).1 (ap (λ (x : Id). x.0) e))
+same_id a b = (
+  λ e. let same : a.0 ≡ b.0 = (unsigned_Decides a.0 b.0).0 e in
+      ap (λ (k : ℕ). record { 0 = k }) same,
+  λ e. (unsigned_Decides a.0 b.0).1 (ap (λ (x : Id). x.0) e),
+)
 
 same_ids : (xs ys : List Id) → Decides (pointwise id_eq.ghosts.eq xs ys) (xs ≡ ys)
 same_ids xs ys = slice_eq-Decides same_id xs ys (pointwise id_eq.ghosts.eq xs ys) refl

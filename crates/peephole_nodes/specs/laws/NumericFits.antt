@@ -5,9 +5,9 @@ use Rattle.peephole_nodes.specs.declared.payload.Payload.TheVariants as payload
 use Rattle.peephole_nodes.specs.declared.numeric.Numeric.{Numeric}
 use Rattle.peephole_nodes.specs.declared.numeric.Numeric.TheVariants as numeric
 use Rattle.peephole_nodes.specs.Numeric.{numeric_place_of, numeric_count_of}
-use Rattle.peephole_nodes.specs.Variants.{variants, fits}
+use Rattle.peephole_nodes.specs.Variants.{variants, variant_fits}
 
-pub numeric_fits : (n : Numeric) → fits (numeric_place_of n) payload.Nothing (numeric_count_of n) ≡ true
+pub numeric_fits : (n : Numeric) → variant_fits (numeric_place_of n) payload.Nothing (numeric_count_of n) ≡ true
 unfolding numeric_place_of numeric_count_of variants
 numeric_fits (numeric.I32Eqz _) = refl
 numeric_fits (numeric.I32Eq _) = refl

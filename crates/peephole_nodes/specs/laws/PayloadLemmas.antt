@@ -12,19 +12,19 @@ use Rattle.wasm_code.specs.declared.immediate.AbstractHeapType.TheVariants as ty
 use Rattle.wasm_code.specs.declared.immediate.HeapType.TheVariants.{Abstract}
 use Rattle.wasm_code.specs.declared.immediate.Imm.{Imm}
 use Rattle.wasm_code.specs.declared.immediate.Imm.TheVariants as imm
-use Rattle.node_payloads.specs.laws.Equality as equal
-use Rattle.node_payloads.specs.laws.LawLemmas as law
-use Rattle.node_payloads.specs.laws.NumberBack.{signed_in_range_back}
-use Rattle.node_payloads.specs.laws.ReadBackLemmas.{unsigned_back}
-use Rattle.node_payloads.specs.declared.payload.RefType.TheVariants as ref
-use Rattle.node_payloads.specs.declared.term_error.TermError.{TermError}
+use Rattle.peephole_payloads.specs.laws.Equality as equal
+use Rattle.peephole_payloads.specs.laws.LawLemmas as law
+use Rattle.peephole_payloads.specs.laws.NumberBack.{signed_in_range_back}
+use Rattle.peephole_payloads.specs.laws.ReadBackLemmas.{unsigned_back}
+use Rattle.peephole_payloads.specs.declared.payload.RefType.TheVariants as ref
+use Rattle.peephole_payloads.specs.declared.term_error.TermError.{TermError}
 use Rattle.peephole_nodes.specs.contracts.payload.PayloadPartialEq.TheImpl as payload_eq
 use Rattle.peephole_nodes.specs.contracts.payload.PayloadEq.TheImpl.Laws.{laws-law as payload_equiv}
 use Rattle.peephole_nodes.specs.declared.payload.Payload.{Payload}
 use Rattle.peephole_nodes.specs.declared.payload.Payload.TheVariants as payload
 use Rattle.peephole_nodes.specs.declared.payload.PayloadKind.{PayloadKind}
 use Rattle.peephole_nodes.specs.declared.payload.PayloadKind.TheVariants as kind
-use Rattle.peephole_nodes.specs.Payload.{imm_of, payload_of_imm, is_writable, is_of}
+use Rattle.peephole_nodes.specs.Payload.{imm_of, payload_of_imm, is_writable, is_payload_of}
 use Rattle.peephole_nodes.specs.PayloadKind.{imm_kind}
 use Rattle.peephole_nodes.specs.PayloadText.{inner_text, with_payload, read_payload}
 
@@ -58,7 +58,7 @@ payload_itself p q e = rw e (payload_equiv.refl q)
 -- ---- immediates
 
 -- a payload's immediate stands for that payload
-pub imm_back : (k : PayloadKind) (p : Payload) → is_of k p ≡ true → payload_of_imm k (imm_of p) ≡ Some p
+pub imm_back : (k : PayloadKind) (p : Payload) → is_payload_of k p ≡ true → payload_of_imm k (imm_of p) ≡ Some p
 imm_back kind.Nothing payload.Nothing of = refl
 imm_back kind.Index (payload.Index n) of = refl
 imm_back kind.Lane (payload.Lane n) of = refl
@@ -79,14 +79,14 @@ imm_back kind.TableInit (payload.TableInit x) of = refl
 imm_back kind.TableCopy (payload.TableCopy x) of = refl
 imm_back _ _ of = absurd (true≢false (sym of))
 
-stands : (k : PayloadKind) (i : Imm) (made p : Payload) → Some made ≡ Some p → imm_of made ≡ i → is_of k made ≡ true
-    → (imm_of p ≡ i) × (is_of k p ≡ true)
+stands : (k : PayloadKind) (i : Imm) (made p : Payload) → Some made ≡ Some p → imm_of made ≡ i → is_payload_of k made ≡ true
+    → (imm_of p ≡ i) × (is_payload_of k p ≡ true)
 stands k i made p e same of =
     let is : made ≡ p = cc in
-    subst (λ (q : Payload). (imm_of q ≡ i) × (is_of k q ≡ true)) is (same, of)
+    subst (λ (q : Payload). (imm_of q ≡ i) × (is_payload_of k q ≡ true)) is (same, of)
 
 -- what an immediate stands for has that immediate, and is of the kind
-pub of_imm_back : (k : PayloadKind) (i : Imm) (p : Payload) → payload_of_imm k i ≡ Some p → (imm_of p ≡ i) × (is_of k p ≡ true)
+pub of_imm_back : (k : PayloadKind) (i : Imm) (p : Payload) → payload_of_imm k i ≡ Some p → (imm_of p ≡ i) × (is_payload_of k p ≡ true)
 of_imm_back kind.Nothing imm.Nothing p e = stands kind.Nothing _ _ p e refl refl
 of_imm_back kind.Index (imm.Index n) p e = stands kind.Index _ _ p e refl refl
 of_imm_back kind.Lane (imm.Lane n) p e = stands kind.Lane _ _ p e refl refl
@@ -108,7 +108,7 @@ of_imm_back kind.TableCopy (imm.Pair a b) p e = stands kind.TableCopy _ _ p e re
 of_imm_back _ _ p e = absurd (none-some p e)
 
 -- a payload's immediate fits an instruction where an instruction can say the payload
-pub imm_fits : (k : PayloadKind) (p : Payload) → is_of k p ≡ true → is_of_kind (imm_kind k) (imm_of p) ≡ is_writable p
+pub imm_fits : (k : PayloadKind) (p : Payload) → is_payload_of k p ≡ true → is_of_kind (imm_kind k) (imm_of p) ≡ is_writable p
 imm_fits kind.Nothing payload.Nothing of = refl
 imm_fits kind.Index (payload.Index n) of = refl
 imm_fits kind.Lane (payload.Lane n) of = refl
@@ -156,7 +156,7 @@ by_recursion [] all = tt
 by_recursion (n ∷ ns) all = (all 0 0 (omega arith), by_recursion ns (λ k d low. all (suc k) d (omega arith)))
 
 -- the text of a payload of that kind, its numbers of their types, reads as the payload
-pub payload_back : (k : PayloadKind) (p : Payload) → is_of k p ≡ true → InRange (imm_of p) → read_payload k (inner_text p) ≡ Ok p
+pub payload_back : (k : PayloadKind) (p : Payload) → is_payload_of k p ≡ true → InRange (imm_of p) → read_payload k (inner_text p) ≡ Ok p
 payload_back kind.Nothing payload.Nothing of fits = refl
 payload_back kind.Index (payload.Index n) of fits = rw (unsigned_back 32 n fits (omega arith)) refl
 payload_back kind.Lane (payload.Lane n) of fits = rw (unsigned_back 8 n fits (omega arith)) refl
@@ -177,18 +177,18 @@ payload_back kind.TableInit (payload.TableInit x) of fits = ap (with_payload (λ
 payload_back kind.TableCopy (payload.TableCopy x) of fits = ap (with_payload (λ y. payload.TableCopy y)) (law.table_copy_back x fits.1 fits.0)
 payload_back _ _ of fits = absurd (true≢false (sym of))
 
-read_as : {A : Type 0} (make : A → Payload) (k : PayloadKind) (read : Result A TermError) (p : Payload) → ((x : A) → is_of k (make x) ≡ true)
-    → with_payload make read ≡ Ok p → is_of k p ≡ true
+read_as : {A : Type 0} (make : A → Payload) (k : PayloadKind) (read : Result A TermError) (p : Payload) → ((x : A) → is_payload_of k (make x) ≡ true)
+    → with_payload make read ≡ Ok p → is_payload_of k p ≡ true
 read_as make k (Ok x) p all e =
     let is : make x ≡ p = cc in
-    subst (λ (q : Payload). is_of k q ≡ true) is (all x)
+    subst (λ (q : Payload). is_payload_of k q ≡ true) is (all x)
 read_as make k (Err error) p all e = absurd cc
 
 -- what is read as a payload of the kind is of the kind
-pub read_is_of : (k : PayloadKind) (text : List ℕ) (p : Payload) → read_payload k text ≡ Ok p → is_of k p ≡ true
+pub read_is_of : (k : PayloadKind) (text : List ℕ) (p : Payload) → read_payload k text ≡ Ok p → is_payload_of k p ≡ true
 read_is_of kind.Nothing [] p e =
     let is : payload.Nothing ≡ p = cc in
-    subst (λ (q : Payload). is_of kind.Nothing q ≡ true) is refl
+    subst (λ (q : Payload). is_payload_of kind.Nothing q ≡ true) is refl
 read_is_of kind.Nothing (c ∷ text) p e = absurd cc
 read_is_of kind.Index text p e = read_as (λ n. payload.Index n) kind.Index _ p (λ _. refl) e
 read_is_of kind.Lane text p e = read_as (λ n. payload.Lane n) kind.Lane _ p (λ _. refl) e

@@ -277,7 +277,8 @@ unfoldable pub simd_again : ℕ → Payload → List Id → Option Simd
 simd_again place p w = if nat_lt place 201 then None else made_with (slice_get simd_makers (place - 201)) p w
 
 pub simd_given_back : (s : Simd) → simd_again (simd_place_of s) (simd_payload_of s) (simd_ids_of s) ≡ Some s
-unfolding simd_place_of simd_payload_of simd_ids_of no_child one_child several plain of_lane of_v128 of_memory of_memory_lane of_shuffle made_with simd_makers simd_again
+unfolding simd_place_of simd_payload_of simd_ids_of no_child one_child several plain of_lane of_v128 of_memory of_memory_lane of_shuffle made_with
+    simd_makers simd_again
 simd_given_back (vector.V128Load _ _) = refl
 simd_given_back (vector.V128Load8x8S _ _) = refl
 simd_given_back (vector.V128Load8x8U _ _) = refl
@@ -538,7 +539,8 @@ simd_given_back (vector.I32x4RelaxedDotI8x16I7x16AddS _) = refl
 -- the place, the payload and the ids of the children decide a vector node
 pub simd_determined : (s t : Simd) → simd_place_of s ≡ simd_place_of t → simd_payload_of s ≡ simd_payload_of t → simd_ids_of s ≡ simd_ids_of t → s ≡ t
 simd_determined s t place payload ids =
-    same_Some s t (sym (simd_given_back s) ∙ (ap₂ (λ (again : List Id → Option Simd) (w : List Id). again w) (ap₂ simd_again place payload) ids ∙ simd_given_back t))
+    same_Some s t (sym (simd_given_back s) ∙ (ap₂ (λ (again : List Id → Option Simd) (w : List Id). again w) (ap₂ simd_again place payload) ids
+    ∙ simd_given_back t))
 
 -- ---- the place of a vector node is none of a numeric node
 

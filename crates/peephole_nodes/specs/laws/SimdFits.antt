@@ -5,9 +5,9 @@ use Rattle.peephole_nodes.specs.declared.simd.Simd.{Simd}
 use Rattle.peephole_nodes.specs.declared.simd.Simd.TheVariants as vector
 use Rattle.peephole_nodes.specs.Simd.{simd_place_of, simd_payload_of}
 use Rattle.peephole_nodes.specs.SimdChildren.{simd_count_of}
-use Rattle.peephole_nodes.specs.Variants.{variants, fits}
+use Rattle.peephole_nodes.specs.Variants.{variants, variant_fits}
 
-pub simd_fits : (s : Simd) → fits (simd_place_of s) (simd_payload_of s) (simd_count_of s) ≡ true
+pub simd_fits : (s : Simd) → variant_fits (simd_place_of s) (simd_payload_of s) (simd_count_of s) ≡ true
 unfolding simd_place_of simd_payload_of simd_count_of variants
 simd_fits (vector.V128Load _ _) = refl
 simd_fits (vector.V128Load8x8S _ _) = refl

@@ -1,8 +1,8 @@
 //! The bytes of a body outside a range of its operators.
 
 ghost use Rattle.std.specs.Prelude.{◌≡◌, ◌<◌, length};
-ghost use Rattle.peephole_terms.specs.EncoderSteps.{IsInside};
-ghost use Rattle.peephole_terms.specs.Spliced.{piece};
+ghost use Rattle.peephole_terms.specs.EncoderSteps.{BlockIsInside};
+ghost use Rattle.peephole_terms.specs.Spliced.{range_as_block};
 ghost use Rattle.peephole_terms.specs.Written.{offset_of, before_block, after_block};
 
 use std::ops::Range;
@@ -30,11 +30,11 @@ impl<'a> Outside<'a> {
         operators: &[OperatorAndByteOffset],
         range: Range<usize>,
     ) -> Outside<'a>
-        requires { IsInside input.now operators.now (piece range.start range.end) }
+        requires { BlockIsInside input.now operators.now (range_as_block range.start range.end) }
         ensures before { result.before.now
-            ≡ before_block input.now operators.now (piece range.start range.end) }
+            ≡ before_block input.now operators.now (range_as_block range.start range.end) }
         ensures after { result.after.now
-            ≡ after_block input.now operators.now (piece range.start range.end) }
+            ≡ after_block input.now operators.now (range_as_block range.start range.end) }
     {
         let first = offset_at(operators, 0);
         let start = offset_at(operators, range.start);

@@ -9,10 +9,10 @@ use super::rows::{
 use super::writer::Writer;
 use mutate_base::Error;
 use peephole_lang::{Lang, Payload};
-use peephole_machine::IntegerType;
 use rand::RngExt;
 use rand_core::Rng;
 use wasm_code::{Imm, Instr};
+use wasm_execution::IntegerType;
 
 impl<R: Rng> Writer<'_, R> {
     ghost use Rattle.std.specs.Prelude.{◌<◌, [], ◌∷◌, All, IsTrue, length};

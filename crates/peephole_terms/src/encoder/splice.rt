@@ -6,7 +6,7 @@ ghost use Rattle.peephole_lang.specs.Term.{AreBelow};
 ghost use Rattle.peephole_graphs.specs.Layout.{AreWritable};
 ghost use Rattle.peephole_terms.specs.Expansion.{Refuses, setting_of, expansion_in, after_term, request, requests_of, term_in};
 ghost use Rattle.peephole_terms.specs.EncoderSteps.{around, nodes_in, steps_of};
-ghost use Rattle.peephole_terms.specs.Spliced.{AppendsSpliced};
+ghost use Rattle.peephole_terms.specs.Spliced.{AppendsSplicedTerm};
 ghost use Rattle.peephole_terms.specs.Written.{IsBodyIn};
 
 use super::outside::Outside;
@@ -14,12 +14,12 @@ use super::request::ResourceRequest;
 use super::writer::Writer;
 use mutate_base::{Error, WasmMutate};
 use peephole_lang::{Lang, RecExpr};
-use peephole_programs::validity::typed_rows_check;
 use rand_core::Rng;
 use std::alloc::Global;
 use std::ops::Range;
 use wasm_code::laws::code_spells;
 use wasm_code::{Function, OperatorAndByteOffset};
+use wasm_equivalence::validity::typed_rows_check;
 
 impl<R: Rng> Writer<'_, R> {
     ghost use Rattle.peephole_terms.specs.Writer.{IsSame, Takes};
@@ -70,7 +70,7 @@ pub fn splice_term<R: Rng + Drop>(
     requires inside { range.end < length operators.now }
     // The bytes outside the range, and between them the term's code; it reads as a body again, and it runs as before.
     ensures spliced { IfOk result (λ _. IfSome (setting_of R.stream config.old) (λ s.
-        AppendsSpliced s input_wasm.now operators.now range.start range.end (term_in expr.now)
+        AppendsSplicedTerm s input_wasm.now operators.now range.start range.end (term_in expr.now)
         newfunc.old newfunc.new)) }
     // A global is asked for by each node that uses one.
     ensures requests { IfOk result (λ requests.

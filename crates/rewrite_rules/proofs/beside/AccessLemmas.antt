@@ -1,5 +1,6 @@
 -- Loads and stores of as many bytes, with what is done with their values: which do the same on every stack, and are valid alike on every frame.
-use Rattle.std.proofs.Common.{◌≡◌, ℕ, ◌+◌, ◌-◌, ◌^◌, ◌<◌, ◌≤◌, Bool, true, false, List, [], ◌∷◌, ◌++◌, length, take, drop, map, Some, None, refl, sym, ap, ap₂, ◌∙◌, subst, append_assoc, length-take, length-drop, true≢false, arith, inl, inr}
+use Rattle.std.proofs.Common.{◌≡◌, ℕ, ◌+◌, ◌-◌, ◌^◌, ◌<◌, ◌≤◌, Bool, true, false, List, [], ◌∷◌, ◌++◌, length, take, drop, map, Some, None}
+use Rattle.std.proofs.Common.{refl, sym, ap, ap₂, ◌∙◌, subst, append_assoc, length-take, length-drop, true≢false, arith, inl, inr}
 use Rattle.std.specs.Prelude.{◌⊎◌, ◌&&◌, nat_le, is_some, if◌then◌else◌, option_and_then}
 use Rattle.std.specs.List.{All}
 use Rattle.std.proofs.Math.Nat.{pow-suc}
@@ -11,19 +12,21 @@ use Rattle.wasm_code.specs.declared.immediate.Imm.TheVariants as imm
 use Rattle.wasm_code.specs.declared.immediate.MemArg.{MemArg}
 use Rattle.wasm_types.specs.Module.{Module}
 use Rattle.wasm_types.specs.declared.types.PrimitiveTypeInfo.{PrimitiveTypeInfo}
-use Rattle.peephole_machine.specs.ExactRow.{Loading, ExactRow, loads, stores, exact_row}
-use Rattle.peephole_machine.specs.OtherRow.{Operand, typed, names_in, other_type}
-use Rattle.peephole_machine.specs.Values.{of_bits, same_type, accepts, accept, results_on, other_types, Value, IsValue, IsOfType, types, Context, State, own_globals, HasTypes, Outcome, Ends, Traps, Stuck, met, Answer, Gives, IsExact, Memories, little, bytes_of, put_at, within, stored, exactly, then_run, above}
-use Rattle.peephole_machine.specs.IntegerRow.{other, operand_count, count_of, row_types, integer_row}
-use Rattle.peephole_machine.specs.Machine.{answered, only_if, effect, act, step, run}
-use Rattle.peephole_machine.specs.OutcomeLemmas.{run_append, run_one}
-use Rattle.peephole_machine.specs.ExactLemmas.{of_bits_fits}
-use Rattle.peephole_machine.specs.RowLemmas.{same_type_self, same_type_is, step_at}
-use Rattle.peephole_machine.specs.StateLemmas.{own_types_are, own_is, others_none, context_is}
-use Rattle.peephole_machine.specs.TypeLemmas.{act_at}
-use Rattle.peephole_programs.specs.control.Wider.{wider}
-use Rattle.peephole_programs.specs.validation.Algorithm.{Frame, check_code}
-use Rattle.peephole_programs.specs.validation.StaysValid.{with_types, MoreGlobalsCheckAlike}
+use Rattle.wasm_execution.specs.ExactRow.{Loading, ExactRow, loads, stores, exact_row}
+use Rattle.wasm_execution.specs.OtherRow.{Operand, typed, names_in, other_type}
+use Rattle.wasm_execution.specs.Values.{of_bits, same_type, accepts, accept, results_on, other_types, Value, IsValue, IsOfType, types}
+use Rattle.wasm_execution.specs.Values.{Context, State, own_globals, HasTypes, Outcome, Ends, Traps, Stuck, met, Answer, Gives, IsExact}
+use Rattle.wasm_execution.specs.Values.{Memories, little, bytes_of_number, put_at, within, stored, exactly, then_run, above}
+use Rattle.wasm_execution.specs.IntegerRow.{other, operand_count, typed_operand_count, row_types, integer_row}
+use Rattle.wasm_execution.specs.Machine.{answered, only_if, effect, act, step, run}
+use Rattle.wasm_execution.specs.OutcomeLemmas.{run_append, run_one}
+use Rattle.wasm_execution.specs.ExactLemmas.{of_bits_fits}
+use Rattle.wasm_execution.specs.RowLemmas.{same_type_self, same_type_is, step_at}
+use Rattle.wasm_execution.specs.StateLemmas.{own_types_are, own_is, others_none, context_is}
+use Rattle.wasm_execution.specs.TypeLemmas.{act_at}
+use Rattle.wasm_equivalence.specs.control.Wider.{wider}
+use Rattle.wasm_equivalence.specs.validation.Algorithm.{Frame, check_code}
+use Rattle.wasm_equivalence.specs.validation.StaysValid.{with_types, MoreGlobalsCheckAlike}
 use Rattle.rewrite_rules.specs.declared.access.AccessSide.{AccessSide}
 use Rattle.rewrite_rules.specs.declared.access.AccessKind.TheVariants.{Load, Store}
 use Rattle.rewrite_rules.specs.declared.access.Conversion.{Conversion}
@@ -141,7 +144,7 @@ module _ (context : Context) (exact : context.info.exact ≡ true) where
         (other_takes all load (record { operands = address all.info m ∷ []; results = t ∷ [] }) (is.is_other m) (is.has_type all.info m)) (next.pushes all)
 
     load_count : (info : Module) → operand_count info (integer_row load) ≡ 1
-    load_count info = ap (operand_count info) (is.is_other m) ∙ ap count_of (is.has_type info m)
+    load_count info = ap (operand_count info) (is.is_other m) ∙ ap typed_operand_count (is.has_type info m)
 
     load_types : (ts : List PrimitiveTypeInfo) → other_types context.info load ts ≡ (if accept (address context.info m ∷ []) ts then Some (t ∷ []) else None)
     load_types ts = ap (option_and_then (results_on ts)) (is.has_type context.info m)
@@ -180,7 +183,8 @@ module _ (context : Context) (exact : context.info.exact ≡ true) where
         (little (take l.count (drop (v.number + m.offset) (w.bytes s.rest m.memory)))) w.outside)
       where
         go : (b : Bool) (n outside : ℕ) →
-            then_run (above below (answered (within b (Gives (record { type = t; number = of_bits t (l.extended n) } ∷ []) s.globals s.rest) outside s.globals s.rest) [] s))
+            then_run (above below (answered (within b (Gives (record { type = t; number = of_bits t (l.extended n) } ∷ []) s.globals s.rest) outside
+            s.globals s.rest) [] s))
             (run (conversion_code side.conversion))
             ≡ (if b then Ends (below ++ record { type = u; number = f (of_bits t (l.extended n)) } ∷ []) s else Traps (met outside) s.globals s.rest)
         go true n outside =
@@ -205,9 +209,17 @@ module _ (context : Context) (exact : context.info.exact ≡ true) where
         ∙ ap (λ (c : ℕ). loaded_by w n c u (λ x. g (of_bits r (l.extended x))) below a s) (sym counts)
       where
         by_bound : (b : Bool) → nat_le (a + m.offset + k.count) (length (w.bytes s.rest m.memory)) ≡ b →
-            (if b then Ends (below ++ record { type = u; number = f (of_bits t (k.extended (little (take k.count (drop (a + m.offset) (w.bytes s.rest m.memory)))))) } ∷ []) s
+            (if b then Ends (below ++ record {
+              type = u;
+              number =
+                  f (of_bits t (k.extended (little (take k.count (drop (a + m.offset) (w.bytes s.rest m.memory))))));
+            } ∷ []) s
             else Traps (met w.outside) s.globals s.rest)
-            ≡ (if b then Ends (below ++ record { type = u; number = g (of_bits r (l.extended (little (take k.count (drop (a + m.offset) (w.bytes s.rest m.memory)))))) } ∷ []) s
+            ≡ (if b then Ends (below ++ record {
+              type = u;
+              number =
+                  g (of_bits r (l.extended (little (take k.count (drop (a + m.offset) (w.bytes s.rest m.memory))))));
+            } ∷ []) s
             else Traps (met w.outside) s.globals s.rest)
         by_bound true e =
             ap (λ (x : ℕ). Ends (below ++ record { type = u; number = x } ∷ []) s)
@@ -268,10 +280,11 @@ module _ (context : Context) (exact : context.info.exact ≡ true) where
     store m = code_with row (imm.Mem m)
 
     store_takes : (m : MemArg) (all : Context) → Takes all (store m ∷ []) (address all.info m ∷ typed (Some u) ∷ []) []
-    store_takes m all = other_takes all (store m) (record { operands = address all.info m ∷ typed (Some u) ∷ []; results = [] }) (is.is_other m) (is.has_type all.info m)
+    store_takes m all = other_takes all (store m) (record { operands = address all.info m ∷ typed (Some u) ∷ []; results = [] }) (is.is_other m)
+        (is.has_type all.info m)
 
     store_count : (m : MemArg) (info : Module) → operand_count info (integer_row (store m)) ≡ 2
-    store_count m info = ap (operand_count info) (is.is_other m) ∙ ap count_of (is.has_type info m)
+    store_count m info = ap (operand_count info) (is.is_other m) ∙ ap typed_operand_count (is.has_type info m)
 
     store_types : (m : MemArg) (ts : List PrimitiveTypeInfo) →
         other_types context.info (store m) ts ≡ (if accept (address context.info m ∷ typed (Some u) ∷ []) ts then Some [] else None)
@@ -317,7 +330,8 @@ module _ (context : Context) (exact : context.info.exact ≡ true) where
     store_runs m below a v s h i j e =
         store_steps m below a v s
         ∙ ap (above below) (exactly_acts (store m) (stores m count) (a ∷ v ∷ []) [] s h (is.is_other m) (is.stores_so m)
-        (store_types m (a.type ∷ v.type ∷ []) ∙ ap (λ b. if b then Some [] else None) e) (All-cons IsValue a (v ∷ []) i (All-cons IsValue v [] j (All-nil IsValue))))
+        (store_types m (a.type ∷ v.type ∷ []) ∙ ap (λ b. if b then Some [] else None) e)
+        (All-cons IsValue a (v ∷ []) i (All-cons IsValue v [] j (All-nil IsValue))))
 
     pub bare_stores : Stores bare count u (λ n. n)
     bare_stores = record {
@@ -345,7 +359,8 @@ module _ (context : Context) (exact : context.info.exact ≡ true) where
           run (code ++ store m ∷ []) (below ++ v ∷ []) s ≡ run (store m ∷ []) (below ++ made v ∷ []) s
       on_value m below v s h i e = after m (below ++ v ∷ []) s (Ends (below ++ made v ∷ []) s) (to.runs below v s h i (sym (same_type_is t v.type e)))
 
-      not_value : (m : MemArg) (below : List Value) (v : Value) (s : State) → same_type t v.type ≡ false → run (code ++ store m ∷ []) (below ++ v ∷ []) s ≡ Stuck
+      not_value : (m : MemArg) (below : List Value) (v : Value) (s : State) → same_type t v.type ≡ false →
+          run (code ++ store m ∷ []) (below ++ v ∷ []) s ≡ Stuck
       not_value m below v s e = after m (below ++ v ∷ []) s Stuck (to.on_other below v s (same_turned v.type t ∙ e))
 
       fits_now : (v : Value) → IsValue v → same_type t v.type ≡ true → IsValue (made v)
@@ -374,7 +389,8 @@ module _ (context : Context) (exact : context.info.exact ≡ true) where
               (ap (λ b. accepts (address context.info m) a.type && (b && true)) (same_type_self u ∙ sym k) ∙ e)
           others m below a v s h i false k e = not_value m (below ++ a ∷ []) v s k
 
-          both : (m : MemArg) (below : List Value) (a v : Value) (s : State) (h : HasTypes context s) → IsValue a → IsValue v → (b : Bool) → same_type t v.type ≡ b →
+          both : (m : MemArg) (below : List Value) (a v : Value) (s : State) (h : HasTypes context s) → IsValue a → IsValue v → (b : Bool) →
+              same_type t v.type ≡ b →
               accept (address context.info m ∷ typed (Some t) ∷ []) (a.type ∷ v.type ∷ []) ≡ true →
               run (code ++ store m ∷ []) ((below ++ a ∷ []) ++ v ∷ []) s ≡ stored_by (exact_world s h).memories m count below a.number (f v.number) s
           both m below a v s h i j true k e =
@@ -382,12 +398,13 @@ module _ (context : Context) (exact : context.info.exact ≡ true) where
               ∙ store_runs m below a (made v) s h i (fits_now v j k)
               (ap (λ b. accepts (address context.info m) a.type && (b && true)) (same_type_self u ∙ sym k) ∙ e)
           both m below a v s h i j false k e =
-              absurd (true≢false (sym e ∙ (ap (λ b. accepts (address context.info m) a.type && (b && true)) k ∙ one_short (accepts (address context.info m) a.type))))
+              absurd (true≢false (sym e ∙ (ap (λ b. accepts (address context.info m) a.type && (b && true)) k
+              ∙ one_short (accepts (address context.info m) a.type))))
 
   -- two stores of the same bytes
   module _ (wide : MoreGlobalsCheckAlike) (left right : AccessSide) (count : ℕ) (t : PrimitiveTypeInfo) (f g : ℕ → ℕ)
       (is : Stores left count t f) (its : Stores right count t g)
-      (same : (n : ℕ) → IsOfType t n → bytes_of count (f n) ≡ bytes_of count (g n)) (m : MemArg) (align : ℕ) where
+      (same : (n : ℕ) → IsOfType t n → bytes_of_number count (f n) ≡ bytes_of_number count (g n)) (m : MemArg) (align : ℕ) where
     abbrev written : MemArg
     written = record m { align = align }
 
@@ -403,14 +420,16 @@ module _ (context : Context) (exact : context.info.exact ≡ true) where
       where
         by_types : (below : List Value) (a v : Value) → IsValue a → IsValue v → (b : Bool) →
             accept (address context.info m ∷ typed (Some t) ∷ []) (a.type ∷ v.type ∷ []) ≡ b →
-            run (side_code Store left (imm.Mem m)) ((below ++ a ∷ []) ++ v ∷ []) s ≡ run (side_code Store right (imm.Mem written)) ((below ++ a ∷ []) ++ v ∷ []) s
+            run (side_code Store left (imm.Mem m)) ((below ++ a ∷ []) ++ v ∷ []) s ≡ run (side_code Store right (imm.Mem written)) ((below ++ a ∷ [])
+            ++ v ∷ []) s
         by_types below a v i j true e =
             let fits : IsOfType t v.number = subst (λ (w : PrimitiveTypeInfo). IsOfType w v.number) (sym (of_type e)) j in
             is.runs m below a v s h i j e
             ∙ (stored_same (exact_world s h).memories below a.number v.number s fits ∙ sym (its.runs written below a v s h i j e))
           where
             of_type : accept (address context.info m ∷ typed (Some t) ∷ []) (a.type ∷ v.type ∷ []) ≡ true → t ≡ v.type
-            of_type e = same_type_is t v.type (and_parts (same_type t v.type) true (and_parts (accepts (address context.info m) a.type) (same_type t v.type && true) e).1).0
+            of_type e = same_type_is t v.type (and_parts (same_type t v.type) true
+                (and_parts (accepts (address context.info m) a.type) (same_type t v.type && true) e).1).0
         by_types below a v i j false e = is.on_others m below a v s h j e ∙ sym (its.on_others written below a v s h j e)
 
         next : (ys : List Value) (v : Value) → IsValue v → All IsValue ys → (ys ≡ []) ⊎ ((below : List Value) × (a : Value) × (ys ≡ below ++ a ∷ [])) →
@@ -429,7 +448,8 @@ module _ (context : Context) (exact : context.info.exact ≡ true) where
 
     pub stores_stand : StandsWith context [] (side_code Store left (imm.Mem m)) (side_code Store right (imm.Mem written))
     stores_stand = record {
-      runs = λ more. runs_alike context (side_code Store left (imm.Mem m)) (side_code Store right (imm.Mem written)) (λ stack s hs h q. stores_alike stack s hs h) more;
+      runs = λ more. runs_alike context (side_code Store left (imm.Mem m)) (side_code Store right (imm.Mem written))
+          (λ stack s hs h q. stores_alike stack s hs h) more;
       checks = λ input more fr gr e.
           let all = wider input more context in
           its.takes_both written all fr ∙ (sym (is.takes_both m all fr) ∙ code_wider wide input more context (side_code Store left (imm.Mem m)) fr gr e);

@@ -6,10 +6,10 @@ use Rattle.std.proofs.lemmas.Bool.{lt-ltb, le-ltb}
 use Rattle.std.proofs.lemmas.Nat.{pow_pos, and_mask, mod-mul-add, field_of, mod-pow-add}
 use Rattle.std.proofs.Math.Nat.{mod-eq_of_lt, mod-lt, mod-mod, pow-le-pow_right}
 use mir.Val.{sel}
-use Rattle.peephole_machine.specs.Values.{bytes_of}
-use Rattle.peephole_machine.specs.ExactRow.{doubles_wide}
-use Rattle.peephole_machine.specs.Integer.{signed_into}
-use Rattle.peephole_machine.specs.Lanes.{each_lane, splat, with_lane}
+use Rattle.wasm_execution.specs.Values.{bytes_of_number}
+use Rattle.wasm_execution.specs.ExactRow.{doubles_wide}
+use Rattle.wasm_execution.specs.Integer.{signed_into}
+use Rattle.wasm_execution.specs.Lanes.{each_lane, splat, with_lane}
 
 -- ---- small numbers
 
@@ -24,33 +24,33 @@ masked_kept w k n h l = sym (ap (λ x. x % 2 ^ k) (and_mask (n % 2 ^ k) w ∙ lo
 
 -- ---- bytes
 
-low_bytes : (count j n : ℕ) → bytes_of count n ≡ bytes_of count (n % 2 ^ (j + 8 * count))
-unfolding bytes_of
+low_bytes : (count j n : ℕ) → bytes_of_number count n ≡ bytes_of_number count (n % 2 ^ (j + 8 * count))
+unfolding bytes_of_number
 low_bytes zero j n = refl
 low_bytes (suc count) j n =
     let i = j + 8 * count in
     let e : i + 8 ≡ j + 8 * suc count = omega arith in
-    subst (λ x. n % 256 ∷ bytes_of count (n / 256) ≡ (n % 2 ^ x % 256) ∷ bytes_of count (n % 2 ^ x / 256)) e
+    subst (λ x. n % 256 ∷ bytes_of_number count (n / 256) ≡ (n % 2 ^ x % 256) ∷ bytes_of_number count (n % 2 ^ x / 256)) e
     (ap₂ (λ (x : ℕ) (xs : List ℕ). x ∷ xs)
     (sym (ap (λ x. x % 2 ^ 8) (mod-pow-add n i 8) ∙ mod-mul-add (n / 2 ^ 8 % 2 ^ i) (2 ^ 8) (n % 2 ^ 8) (mod-lt n (pow_pos 8))))
-    (low_bytes count j (n / 256) ∙ ap (bytes_of count) (sym (field_of n i 8))))
+    (low_bytes count j (n / 256) ∙ ap (bytes_of_number count) (sym (field_of n i 8))))
 
-pub low_bytes_of : (count k n : ℕ) → 8 * count ≤ k → bytes_of count n ≡ bytes_of count (n % 2 ^ k)
+pub low_bytes_of : (count k n : ℕ) → 8 * count ≤ k → bytes_of_number count n ≡ bytes_of_number count (n % 2 ^ k)
 low_bytes_of count k n l =
     let e : k - 8 * count + 8 * count ≡ k = omega arith in
-    subst (λ x. bytes_of count n ≡ bytes_of count (n % 2 ^ x)) e (low_bytes count (k - 8 * count) n)
+    subst (λ x. bytes_of_number count n ≡ bytes_of_number count (n % 2 ^ x)) e (low_bytes count (k - 8 * count) n)
 
-pub masked_bytes : (count k n : ℕ) → 8 * count ≤ k → bytes_of count n ≡ bytes_of count (bit_and n (2 ^ (8 * count) - 1) % 2 ^ k)
+pub masked_bytes : (count k n : ℕ) → 8 * count ≤ k → bytes_of_number count n ≡ bytes_of_number count (bit_and n (2 ^ (8 * count) - 1) % 2 ^ k)
 masked_bytes count k n l =
     let w = 8 * count in
-    low_bytes_of count w n (let m : w ≤ w = omega arith in m) ∙ ap (bytes_of count)
+    low_bytes_of count w n (let m : w ≤ w = omega arith in m) ∙ ap (bytes_of_number count)
     (sym (ap (λ x. x % 2 ^ k) (and_mask n w) ∙ mod-eq_of_lt (wide_enough w k (n % 2 ^ w) (mod-lt n (pow_pos w)) l)))
 
 -- two numbers with the same low bits
-same_bytes : (count n m : ℕ) → n % 2 ^ (8 * count) ≡ m % 2 ^ (8 * count) → bytes_of count n ≡ bytes_of count m
+same_bytes : (count n m : ℕ) → n % 2 ^ (8 * count) ≡ m % 2 ^ (8 * count) → bytes_of_number count n ≡ bytes_of_number count m
 same_bytes count n m e =
     let all : 8 * count ≤ 8 * count = omega arith in
-    low_bytes_of count (8 * count) n all ∙ (ap (bytes_of count) e ∙ sym (low_bytes_of count (8 * count) m all))
+    low_bytes_of count (8 * count) n all ∙ (ap (bytes_of_number count) e ∙ sym (low_bytes_of count (8 * count) m all))
 
 -- ---- signs
 
@@ -98,19 +98,19 @@ low_32_wide n = sym (go (nat_lt (n % 2 ^ 32) (2 ^ 31)))
     go false = folded (2 ^ 32) (2 ^ 32 - 1) (n % 2 ^ 32) (mod-lt n (pow_pos 32))
 
 -- the bytes of a number whose sign was extended
-pub extended_8 : (n : ℕ) → bytes_of 1 n ≡ bytes_of 1 (signed_into w8 w32 n % 2 ^ 32)
+pub extended_8 : (n : ℕ) → bytes_of_number 1 n ≡ bytes_of_number 1 (signed_into w8 w32 n % 2 ^ 32)
 extended_8 n = same_bytes 1 n _ (low_8 n)
 
-pub extended_16 : (n : ℕ) → bytes_of 2 n ≡ bytes_of 2 (signed_into w16 w32 n % 2 ^ 32)
+pub extended_16 : (n : ℕ) → bytes_of_number 2 n ≡ bytes_of_number 2 (signed_into w16 w32 n % 2 ^ 32)
 extended_16 n = same_bytes 2 n _ (low_16 n)
 
-pub extended_8_wide : (n : ℕ) → bytes_of 1 n ≡ bytes_of 1 (signed_into w8 w64 n % 2 ^ 64)
+pub extended_8_wide : (n : ℕ) → bytes_of_number 1 n ≡ bytes_of_number 1 (signed_into w8 w64 n % 2 ^ 64)
 extended_8_wide n = same_bytes 1 n _ (low_8_wide n)
 
-pub extended_16_wide : (n : ℕ) → bytes_of 2 n ≡ bytes_of 2 (signed_into w16 w64 n % 2 ^ 64)
+pub extended_16_wide : (n : ℕ) → bytes_of_number 2 n ≡ bytes_of_number 2 (signed_into w16 w64 n % 2 ^ 64)
 extended_16_wide n = same_bytes 2 n _ (low_16_wide n)
 
-pub extended_32_wide : (n : ℕ) → bytes_of 4 n ≡ bytes_of 4 (signed_into w32 w64 n % 2 ^ 64)
+pub extended_32_wide : (n : ℕ) → bytes_of_number 4 n ≡ bytes_of_number 4 (signed_into w32 w64 n % 2 ^ 64)
 extended_32_wide n = same_bytes 4 n _ (low_32_wide n)
 
 -- a small number read with its sign in 32 bits, and that in 64
@@ -130,7 +130,8 @@ again A n l h false =
 pub again_8 : (n : ℕ) → n < 2 ^ 8 → cast_unsigned w64 (cast_signed w8 n) % 2 ^ 64 ≡ signed_into w32 w64 (cast_unsigned w32 (cast_signed w8 n) % 2 ^ 32) % 2 ^ 64
 again_8 n l = ap (λ z. cast_unsigned w64 z % 2 ^ 64) (sym (again (2 ^ 8) n l (omega arith) (nat_lt n (2 ^ 7))))
 
-pub again_16 : (n : ℕ) → n < 2 ^ 16 → cast_unsigned w64 (cast_signed w16 n) % 2 ^ 64 ≡ signed_into w32 w64 (cast_unsigned w32 (cast_signed w16 n) % 2 ^ 32) % 2 ^ 64
+pub again_16 : (n : ℕ) → n < 2 ^ 16 → cast_unsigned w64 (cast_signed w16 n) % 2 ^ 64
+    ≡ signed_into w32 w64 (cast_unsigned w32 (cast_signed w16 n) % 2 ^ 32) % 2 ^ 64
 again_16 n l = ap (λ z. cast_unsigned w64 z % 2 ^ 64) (sym (again (2 ^ 16) n l (omega arith) (nat_lt n (2 ^ 15))))
 
 -- ---- halves

@@ -4,20 +4,23 @@ use Rattle.std.specs.Int.{w8, w16, w32, w64, cast_signed, cast_unsigned}
 use Rattle.std.proofs.Math.Nat.{mod-eq_of_lt, mod-mod}
 use Rattle.wasm_code.specs.Table.{table, row_at}
 use Rattle.wasm_types.specs.declared.types.PrimitiveTypeInfo.{PrimitiveTypeInfo}
-use Rattle.peephole_machine.specs.declared.integer.IntegerType.TheVariants as integer
-use Rattle.peephole_machine.specs.declared.operation.Binary.TheVariants.{And}
-use Rattle.peephole_machine.specs.declared.operation.Operation.TheVariants.{WrapI64, ExtendI32S, ExtendI32U, Extend8S, Extend16S, Extend32S, Binary}
-use Rattle.peephole_machine.specs.ExactRow.{Loading, bytes_wide, halves_wide, words_wide, doubles_wide, exact_row}
-use Rattle.peephole_machine.specs.IntegerRow.{integer_row}
-use Rattle.peephole_machine.specs.Lanes.{splat}
-use Rattle.peephole_machine.specs.Values.{of_bits, IsOfType, Context, bytes_of}
+use Rattle.wasm_execution.specs.declared.integer.IntegerType.TheVariants as integer
+use Rattle.wasm_execution.specs.declared.operation.Binary.TheVariants.{And}
+use Rattle.wasm_execution.specs.declared.operation.Operation.TheVariants.{WrapI64, ExtendI32S, ExtendI32U, Extend8S, Extend16S, Extend32S, Binary}
+use Rattle.wasm_execution.specs.ExactRow.{Loading, bytes_wide, halves_wide, words_wide, doubles_wide, exact_row}
+use Rattle.wasm_execution.specs.IntegerRow.{integer_row}
+use Rattle.wasm_execution.specs.Lanes.{splat}
+use Rattle.wasm_execution.specs.Values.{of_bits, IsOfType, Context, bytes_of_number}
 use Rattle.rewrite_rules.specs.declared.access.AccessSide.{AccessSide}
 use Rattle.rewrite_rules.specs.declared.access.Conversion.{Conversion}
 use Rattle.rewrite_rules.specs.declared.access.Conversion.TheVariants.{Nothing, By, With}
 use Rattle.rewrite_rules.specs.declared.pattern.Operator.TheVariants.{Whole, Exact}
 use Rattle.rewrite_rules.specs.Exact.{exact_operator}
-use Rattle.rewrite_rules.proofs.beside.AccessLemmas.{IsLoadRow, IsStoreRow, Follows, nothing_follows, conversion_follows, Stores, bare_stores, conversion_stores}
-use Rattle.rewrite_rules.proofs.beside.AccessNumbers.{wide_enough, low_kept, masked_kept, low_bytes_of, masked_bytes, extended_8, extended_16, extended_8_wide, extended_16_wide, extended_32_wide, again_8, again_16, upper_cleared}
+use Rattle.rewrite_rules.proofs.beside.AccessLemmas.{IsLoadRow, IsStoreRow, Follows, nothing_follows, conversion_follows, Stores}
+use Rattle.rewrite_rules.proofs.beside.AccessLemmas.{bare_stores, conversion_stores}
+use Rattle.rewrite_rules.proofs.beside.AccessNumbers.{wide_enough, low_kept, masked_kept, low_bytes_of, masked_bytes, extended_8}
+use Rattle.rewrite_rules.proofs.beside.AccessNumbers.{extended_16, extended_8_wide, extended_16_wide, extended_32_wide, again_8, again_16}
+use Rattle.rewrite_rules.proofs.beside.AccessNumbers.{upper_cleared}
 use Rattle.rewrite_rules.proofs.beside.AccessParts.{i32_load, i64_load, f32_load, f64_load, i32_load8_s, i32_load8_u, i32_load16_s, i32_load16_u, i64_load8_s}
 use Rattle.rewrite_rules.proofs.beside.AccessParts.{i64_load8_u, i64_load16_s, i64_load16_u, i64_load32_s, i64_load32_u, v128_load8_splat, v128_load16_splat}
 use Rattle.rewrite_rules.proofs.beside.AccessParts.{v128_load32_splat, v128_load64_splat, v128_load64_zero, i32_store, i64_store, f32_store, f64_store}
@@ -51,7 +54,7 @@ pub record StorePair (left right : AccessSide) : Type 0 where
   pub g : ℕ → ℕ
   pub is : (context : Context) (exact : context.info.exact ≡ true) → Stores context exact left count t f
   pub its : (context : Context) (exact : context.info.exact ≡ true) → Stores context exact right count t g
-  pub same : (n : ℕ) → IsOfType t n → bytes_of count (f n) ≡ bytes_of count (g n)
+  pub same : (n : ℕ) → IsOfType t n → bytes_of_number count (f n) ≡ bytes_of_number count (g n)
 
 pub turned_loads : {a b : AccessSide} → LoadPair a b → LoadPair b a
 turned_loads p = record {
@@ -98,7 +101,7 @@ converted_load {k = k} {l = l} {t = t} {r = r} {c = c} {f = f} is its converts c
 
 -- a store, and a conversion and another one
 converted_store : {row other count : ℕ} {t u : PrimitiveTypeInfo} {c : Conversion} {f : ℕ → ℕ} → IsStoreRow row count t → IsStoreRow other count u →
-    ConvertsAlways c t u f → ((n : ℕ) → IsOfType t n → bytes_of count n ≡ bytes_of count (f n)) →
+    ConvertsAlways c t u f → ((n : ℕ) → IsOfType t n → bytes_of_number count n ≡ bytes_of_number count (f n)) →
     StorePair (bare row) (record { row = other; conversion = c })
 converted_store {row = row} {other = other} {count = count} {t = t} {u = u} {c = c} {f = f} is its converts same = record {
   count = count;
@@ -158,27 +161,29 @@ i64_load_by_float = converted_load i64_load f64_load bits_of_f64 refl (λ n h. s
 
 pub f32_store_by_bits : StorePair (bare 27) (record { row = 25; conversion = By (Exact 159 None) })
 unfolding exact_operator exact_row integer_row row_at table
-f32_store_by_bits = converted_store f32_store i32_store bits_of_f32 (λ n h. ap (bytes_of 4) (sym (mod-eq_of_lt h)))
+f32_store_by_bits = converted_store f32_store i32_store bits_of_f32 (λ n h. ap (bytes_of_number 4) (sym (mod-eq_of_lt h)))
 
 pub f64_store_by_bits : StorePair (bare 28) (record { row = 26; conversion = By (Exact 160 None) })
 unfolding exact_operator exact_row integer_row row_at table
-f64_store_by_bits = converted_store f64_store i64_store bits_of_f64 (λ n h. ap (bytes_of 8) (sym (mod-eq_of_lt h)))
+f64_store_by_bits = converted_store f64_store i64_store bits_of_f64 (λ n h. ap (bytes_of_number 8) (sym (mod-eq_of_lt h)))
 
 pub i32_store_by_float : StorePair (bare 25) (record { row = 27; conversion = By (Exact 161 None) })
 unfolding exact_operator exact_row integer_row row_at table
-i32_store_by_float = converted_store i32_store f32_store f32_of_bits (λ n h. ap (bytes_of 4) (sym (mod-eq_of_lt h)))
+i32_store_by_float = converted_store i32_store f32_store f32_of_bits (λ n h. ap (bytes_of_number 4) (sym (mod-eq_of_lt h)))
 
 pub i64_store_by_float : StorePair (bare 26) (record { row = 28; conversion = By (Exact 162 None) })
 unfolding exact_operator exact_row integer_row row_at table
-i64_store_by_float = converted_store i64_store f64_store f64_of_bits (λ n h. ap (bytes_of 8) (sym (mod-eq_of_lt h)))
+i64_store_by_float = converted_store i64_store f64_store f64_of_bits (λ n h. ap (bytes_of_number 8) (sym (mod-eq_of_lt h)))
 
 -- ---- one width by another
 
 pub i64_load8_u_by_i32 : LoadPair (bare 20) (record { row = 16; conversion = By (Whole ExtendI32U) })
-i64_load8_u_by_i32 = converted_load i64_load8_u i32_load8_u extend_u refl (λ n h. ap (λ x. x % 2 ^ 64) (sym (mod-eq_of_lt (wide_enough 8 32 n h (omega arith)))))
+i64_load8_u_by_i32 = converted_load i64_load8_u i32_load8_u extend_u refl
+    (λ n h. ap (λ x. x % 2 ^ 64) (sym (mod-eq_of_lt (wide_enough 8 32 n h (omega arith)))))
 
 pub i64_load16_u_by_i32 : LoadPair (bare 22) (record { row = 18; conversion = By (Whole ExtendI32U) })
-i64_load16_u_by_i32 = converted_load i64_load16_u i32_load16_u extend_u refl (λ n h. ap (λ x. x % 2 ^ 64) (sym (mod-eq_of_lt (wide_enough 16 32 n h (omega arith)))))
+i64_load16_u_by_i32 = converted_load i64_load16_u i32_load16_u extend_u refl
+    (λ n h. ap (λ x. x % 2 ^ 64) (sym (mod-eq_of_lt (wide_enough 16 32 n h (omega arith)))))
 
 pub i64_load32_u_by_i32 : LoadPair (bare 24) (record { row = 11; conversion = By (Whole ExtendI32U) })
 i64_load32_u_by_i32 = converted_load i64_load32_u i32_load extend_u refl (λ n h. ap (λ x. x % 2 ^ 64) (sym (mod-eq_of_lt h)))
@@ -190,7 +195,8 @@ pub i64_load16_s_by_i32 : LoadPair (bare 21) (record { row = 17; conversion = By
 i64_load16_s_by_i32 = converted_load i64_load16_s i32_load16_s extend_s refl (λ n h. again_16 n h)
 
 pub i64_load32_s_by_i32 : LoadPair (bare 23) (record { row = 11; conversion = By (Whole ExtendI32S) })
-i64_load32_s_by_i32 = converted_load i64_load32_s i32_load extend_s refl (λ n h. ap (λ x. cast_unsigned w64 (cast_signed w32 x) % 2 ^ 64) (sym (mod-mod n (2 ^ 32) ∙ mod-eq_of_lt h)))
+i64_load32_s_by_i32 = converted_load i64_load32_s i32_load extend_s refl
+    (λ n h. ap (λ x. cast_unsigned w64 (cast_signed w32 x) % 2 ^ 64) (sym (mod-mod n (2 ^ 32) ∙ mod-eq_of_lt h)))
 
 pub i64_store8_by_i32 : StorePair (bare 31) (record { row = 29; conversion = By (Whole WrapI64) })
 i64_store8_by_i32 = converted_store i64_store8 i32_store8 wrap (λ n h. low_bytes_of 1 32 n (omega arith))
@@ -212,11 +218,13 @@ i32_store_by_i64 = converted_store i32_store i64_store32 extend_u (λ n h. low_b
 
 pub load8_splat_by_i32 : LoadPair (bare 196) (record { row = 16; conversion = By (Exact 204 None) })
 unfolding exact_operator exact_row integer_row row_at table
-load8_splat_by_i32 = converted_load v128_load8_splat i32_load8_u bytes_splat refl (λ n h. ap (λ x. splat bytes_wide x % 2 ^ 128) (sym (mod-eq_of_lt (wide_enough 8 32 n h (omega arith)))))
+load8_splat_by_i32 = converted_load v128_load8_splat i32_load8_u bytes_splat refl
+    (λ n h. ap (λ x. splat bytes_wide x % 2 ^ 128) (sym (mod-eq_of_lt (wide_enough 8 32 n h (omega arith)))))
 
 pub load16_splat_by_i32 : LoadPair (bare 197) (record { row = 18; conversion = By (Exact 205 None) })
 unfolding exact_operator exact_row integer_row row_at table
-load16_splat_by_i32 = converted_load v128_load16_splat i32_load16_u halves_splat refl (λ n h. ap (λ x. splat halves_wide x % 2 ^ 128) (sym (mod-eq_of_lt (wide_enough 16 32 n h (omega arith)))))
+load16_splat_by_i32 = converted_load v128_load16_splat i32_load16_u halves_splat refl
+    (λ n h. ap (λ x. splat halves_wide x % 2 ^ 128) (sym (mod-eq_of_lt (wide_enough 16 32 n h (omega arith)))))
 
 pub load32_splat_by_i32 : LoadPair (bare 198) (record { row = 11; conversion = By (Exact 206 None) })
 unfolding exact_operator exact_row integer_row row_at table
@@ -233,19 +241,24 @@ load64_zero_by_splat = converted_load v128_load64_zero v128_load64_splat upper_z
 -- ---- signs
 
 pub i32_load8_s_by_u : LoadPair (bare 15) (record { row = 16; conversion = By (Whole (Extend8S integer.I32)) })
-i32_load8_s_by_u = converted_load i32_load8_s i32_load8_u extend8 refl (λ n h. ap (λ x. cast_unsigned w32 (cast_signed w8 x) % 2 ^ 32) (sym (low_kept 8 32 n h (omega arith))))
+i32_load8_s_by_u = converted_load i32_load8_s i32_load8_u extend8 refl
+    (λ n h. ap (λ x. cast_unsigned w32 (cast_signed w8 x) % 2 ^ 32) (sym (low_kept 8 32 n h (omega arith))))
 
 pub i32_load16_s_by_u : LoadPair (bare 17) (record { row = 18; conversion = By (Whole (Extend16S integer.I32)) })
-i32_load16_s_by_u = converted_load i32_load16_s i32_load16_u extend16 refl (λ n h. ap (λ x. cast_unsigned w32 (cast_signed w16 x) % 2 ^ 32) (sym (low_kept 16 32 n h (omega arith))))
+i32_load16_s_by_u = converted_load i32_load16_s i32_load16_u extend16 refl
+    (λ n h. ap (λ x. cast_unsigned w32 (cast_signed w16 x) % 2 ^ 32) (sym (low_kept 16 32 n h (omega arith))))
 
 pub i64_load8_s_by_u : LoadPair (bare 19) (record { row = 20; conversion = By (Whole (Extend8S integer.I64)) })
-i64_load8_s_by_u = converted_load i64_load8_s i64_load8_u extend8_wide refl (λ n h. ap (λ x. cast_unsigned w64 (cast_signed w8 x) % 2 ^ 64) (sym (low_kept 8 64 n h (omega arith))))
+i64_load8_s_by_u = converted_load i64_load8_s i64_load8_u extend8_wide refl
+    (λ n h. ap (λ x. cast_unsigned w64 (cast_signed w8 x) % 2 ^ 64) (sym (low_kept 8 64 n h (omega arith))))
 
 pub i64_load16_s_by_u : LoadPair (bare 21) (record { row = 22; conversion = By (Whole (Extend16S integer.I64)) })
-i64_load16_s_by_u = converted_load i64_load16_s i64_load16_u extend16_wide refl (λ n h. ap (λ x. cast_unsigned w64 (cast_signed w16 x) % 2 ^ 64) (sym (low_kept 16 64 n h (omega arith))))
+i64_load16_s_by_u = converted_load i64_load16_s i64_load16_u extend16_wide refl
+    (λ n h. ap (λ x. cast_unsigned w64 (cast_signed w16 x) % 2 ^ 64) (sym (low_kept 16 64 n h (omega arith))))
 
 pub i64_load32_s_by_u : LoadPair (bare 23) (record { row = 24; conversion = By (Whole Extend32S) })
-i64_load32_s_by_u = converted_load i64_load32_s i64_load32_u extend32_wide refl (λ n h. ap (λ x. cast_unsigned w64 (cast_signed w32 x) % 2 ^ 64) (sym (low_kept 32 64 n h (omega arith))))
+i64_load32_s_by_u = converted_load i64_load32_s i64_load32_u extend32_wide refl
+    (λ n h. ap (λ x. cast_unsigned w64 (cast_signed w32 x) % 2 ^ 64) (sym (low_kept 32 64 n h (omega arith))))
 
 pub i32_load8_masked : LoadPair (bare 16) (record { row = 16; conversion = With integer.I32 255 (Whole (Binary integer.I32 And)) })
 i32_load8_masked = converted_load i32_load8_u i32_load8_u (mask integer.I32 255) refl (λ n h. masked_kept 8 32 n h (omega arith))

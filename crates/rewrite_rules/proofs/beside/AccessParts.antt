@@ -5,19 +5,19 @@ use Rattle.std.specs.Int.{w8, w16, w32, w64, cast_signed, cast_unsigned}
 use Rattle.wasm_code.specs.Table.{table, row_at}
 use Rattle.wasm_types.specs.declared.types.PrimitiveTypeInfo.{PrimitiveTypeInfo}
 use Rattle.wasm_types.specs.declared.types.PrimitiveTypeInfo.TheVariants.{I32, I64, F32, F64, V128}
-use Rattle.peephole_machine.specs.declared.integer.IntegerType.{IntegerType}
-use Rattle.peephole_machine.specs.declared.integer.IntegerType.TheVariants as integer
-use Rattle.peephole_machine.specs.declared.operation.Binary.TheVariants.{And}
-use Rattle.peephole_machine.specs.declared.operation.Operation.TheVariants.{WrapI64, ExtendI32S, ExtendI32U, Extend8S, Extend16S, Extend32S, Binary}
-use Rattle.peephole_machine.specs.ExactLemmas.{of_bits_fits}
-use Rattle.peephole_machine.specs.ExactRow.{one_to, two_to, ones, plainly, with_the_sign, bytes_wide, halves_wide, words_wide, doubles_wide, exact_row}
-use Rattle.peephole_machine.specs.IntegerRow.{integer_row}
-use Rattle.peephole_machine.specs.Integer.{signed_into}
-use Rattle.peephole_machine.specs.Lanes.{splat, with_lane}
-use Rattle.peephole_machine.specs.OtherRow.{other_type}
-use Rattle.peephole_machine.specs.Values.{type_of, width_of, of_bits, Context}
-use Rattle.peephole_programs.specs.validation.Algorithm.{Frame, check_code}
-use Rattle.peephole_programs.specs.validation.StaysValid.{with_types}
+use Rattle.wasm_execution.specs.declared.integer.IntegerType.{IntegerType}
+use Rattle.wasm_execution.specs.declared.integer.IntegerType.TheVariants as integer
+use Rattle.wasm_execution.specs.declared.operation.Binary.TheVariants.{And}
+use Rattle.wasm_execution.specs.declared.operation.Operation.TheVariants.{WrapI64, ExtendI32S, ExtendI32U, Extend8S, Extend16S, Extend32S, Binary}
+use Rattle.wasm_execution.specs.ExactLemmas.{of_bits_fits}
+use Rattle.wasm_execution.specs.ExactRow.{one_to, two_to, ones, plainly, with_the_sign, bytes_wide, halves_wide, words_wide, doubles_wide, exact_row}
+use Rattle.wasm_execution.specs.IntegerRow.{integer_row}
+use Rattle.wasm_execution.specs.Integer.{signed_into}
+use Rattle.wasm_execution.specs.Lanes.{splat, with_lane}
+use Rattle.wasm_execution.specs.OtherRow.{other_type}
+use Rattle.wasm_execution.specs.Values.{type_of, width_of, of_bits, Context}
+use Rattle.wasm_equivalence.specs.validation.Algorithm.{Frame, check_code}
+use Rattle.wasm_equivalence.specs.validation.StaysValid.{with_types}
 use Rattle.rewrite_rules.specs.declared.access.Conversion.{Conversion}
 use Rattle.rewrite_rules.specs.declared.access.Conversion.TheVariants.{By, With}
 use Rattle.rewrite_rules.specs.declared.pattern.Operator.{Operator}
@@ -249,27 +249,33 @@ extend_u context exact =
 
 pub extend_s : ConvertsAlways (By (Whole ExtendI32S)) I32 I64 (by (Whole ExtendI32S))
 extend_s context exact =
-    by_operator context exact (Whole ExtendI32S) I32 I64 (by (Whole ExtendI32S)) (λ n h. low_fits integer.I64 (signed_into w32 w64 n)) (whole ExtendI32S) (λ n h. refl)
+    by_operator context exact (Whole ExtendI32S) I32 I64 (by (Whole ExtendI32S)) (λ n h. low_fits integer.I64 (signed_into w32 w64 n))
+    (whole ExtendI32S) (λ n h. refl)
 
 pub extend8 : ConvertsAlways (By (Whole (Extend8S integer.I32))) I32 I32 (by (Whole (Extend8S integer.I32)))
 extend8 context exact =
-    by_operator context exact (Whole (Extend8S integer.I32)) I32 I32 (by (Whole (Extend8S integer.I32))) (λ n h. low_fits integer.I32 (signed_into w8 w32 n)) (whole (Extend8S integer.I32)) (λ n h. refl)
+    by_operator context exact (Whole (Extend8S integer.I32)) I32 I32 (by (Whole (Extend8S integer.I32)))
+    (λ n h. low_fits integer.I32 (signed_into w8 w32 n)) (whole (Extend8S integer.I32)) (λ n h. refl)
 
 pub extend16 : ConvertsAlways (By (Whole (Extend16S integer.I32))) I32 I32 (by (Whole (Extend16S integer.I32)))
 extend16 context exact =
-    by_operator context exact (Whole (Extend16S integer.I32)) I32 I32 (by (Whole (Extend16S integer.I32))) (λ n h. low_fits integer.I32 (signed_into w16 w32 n)) (whole (Extend16S integer.I32)) (λ n h. refl)
+    by_operator context exact (Whole (Extend16S integer.I32)) I32 I32 (by (Whole (Extend16S integer.I32)))
+    (λ n h. low_fits integer.I32 (signed_into w16 w32 n)) (whole (Extend16S integer.I32)) (λ n h. refl)
 
 pub extend8_wide : ConvertsAlways (By (Whole (Extend8S integer.I64))) I64 I64 (by (Whole (Extend8S integer.I64)))
 extend8_wide context exact =
-    by_operator context exact (Whole (Extend8S integer.I64)) I64 I64 (by (Whole (Extend8S integer.I64))) (λ n h. low_fits integer.I64 (signed_into w8 w64 n)) (whole (Extend8S integer.I64)) (λ n h. refl)
+    by_operator context exact (Whole (Extend8S integer.I64)) I64 I64 (by (Whole (Extend8S integer.I64)))
+    (λ n h. low_fits integer.I64 (signed_into w8 w64 n)) (whole (Extend8S integer.I64)) (λ n h. refl)
 
 pub extend16_wide : ConvertsAlways (By (Whole (Extend16S integer.I64))) I64 I64 (by (Whole (Extend16S integer.I64)))
 extend16_wide context exact =
-    by_operator context exact (Whole (Extend16S integer.I64)) I64 I64 (by (Whole (Extend16S integer.I64))) (λ n h. low_fits integer.I64 (signed_into w16 w64 n)) (whole (Extend16S integer.I64)) (λ n h. refl)
+    by_operator context exact (Whole (Extend16S integer.I64)) I64 I64 (by (Whole (Extend16S integer.I64)))
+    (λ n h. low_fits integer.I64 (signed_into w16 w64 n)) (whole (Extend16S integer.I64)) (λ n h. refl)
 
 pub extend32_wide : ConvertsAlways (By (Whole Extend32S)) I64 I64 (by (Whole Extend32S))
 extend32_wide context exact =
-    by_operator context exact (Whole Extend32S) I64 I64 (by (Whole Extend32S)) (λ n h. low_fits integer.I64 (signed_into w32 w64 n)) (whole Extend32S) (λ n h. refl)
+    by_operator context exact (Whole Extend32S) I64 I64 (by (Whole Extend32S)) (λ n h. low_fits integer.I64 (signed_into w32 w64 n)) (whole Extend32S)
+    (λ n h. refl)
 
 -- a constant pushes its type
 pushes : (t : IntegerType) (k : ℕ) (all : Context) (g : Frame) → check_code all (constant_code t k ∷ []) g ≡ Some (with_types (type_of t ∷ []) g)
@@ -284,7 +290,8 @@ mask t k context exact =
 pub upper_zero : ConvertsAlways (With integer.I64 0 (Exact 219 (Some 1))) V128 V128 (λ n. with_lane doubles_wide 1 n 0 % 2 ^ 128)
 unfolding exact_operator exact_row integer_row row_at table
 upper_zero context exact =
-    with_constant context exact (Exact 219 (Some 1)) V128 V128 (λ n. with_lane doubles_wide 1 n 0 % 2 ^ 128) (λ n h. of_bits_fits V128 (with_lane doubles_wide 1 n 0))
+    with_constant context exact (Exact 219 (Some 1)) V128 V128 (λ n. with_lane doubles_wide 1 n 0 % 2 ^ 128)
+    (λ n h. of_bits_fits V128 (with_lane doubles_wide 1 n 0))
     integer.I64 0
     (exactly_one 219 (Some 1) (record { operands = V128 ∷ I64 ∷ []; result = V128; value = λ ns. of_bits V128 (two_to (with_lane doubles_wide 1) ns) }) refl)
     (λ n h. refl) (low_fits integer.I64 0) (pushes integer.I64 0)

@@ -3,8 +3,8 @@ use Rattle.std.proofs.Common.{◌≡◌, ℕ, true, [], Some, subst}
 use Rattle.wasm_code.specs.Instruction.{IsInstruction}
 use Rattle.wasm_code.specs.declared.immediate.Imm.{Imm}
 use Rattle.wasm_code.specs.declared.immediate.Imm.TheVariants as imm
-use Rattle.peephole_machine.specs.Values.{Context}
-use Rattle.peephole_programs.specs.validation.StaysValid.{MoreGlobalsCheckAlike}
+use Rattle.wasm_execution.specs.Values.{Context}
+use Rattle.wasm_equivalence.specs.validation.StaysValid.{MoreGlobalsCheckAlike}
 use Rattle.rewrite_rules.specs.declared.access.Access.{Access}
 use Rattle.rewrite_rules.specs.declared.access.AccessKind.{AccessKind}
 use Rattle.rewrite_rules.specs.declared.access.AccessKind.TheVariants.{Load, Store, Constant}
@@ -21,7 +21,8 @@ access_stands wide context n a i k exact listed fits written = by_kind a.kind a.
   where
     -- the immediates are memory arguments
     at : (kind : AccessKind) (left right : AccessSide) (r : IsRealigned a.align i k) →
-        StandsWith context [] (side_code kind left (imm.Mem r.argument)) (side_code kind right (imm.Mem (record r.argument { align = align_written a.align r.argument.align }))) →
+        StandsWith context [] (side_code kind left (imm.Mem r.argument))
+        (side_code kind right (imm.Mem (record r.argument { align = align_written a.align r.argument.align }))) →
         StandsWith context [] (side_code kind left i) (side_code kind right k)
     at kind left right r h =
         subst (λ (j : Imm). StandsWith context [] (side_code kind left j) (side_code kind right k)) r.is
@@ -37,5 +38,6 @@ access_stands wide context n a i k exact listed fits written = by_kind a.kind a.
     by_kind Store left right p h e =
         let r = realigned_is a.align i k e in
         at Store left right r
-        (stores_stand context exact wide left right p.count p.t p.f p.g (p.is context exact) (p.its context exact) p.same r.argument (align_written a.align r.argument.align))
+        (stores_stand context exact wide left right p.count p.t p.f p.g (p.is context exact) (p.its context exact) p.same r.argument
+        (align_written a.align r.argument.align))
     by_kind Constant left right p h e = p.stands wide context exact i k h e

@@ -1,7 +1,7 @@
 -- What the rules beside the table write may stand in the place of what stood there.
 use Rattle.std.proofs.Common.{[], ◌∷◌, ◌++◌}
-use Rattle.peephole_machine.specs.Operation.{operator_of}
-use Rattle.peephole_programs.specs.validation.StaysValid.{MoreGlobalsCheckAlike, TypedCodePushes, PushesOnFrames, RowTypesStay}
+use Rattle.wasm_execution.specs.Operation.{operator_of}
+use Rattle.wasm_equivalence.specs.validation.StaysValid.{MoreGlobalsCheckAlike, TypedCodePushes, PushesOnFrames, RowTypesStay}
 use Rattle.rewrite_rules.specs.declared.pattern.Operator.TheVariants.{Whole}
 use Rattle.rewrite_rules.specs.Instance.{constant_code, operator_code}
 use Rattle.rewrite_rules.specs.Laws.{LinesKeepCode}

@@ -11,17 +11,17 @@ use mir.Val.{bits}
 use Rattle.wasm_code.specs.Instruction.{Instruction}
 use Rattle.wasm_types.specs.Module.{Module}
 use Rattle.wasm_types.specs.declared.types.PrimitiveTypeInfo.{PrimitiveTypeInfo}
-use Rattle.peephole_machine.specs.declared.integer.IntegerType.{IntegerType}
-use Rattle.peephole_machine.specs.ExactRow.{computes, none_to, ones, exact_row}
-use Rattle.peephole_machine.specs.IntegerRow.{constant, other, operand_count, count_of, integer_row}
-use Rattle.peephole_machine.specs.OtherRow.{names_in, other_type}
-use Rattle.peephole_machine.specs.Values.{type_of, width_of, of_bits, results_on, Value, IsValue, IsOfType, Context, State, HasTypes, Ends, then_run, above}
-use Rattle.peephole_machine.specs.Machine.{step, run}
-use Rattle.peephole_machine.specs.OutcomeLemmas.{run_append, run_one}
-use Rattle.peephole_machine.specs.RowLemmas.{step_at}
-use Rattle.peephole_programs.specs.control.Wider.{wider}
-use Rattle.peephole_programs.specs.validation.Algorithm.{Frame, check_code}
-use Rattle.peephole_programs.specs.validation.StaysValid.{with_types, MoreGlobalsCheckAlike}
+use Rattle.wasm_execution.specs.declared.integer.IntegerType.{IntegerType}
+use Rattle.wasm_execution.specs.ExactRow.{computes, none_to, ones, exact_row}
+use Rattle.wasm_execution.specs.IntegerRow.{constant, other, operand_count, typed_operand_count, integer_row}
+use Rattle.wasm_execution.specs.OtherRow.{names_in, other_type}
+use Rattle.wasm_execution.specs.Values.{type_of, width_of, of_bits, results_on, Value, IsValue, IsOfType, Context, State, HasTypes, Ends, then_run, above}
+use Rattle.wasm_execution.specs.Machine.{step, run}
+use Rattle.wasm_execution.specs.OutcomeLemmas.{run_append, run_one}
+use Rattle.wasm_execution.specs.RowLemmas.{step_at}
+use Rattle.wasm_equivalence.specs.control.Wider.{wider}
+use Rattle.wasm_equivalence.specs.validation.Algorithm.{Frame, check_code}
+use Rattle.wasm_equivalence.specs.validation.StaysValid.{with_types, MoreGlobalsCheckAlike}
 use Rattle.rewrite_rules.specs.declared.access.Conversion.{Conversion}
 use Rattle.rewrite_rules.specs.Access.{conversion_code}
 use Rattle.rewrite_rules.specs.Beside.{StandsWith}
@@ -63,7 +63,7 @@ module _ (context : Context) where
     bits_leave i t n own typed is = record {
       pushes = λ all f. other_takes all i (record { operands = []; results = t ∷ [] }) own (typed all.info) f ∙ pushed_none (t ∷ []) f;
       runs = λ stack s h.
-          let count : operand_count s.world.info (integer_row i) ≡ 0 = ap (operand_count s.world.info) own ∙ ap count_of (typed s.world.info) in
+          let count : operand_count s.world.info (integer_row i) ≡ 0 = ap (operand_count s.world.info) own ∙ ap typed_operand_count (typed s.world.info) in
           run_one i (integer_row i) stack s refl
           ∙ (ap (λ l. step (integer_row i) l s) (sym (append-nil stack))
           ∙ (step_at (integer_row i) stack [] s count
@@ -76,7 +76,8 @@ module _ (context : Context) where
     pub then_leaves : (i : Instruction) (c : Conversion) (t u : PrimitiveTypeInfo) (n : ℕ) (f : ℕ → ℕ) → Leaves (i ∷ []) t n → IsOfType t n →
         Follows context exact c t u f → Leaves (i ∷ conversion_code c) u (f n)
     then_leaves i c t u n f is fits next = record {
-      pushes = λ all g. check_both all (i ∷ []) (conversion_code c) g ∙ (ap (option_and_then (check_code all (conversion_code c))) (is.pushes all g) ∙ next.pushes all g);
+      pushes = λ all g. check_both all (i ∷ []) (conversion_code c) g
+          ∙ (ap (option_and_then (check_code all (conversion_code c))) (is.pushes all g) ∙ next.pushes all g);
       runs = λ stack s h.
           run_append (i ∷ []) (conversion_code c) stack s
           ∙ (ap (λ o. then_run o (run (conversion_code c))) (is.runs stack s h)

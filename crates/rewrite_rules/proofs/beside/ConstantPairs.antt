@@ -11,14 +11,14 @@ use Rattle.wasm_code.specs.declared.immediate.Imm.TheVariants as imm
 use Rattle.wasm_code.specs.declared.table.Kind.TheVariants as kind
 use Rattle.wasm_code.specs.Table.{table, row_at}
 use Rattle.wasm_types.specs.declared.types.PrimitiveTypeInfo.TheVariants.{I32, I64, F32, F64, V128}
-use Rattle.peephole_machine.specs.declared.integer.IntegerType.TheVariants as integer
-use Rattle.peephole_machine.specs.ExactLemmas.{of_bits_fits}
-use Rattle.peephole_machine.specs.ExactRow.{ones, words_wide, doubles_wide, exact_row}
-use Rattle.peephole_machine.specs.IntegerRow.{integer_row}
-use Rattle.peephole_machine.specs.Lanes.{splat}
-use Rattle.peephole_machine.specs.OtherRow.{other_type}
-use Rattle.peephole_machine.specs.Values.{of_bits, Context}
-use Rattle.peephole_programs.specs.validation.StaysValid.{MoreGlobalsCheckAlike}
+use Rattle.wasm_execution.specs.declared.integer.IntegerType.TheVariants as integer
+use Rattle.wasm_execution.specs.ExactLemmas.{of_bits_fits}
+use Rattle.wasm_execution.specs.ExactRow.{ones, words_wide, doubles_wide, exact_row}
+use Rattle.wasm_execution.specs.IntegerRow.{integer_row}
+use Rattle.wasm_execution.specs.Lanes.{splat}
+use Rattle.wasm_execution.specs.OtherRow.{other_type}
+use Rattle.wasm_execution.specs.Values.{of_bits, Context}
+use Rattle.wasm_equivalence.specs.validation.StaysValid.{MoreGlobalsCheckAlike}
 use Rattle.rewrite_rules.specs.declared.access.AccessKind.TheVariants.{Constant}
 use Rattle.rewrite_rules.specs.declared.access.AccessSide.{AccessSide}
 use Rattle.rewrite_rules.specs.declared.access.Conversion.TheVariants.{By}
@@ -28,7 +28,8 @@ use Rattle.rewrite_rules.specs.Beside.{StandsWith}
 use Rattle.rewrite_rules.specs.Exact.{exact_operator}
 use Rattle.rewrite_rules.proofs.OperatorLemmas.{low_fits}
 use Rattle.rewrite_rules.proofs.beside.AccessLemmas.{conversion_follows}
-use Rattle.rewrite_rules.proofs.beside.ConstantLemmas.{Leaves, leave_alike, whole_leaves, bits_leave, then_leaves, same_bits_32, same_bits_64, other_back, other_bits_are, vector_fits}
+use Rattle.rewrite_rules.proofs.beside.ConstantLemmas.{Leaves, leave_alike, whole_leaves, bits_leave, then_leaves, same_bits_32}
+use Rattle.rewrite_rules.proofs.beside.ConstantLemmas.{same_bits_64, other_back, other_bits_are, vector_fits}
 use Rattle.rewrite_rules.proofs.beside.AccessParts.{by, f32_of_bits, f64_of_bits, bits_of_f32, bits_of_f64, complement, words_splat, doubles_splat}
 use Rattle.rewrite_rules.proofs.beside.AccessParts.{float_words_splat, float_doubles_splat}
 use Rattle.rewrite_rules.proofs.beside.AccessPairs.{bare}
@@ -96,21 +97,25 @@ module _ (context : Context) (exact : context.info.exact ≡ true) where
   unfolding exact_operator exact_row integer_row row_at table
   f32_by_bits z =
       then_leaves context exact (code_with 36 (imm.I32 z)) (By (Exact 161 None)) I32 F32 (cast_unsigned w32 z % 2 ^ 32) (by (Exact 161 None)) (i32_leaves z)
-      (low_fits integer.I32 (cast_unsigned w32 z)) (conversion_follows context exact (By (Exact 161 None)) I32 F32 (by (Exact 161 None)) (f32_of_bits context exact))
+      (low_fits integer.I32 (cast_unsigned w32 z)) (conversion_follows context exact (By (Exact 161 None)) I32 F32 (by (Exact 161 None))
+      (f32_of_bits context exact))
 
   f64_by_bits : (z : ℤ) → Leaves context (side_code Constant (record { row = 37; conversion = By (Exact 162 None) }) (imm.I64 z)) F64
       (cast_unsigned w64 z % 2 ^ 64 % 2 ^ 64)
   unfolding exact_operator exact_row integer_row row_at table
   f64_by_bits z =
       then_leaves context exact (code_with 37 (imm.I64 z)) (By (Exact 162 None)) I64 F64 (cast_unsigned w64 z % 2 ^ 64) (by (Exact 162 None)) (i64_leaves z)
-      (low_fits integer.I64 (cast_unsigned w64 z)) (conversion_follows context exact (By (Exact 162 None)) I64 F64 (by (Exact 162 None)) (f64_of_bits context exact))
+      (low_fits integer.I64 (cast_unsigned w64 z)) (conversion_follows context exact (By (Exact 162 None)) I64 F64 (by (Exact 162 None))
+      (f64_of_bits context exact))
 
   v128_by_others : (z : ℤ) → Leaves context (side_code Constant (record { row = 201; conversion = By (Exact 266 None) }) (imm.V128 z)) V128
       (bit_xor ones (cast_unsigned w128 z % 2 ^ 128) % 2 ^ 128)
   unfolding exact_operator exact_row integer_row row_at table
   v128_by_others z =
-      then_leaves context exact (code_with 201 (imm.V128 z)) (By (Exact 266 None)) V128 V128 (cast_unsigned w128 z % 2 ^ 128) (by (Exact 266 None)) (v128_leaves z)
-      (of_bits_fits V128 (cast_unsigned w128 z)) (conversion_follows context exact (By (Exact 266 None)) V128 V128 (by (Exact 266 None)) (complement context exact))
+      then_leaves context exact (code_with 201 (imm.V128 z)) (By (Exact 266 None)) V128 V128 (cast_unsigned w128 z % 2 ^ 128) (by (Exact 266 None))
+      (v128_leaves z)
+      (of_bits_fits V128 (cast_unsigned w128 z)) (conversion_follows context exact (By (Exact 266 None)) V128 V128 (by (Exact 266 None))
+      (complement context exact))
 
   -- seen as numbers
   i32_by_bits : (n : ℕ) → Leaves context (side_code Constant (record { row = 38; conversion = By (Exact 159 None) }) (imm.F32 n)) I32 (n % 2 ^ 32 % 2 ^ 32)
@@ -138,7 +143,8 @@ module _ (context : Context) (exact : context.info.exact ≡ true) where
   unfolding exact_operator exact_row integer_row row_at table
   i32_splat z =
       then_leaves context exact (code_with 36 (imm.I32 z)) (By (Exact 206 None)) I32 V128 (cast_unsigned w32 z % 2 ^ 32) (by (Exact 206 None)) (i32_leaves z)
-      (low_fits integer.I32 (cast_unsigned w32 z)) (conversion_follows context exact (By (Exact 206 None)) I32 V128 (by (Exact 206 None)) (words_splat context exact))
+      (low_fits integer.I32 (cast_unsigned w32 z)) (conversion_follows context exact (By (Exact 206 None)) I32 V128 (by (Exact 206 None))
+      (words_splat context exact))
 
   f64_splat : (n : ℕ) → Leaves context (side_code Constant (record { row = 39; conversion = By (Exact 209 None) }) (imm.F64 n)) V128
       (of_bits V128 (splat doubles_wide (n % 2 ^ 64)))
@@ -152,7 +158,8 @@ module _ (context : Context) (exact : context.info.exact ≡ true) where
   unfolding exact_operator exact_row integer_row row_at table
   i64_splat z =
       then_leaves context exact (code_with 37 (imm.I64 z)) (By (Exact 207 None)) I64 V128 (cast_unsigned w64 z % 2 ^ 64) (by (Exact 207 None)) (i64_leaves z)
-      (low_fits integer.I64 (cast_unsigned w64 z)) (conversion_follows context exact (By (Exact 207 None)) I64 V128 (by (Exact 207 None)) (doubles_splat context exact))
+      (low_fits integer.I64 (cast_unsigned w64 z)) (conversion_follows context exact (By (Exact 207 None)) I64 V128 (by (Exact 207 None))
+      (doubles_splat context exact))
 
 pub f32_constant_by_bits : ConstantPair (bare 38) (record { row = 36; conversion = By (Exact 161 None) })
 unfolding row_at table
@@ -192,7 +199,8 @@ vector_by_others = of_kind imm.V128 only_v128 (λ wide context exact z k h e.
     subst (λ (j : Imm). StandsWith context [] (code_with 201 (imm.V128 z) ∷ []) (side_code Constant (record { row = 201; conversion = By (Exact 266 None) }) j))
     (same_Some (imm.V128 (cast_signed w128 (bit_xor (cast_unsigned w128 z) ones))) k e)
     (leave_alike context wide _ _ V128 (cast_unsigned w128 z % 2 ^ 128) (v128_leaves context exact z)
-    (subst (Leaves context _ V128) (sym (other_back (cast_unsigned w128 z) (vector_fits z h))) (v128_by_others context exact (cast_signed w128 (bit_xor (cast_unsigned w128 z) ones))))))
+    (subst (Leaves context _ V128) (sym (other_back (cast_unsigned w128 z) (vector_fits z h)))
+    (v128_by_others context exact (cast_signed w128 (bit_xor (cast_unsigned w128 z) ones))))))
 
 pub vector_of_others : ConstantPair (record { row = 201; conversion = By (Exact 266 None) }) (bare 201)
 unfolding row_at table
@@ -200,7 +208,8 @@ vector_of_others = of_kind imm.V128 only_v128 (λ wide context exact z k h e.
     subst (λ (j : Imm). StandsWith context [] (side_code Constant (record { row = 201; conversion = By (Exact 266 None) }) (imm.V128 z)) (code_with 201 j ∷ []))
     (same_Some (imm.V128 (cast_signed w128 (bit_xor (cast_unsigned w128 z) ones))) k e)
     (leave_alike context wide _ _ V128 (bit_xor ones (cast_unsigned w128 z % 2 ^ 128) % 2 ^ 128) (v128_by_others context exact z)
-    (subst (Leaves context _ V128) (sym (other_bits_are (cast_unsigned w128 z) (vector_fits z h))) (v128_leaves context exact (cast_signed w128 (bit_xor (cast_unsigned w128 z) ones))))))
+    (subst (Leaves context _ V128) (sym (other_bits_are (cast_unsigned w128 z) (vector_fits z h)))
+    (v128_leaves context exact (cast_signed w128 (bit_xor (cast_unsigned w128 z) ones))))))
 
 -- the number of 32 bits of a float, and of 64
 low_32 : (n : ℕ) → n < 2 ^ 32 → cast_unsigned w32 (cast_signed w32 n) % 2 ^ 32 ≡ n % 2 ^ 32

@@ -8,16 +8,16 @@ use mir.Val.{bits}
 use Rattle.wasm_code.specs.Instruction.{Instruction}
 use Rattle.wasm_types.specs.declared.types.PrimitiveTypeInfo.{PrimitiveTypeInfo}
 use Rattle.wasm_types.specs.declared.types.PrimitiveTypeInfo.TheVariants as primitive
-use Rattle.peephole_machine.specs.declared.integer.IntegerType.{IntegerType}
-use Rattle.peephole_machine.specs.declared.operation.Binary.TheVariants.{Add}
-use Rattle.peephole_machine.specs.declared.operation.Operation.{Operation}
-use Rattle.peephole_machine.specs.declared.operation.Operation.TheVariants as operation
-use Rattle.peephole_machine.specs.Values.{type_of, width_of, types, Context}
-use Rattle.peephole_machine.specs.Integer.{IntegerOperator}
-use Rattle.peephole_machine.specs.Computed.{computed}
-use Rattle.peephole_machine.specs.Machine.{cause_of}
-use Rattle.peephole_machine.specs.Operation.{operator_of}
-use Rattle.peephole_machine.specs.RowLemmas.{map_some, same_type_self}
+use Rattle.wasm_execution.specs.declared.integer.IntegerType.{IntegerType}
+use Rattle.wasm_execution.specs.declared.operation.Binary.TheVariants.{Add}
+use Rattle.wasm_execution.specs.declared.operation.Operation.{Operation}
+use Rattle.wasm_execution.specs.declared.operation.Operation.TheVariants as operation
+use Rattle.wasm_execution.specs.Values.{type_of, width_of, types, Context}
+use Rattle.wasm_execution.specs.Integer.{IntegerOperator}
+use Rattle.wasm_execution.specs.Computed.{computed}
+use Rattle.wasm_execution.specs.Machine.{division_trap_cause}
+use Rattle.wasm_execution.specs.Operation.{operator_of}
+use Rattle.wasm_execution.specs.RowLemmas.{map_some, same_type_self}
 use Rattle.rewrite_rules.specs.declared.pattern.Number.TheVariants.{Literal}
 use Rattle.rewrite_rules.specs.declared.pattern.Operator.TheVariants.{Whole}
 use Rattle.rewrite_rules.specs.Pattern.{fixed, operands_of, Pattern, Patterns, constant, apply, none, ◌▹◌}
@@ -117,7 +117,7 @@ module _ (f : Operation) (cs : List (IntegerType × ℕ)) (n : ℕ) (typed : typ
   right : IsRight folded
   right h c us vs a e =
       ap (value_on (Whole f)) (numbers_are h c us cs)
-      ∙ (ap (λ o. or_cause o (cause_of (map (λ v. v.number) (left_by cs)))) given
+      ∙ (ap (λ o. or_cause o (division_trap_cause (map (λ v. v.number) (left_by cs)))) given
       ∙ ap ok (sym (low_is (operator_of f) (map (λ v. v.number) (left_by cs)) n given)))
 
   pub fold : LinesKeepCode → (context : Context) →

@@ -1,22 +1,24 @@
 -- What is done with a value behind a load, or before a store: an operator, or one with a constant.
-use Rattle.std.proofs.Common.{◌≡◌, ℕ, ◌-◌, Bool, true, false, List, [], ◌∷◌, ◌++◌, length, take, drop, map, Option, Some, None, refl, sym, ap, ap₂, ◌∙◌, subst, append_assoc, suc}
+use Rattle.std.proofs.Common.{◌≡◌, ℕ, ◌-◌, Bool, true, false, List, [], ◌∷◌, ◌++◌, length, take, drop, map, Option, Some, None, refl, sym}
+use Rattle.std.proofs.Common.{ap, ap₂, ◌∙◌, subst, append_assoc, suc}
 use Rattle.std.specs.Prelude.{◌&&◌, Ok, Result, is_some, option_and_then}
 use Rattle.std.specs.List.{All}
 use Rattle.std.proofs.lemmas.List.Elements.{All-nil, All-cons}
 use Rattle.wasm_types.specs.Module.{Module}
 use Rattle.wasm_types.specs.declared.types.PrimitiveTypeInfo.{PrimitiveTypeInfo}
 use Rattle.wasm_types.specs.declared.types.PrimitiveTypeInfo.TheVariants as primitive
-use Rattle.peephole_machine.specs.declared.integer.IntegerType.{IntegerType}
-use Rattle.peephole_machine.specs.declared.operation.Operation.{Operation}
-use Rattle.peephole_machine.specs.OtherRow.{typed}
-use Rattle.peephole_machine.specs.Operation.{operator_of}
-use Rattle.peephole_machine.specs.Values.{Cause, type_of, same_type, same_types, results_on, Value, IsValue, IsOfType, types, Context, State, HasTypes, Ends, Stuck, then_run, above}
-use Rattle.peephole_machine.specs.IntegerRow.{IntegerRow, if_typed, operand_count, count_of, row_types, integer_row}
-use Rattle.peephole_machine.specs.Machine.{context_of, only_if, effect, act, step, run}
-use Rattle.peephole_machine.specs.OutcomeLemmas.{run_append, run_one}
-use Rattle.peephole_machine.specs.RowLemmas.{step_at}
-use Rattle.peephole_programs.specs.validation.Algorithm.{Frame, check_code}
-use Rattle.peephole_programs.specs.validation.StaysValid.{with_types}
+use Rattle.wasm_execution.specs.declared.integer.IntegerType.{IntegerType}
+use Rattle.wasm_execution.specs.declared.operation.Operation.{Operation}
+use Rattle.wasm_execution.specs.OtherRow.{typed}
+use Rattle.wasm_execution.specs.Operation.{operator_of}
+use Rattle.wasm_execution.specs.Values.{Cause, type_of, same_type, same_types, results_on, Value, IsValue, IsOfType, types, Context, State}
+use Rattle.wasm_execution.specs.Values.{HasTypes, Ends, Stuck, then_run, above}
+use Rattle.wasm_execution.specs.IntegerRow.{IntegerRow, if_typed, operand_count, typed_operand_count, row_types, integer_row}
+use Rattle.wasm_execution.specs.Machine.{state_context, only_if, effect, act, step, run}
+use Rattle.wasm_execution.specs.OutcomeLemmas.{run_append, run_one}
+use Rattle.wasm_execution.specs.RowLemmas.{step_at}
+use Rattle.wasm_equivalence.specs.validation.Algorithm.{Frame, check_code}
+use Rattle.wasm_equivalence.specs.validation.StaysValid.{with_types}
 use Rattle.rewrite_rules.specs.declared.access.Conversion.{Conversion}
 use Rattle.rewrite_rules.specs.declared.access.Conversion.TheVariants.{By, With}
 use Rattle.rewrite_rules.specs.declared.pattern.Operator.{Operator}
@@ -68,7 +70,7 @@ exactly_one n i o told =
           other_takes context (exact_code n i) (record { operands = fixed_operands o.operands; results = o.result ∷ [] }) own
           (exact_type (exact_code n i) o is context.info);
       count = λ info.
-          ap (operand_count info) own ∙ (ap count_of (exact_type (exact_code n i) o is info) ∙ fixed_count o.operands);
+          ap (operand_count info) own ∙ (ap typed_operand_count (exact_type (exact_code n i) o is info) ∙ fixed_count o.operands);
       acts = λ context exact vs s h t hv m e.
           ap (λ r. act r vs s) own
           ∙ (act_on context primitive.I32 refl (Exact n i) known (λ k. exact) vs s h
@@ -81,7 +83,7 @@ exactly_one n i o told =
     fixed_count (t ∷ ts) = ap suc (fixed_count ts)
 
 -- where operands aren't of its types, it is stuck
-stuck_on : (row : IntegerRow) (vs : List Value) (s : State) → row_types (context_of s) row (types vs) ≡ None → act row vs s ≡ Stuck
+stuck_on : (row : IntegerRow) (vs : List Value) (s : State) → row_types (state_context s) row (types vs) ≡ None → act row vs s ≡ Stuck
 stuck_on row vs s e = ap (λ r. only_if (is_some r) (effect row vs s)) e
 
 -- ---- conversions
@@ -108,16 +110,17 @@ module _ (context : Context) (exact : context.info.exact ≡ true) (o : Operator
     runs = λ below v s h i e.
         run_one (operator_code o) row (below ++ v ∷ []) s refl
         ∙ (step_at row below (v ∷ []) s (is.count s.world.info)
-        ∙ ap (above below) (is.acts context exact (v ∷ []) s h (ap (λ (w : PrimitiveTypeInfo). w ∷ []) e) (All-cons IsValue v [] i (All-nil IsValue)) (f v.number)
+        ∙ ap (above below) (is.acts context exact (v ∷ []) s h (ap (λ (w : PrimitiveTypeInfo). w ∷ []) e) (All-cons IsValue v [] i (All-nil IsValue))
+        (f v.number)
         (value v.number (subst (λ (w : PrimitiveTypeInfo). IsOfType w v.number) e i))));
     on_none = λ s.
         run_one (operator_code o) row [] s refl
         ∙ (ap (λ (k : ℕ). above (take (0 - k) []) (act row (drop (0 - k) []) s)) (is.count s.world.info)
-        ∙ ap (above []) (stuck_on row [] s (is.typed_on (context_of s) [])));
+        ∙ ap (above []) (stuck_on row [] s (is.typed_on (state_context s) [])));
     on_other = λ below v s e.
         run_one (operator_code o) row (below ++ v ∷ []) s refl
         ∙ (step_at row below (v ∷ []) s (is.count s.world.info)
-        ∙ ap (above below) (stuck_on row (v ∷ []) s (is.typed_on (context_of s) (v.type ∷ []) ∙ ap (λ b. if_typed (b && true) (u ∷ [])) e)));
+        ∙ ap (above below) (stuck_on row (v ∷ []) s (is.typed_on (state_context s) (v.type ∷ []) ∙ ap (λ b. if_typed (b && true) (u ∷ [])) e)));
   }
 
   module _ (k : IntegerType) (c : ℕ) where
@@ -148,13 +151,14 @@ module _ (context : Context) (exact : context.info.exact ≡ true) (o : Operator
       on_none = λ s.
           on_constant [] s
           ∙ (ap (λ (j : ℕ). above (take (1 - j) (constant ∷ [])) (act row (drop (1 - j) (constant ∷ [])) s)) (is.count s.world.info)
-          ∙ ap (above []) (stuck_on row (constant ∷ []) s (is.typed_on (context_of s) (type_of k ∷ []) ∙ ap (λ b. if_typed b (u ∷ [])) (never (same_type (type_of k) t)))));
+          ∙ ap (above []) (stuck_on row (constant ∷ []) s (is.typed_on (state_context s) (type_of k ∷ [])
+          ∙ ap (λ b. if_typed b (u ∷ [])) (never (same_type (type_of k) t)))));
       on_other = λ below v s e.
           on_constant (below ++ v ∷ []) s
           ∙ (ap (λ l. step row l s) (append_assoc below (v ∷ []) (constant ∷ []))
           ∙ (step_at row below (v ∷ constant ∷ []) s (is.count s.world.info)
           ∙ ap (above below) (stuck_on row (v ∷ constant ∷ []) s
-          (is.typed_on (context_of s) (v.type ∷ type_of k ∷ []) ∙ ap (λ b. if_typed (b && same_types (type_of k ∷ []) (type_of k ∷ [])) (u ∷ [])) e))));
+          (is.typed_on (state_context s) (v.type ∷ type_of k ∷ []) ∙ ap (λ b. if_typed (b && same_types (type_of k ∷ []) (type_of k ∷ [])) (u ∷ [])) e))));
     }
       where
         never : (b : Bool) → (b && false) ≡ false

@@ -1,20 +1,22 @@
 -- Code that takes operands from any frame, and leaves values in their place: operands are popped one by one.
-use Rattle.std.proofs.Common.{◌≡◌, ℕ, zero, suc, ◌-◌, ◌≤◌, Bool, true, false, List, [], ◌∷◌, ◌++◌, length, take, drop, Option, Some, None, refl, sym, ap, ap₂, ◌∙◌, arith, inl, inr, append_assoc}
+use Rattle.std.proofs.Common.{◌≡◌, ℕ, zero, suc, ◌-◌, ◌≤◌, Bool, true, false, List, [], ◌∷◌, ◌++◌, length, take, drop, Option, Some, None}
+use Rattle.std.proofs.Common.{refl, sym, ap, ap₂, ◌∙◌, arith, inl, inr, append_assoc}
 use Rattle.std.specs.Prelude.{◌⊎◌, ◌&&◌, ◌||◌, ◌==◌, nat_le, replicate, if◌then◌else◌, option_map, option_and_then}
 use Rattle.std.proofs.lemmas.Bool.{eqb-true, eq-eqb}
 use Rattle.std.proofs.Math.Dec.{leb-zero, leb-suc-suc, leb-suc-zero}
 use Rattle.std.proofs.lemmas.List.{append-nil, length-append}
 use Rattle.wasm_code.specs.Instruction.{Instruction}
 use Rattle.wasm_types.specs.declared.types.PrimitiveTypeInfo.{PrimitiveTypeInfo}
-use Rattle.peephole_machine.specs.OtherRow.{Operand, typed, OtherType, names_in, other_type}
-use Rattle.peephole_machine.specs.Values.{type_number, same_type, same_types, accept, Context}
-use Rattle.peephole_machine.specs.declared.integer.IntegerType.{IntegerType}
-use Rattle.peephole_machine.specs.Integer.{IntegerOperator}
-use Rattle.peephole_machine.specs.IntegerRow.{constant, operation, other, if_typed, count_of, integer_row}
-use Rattle.peephole_machine.specs.Values.{type_of}
-use Rattle.peephole_machine.specs.RowLemmas.{same_type_self}
-use Rattle.peephole_programs.specs.validation.Algorithm.{Entry, may_be, all_may_be, takes, take_all, known, other_entries, row_entries, Frame, can_pop, popped, with_pushed, check_row, check_code}
-use Rattle.peephole_programs.specs.validation.StaysValid.{with_types}
+use Rattle.wasm_execution.specs.OtherRow.{Operand, typed, OtherType, names_in, other_type}
+use Rattle.wasm_execution.specs.Values.{type_number, same_type, same_types, accept, Context}
+use Rattle.wasm_execution.specs.declared.integer.IntegerType.{IntegerType}
+use Rattle.wasm_execution.specs.Integer.{IntegerOperator}
+use Rattle.wasm_execution.specs.IntegerRow.{constant, operation, other, if_typed, typed_operand_count, integer_row}
+use Rattle.wasm_execution.specs.Values.{type_of}
+use Rattle.wasm_execution.specs.RowLemmas.{same_type_self}
+use Rattle.wasm_equivalence.specs.validation.Algorithm.{OperandEntry, may_be, all_may_be, operand_takes, take_all, known, other_entries}
+use Rattle.wasm_equivalence.specs.validation.Algorithm.{row_entries, Frame, can_pop, popped, with_pushed, check_row, check_code}
+use Rattle.wasm_equivalence.specs.validation.StaysValid.{with_types}
 use Rattle.rewrite_rules.proofs.ExactLemmas.{fixed_operands}
 
 -- ---- lists
@@ -70,32 +72,33 @@ accept_same [] (u ∷ us) = refl
 accept_same (t ∷ ts) [] = refl
 accept_same (t ∷ ts) (u ∷ us) = ap₂ (λ a b. a && b) (same_turned t u) (accept_same ts us)
 
-may_take : (es : List Entry) (ts : List PrimitiveTypeInfo) → all_may_be es ts ≡ take_all (fixed_operands ts) es
+may_take : (es : List OperandEntry) (ts : List PrimitiveTypeInfo) → all_may_be es ts ≡ take_all (fixed_operands ts) es
 may_take [] [] = refl
 may_take [] (t ∷ ts) = refl
 may_take (e ∷ es) [] = refl
 may_take (e ∷ es) (t ∷ ts) = ap₂ (λ a b. a && b) (one e) (may_take es ts)
   where
-    one : (e : Entry) → may_be e t ≡ takes (typed (Some t)) e
+    one : (e : OperandEntry) → may_be e t ≡ operand_takes (typed (Some t)) e
     one (Some u) = same_turned u t
     one None = refl
 
-taken_behind : (os : List Operand) (o : Operand) (es : List Entry) (e : Entry) → take_all (os ++ o ∷ []) (es ++ e ∷ []) ≡ (take_all os es && takes o e)
-taken_behind [] o [] e = only (takes o e)
+taken_behind : (os : List Operand) (o : Operand) (es : List OperandEntry) (e : OperandEntry) →
+    take_all (os ++ o ∷ []) (es ++ e ∷ []) ≡ (take_all os es && operand_takes o e)
+taken_behind [] o [] e = only (operand_takes o e)
   where
     only : (b : Bool) → (b && true) ≡ b
     only true = refl
     only false = refl
-taken_behind [] o (d ∷ es) e = ap (λ b. takes o d && b) (none es) ∙ never (takes o d)
+taken_behind [] o (d ∷ es) e = ap (λ b. operand_takes o d && b) (none es) ∙ never (operand_takes o d)
   where
-    none : (es : List Entry) → take_all [] (es ++ e ∷ []) ≡ false
+    none : (es : List OperandEntry) → take_all [] (es ++ e ∷ []) ≡ false
     none [] = refl
     none (c ∷ es) = refl
 
     never : (b : Bool) → (b && false) ≡ false
     never true = refl
     never false = refl
-taken_behind (p ∷ os) o [] e = ap (λ b. takes p e && b) (none os) ∙ never (takes p e)
+taken_behind (p ∷ os) o [] e = ap (λ b. operand_takes p e && b) (none os) ∙ never (operand_takes p e)
   where
     none : (os : List Operand) → take_all (os ++ o ∷ []) [] ≡ false
     none [] = refl
@@ -104,7 +107,8 @@ taken_behind (p ∷ os) o [] e = ap (λ b. takes p e && b) (none os) ∙ never (
     never : (b : Bool) → (b && false) ≡ false
     never true = refl
     never false = refl
-taken_behind (p ∷ os) o (d ∷ es) e = ap (λ b. takes p d && b) (taken_behind os o es e) ∙ grouped (takes p d) (take_all os es) (takes o e)
+taken_behind (p ∷ os) o (d ∷ es) e = ap (λ b. operand_takes p d && b) (taken_behind os o es e)
+    ∙ grouped (operand_takes p d) (take_all os es) (operand_takes o e)
   where
     grouped : (a b c : Bool) → (a && (b && c)) ≡ ((a && b) && c)
     grouped true b c = refl
@@ -113,7 +117,7 @@ taken_behind (p ∷ os) o (d ∷ es) e = ap (λ b. takes p d && b) (taken_behind
 -- ---- frames
 
 -- the frame with other operands
-abbrev pub on : Frame → List Entry → Frame
+abbrev pub on : Frame → List OperandEntry → Frame
 on f es = record f { operands = es }
 
 -- what takes these operands from the frame, and leaves values of these types, where it has them
@@ -126,18 +130,18 @@ abbrev pub Takes : Context → List Instruction → List Operand → List Primit
 Takes context code os us = (f : Frame) → check_code context code f ≡ taken os us f
 
 -- what takes nothing
-popped_none : (f : Frame) (es : List Entry) → popped 0 (on f es) ≡ []
+popped_none : (f : Frame) (es : List OperandEntry) → popped 0 (on f es) ≡ []
 popped_none f es =
     let none : 0 - length es ≡ 0 = omega arith in
     let all : length es - 0 ≡ length es = omega arith in
     ap₂ (λ (n m : ℕ). replicate n None ++ drop m es) none all ∙ drop_none es
 
-taken_none : (us : List PrimitiveTypeInfo) (f : Frame) (es : List Entry) → taken [] us (on f es) ≡ Some (on f (es ++ known us))
+taken_none : (us : List PrimitiveTypeInfo) (f : Frame) (es : List OperandEntry) → taken [] us (on f es) ≡ Some (on f (es ++ known us))
 taken_none us f es =
     let all : length es - 0 ≡ length es = omega arith in
     ap (λ b. if b || f.unreachable then option_map (with_pushed 0 (on f es)) (if_typed (take_all [] (popped 0 (on f es))) (known us)) else None)
     (leb-zero (length es))
-    ∙ ap₂ (λ (ps fs : List Entry). option_map (λ (ds : List Entry). on f (fs ++ ds)) (if_typed (take_all [] ps) (known us)))
+    ∙ ap₂ (λ (ps fs : List OperandEntry). option_map (λ (ds : List OperandEntry). on f (fs ++ ds)) (if_typed (take_all [] ps) (known us)))
     (popped_none f es)
     (ap (λ (m : ℕ). take m es) all ∙ take_whole es)
 
@@ -145,8 +149,8 @@ pub pushed_none : (us : List PrimitiveTypeInfo) (f : Frame) → taken [] us f �
 pushed_none us f = taken_none us f f.operands
 
 -- the last operand first, and then the others
-taken_last : (os : List Operand) (o : Operand) (us : List PrimitiveTypeInfo) (f : Frame) (es : List Entry) (e : Entry) →
-    taken (os ++ o ∷ []) us (on f (es ++ e ∷ [])) ≡ (if takes o e then taken os us (on f es) else None)
+taken_last : (os : List Operand) (o : Operand) (us : List PrimitiveTypeInfo) (f : Frame) (es : List OperandEntry) (e : OperandEntry) →
+    taken (os ++ o ∷ []) us (on f (es ++ e ∷ [])) ≡ (if operand_takes o e then taken os us (on f es) else None)
 taken_last os o us f es e =
     let n = length os in
     let k = length (os ++ o ∷ []) in
@@ -160,14 +164,15 @@ taken_last os o us f es e =
     let can : can_pop k F ≡ can_pop n (on f es) = ap (λ b. b || f.unreachable) (ap₂ nat_le more longer ∙ leb-suc-suc n (length es)) in
     let pops : popped k F ≡ popped n (on f es) ++ e ∷ [] =
     ap₂ (λ (m j : ℕ). replicate m None ++ drop j (es ++ e ∷ [])) few rest
-    ∙ (ap (λ (ds : List Entry). replicate (n - length es) None ++ ds) (drop_front (length es - n) es e within)
+    ∙ (ap (λ (ds : List OperandEntry). replicate (n - length es) None ++ ds) (drop_front (length es - n) es e within)
     ∙ sym (append_assoc (replicate (n - length es) None) (drop (length es - n) es) (e ∷ []))) in
     let stay : take (l - k) (es ++ e ∷ []) ≡ take (length es - n) es =
     ap (λ (m : ℕ). take m (es ++ e ∷ [])) rest ∙ take_front (length es - n) es e within in
-    ap₂ (λ (b : Bool) (ps : List Entry). if b then option_map (with_pushed k F) (if_typed (take_all (os ++ o ∷ []) ps) (known us)) else None) can pops
-    ∙ (ap₂ (λ (a : Bool) (fs : List Entry). if can_pop n (on f es) then option_map (λ (ds : List Entry). on f (fs ++ ds)) (if_typed a (known us)) else None)
+    ap₂ (λ (b : Bool) (ps : List OperandEntry). if b then option_map (with_pushed k F) (if_typed (take_all (os ++ o ∷ []) ps) (known us)) else None) can pops
+    ∙ (ap₂ (λ (a : Bool) (fs : List OperandEntry). if can_pop n (on f es) then option_map (λ (ds : List OperandEntry). on f (fs ++ ds))
+    (if_typed a (known us)) else None)
     (taken_behind os o (popped n (on f es)) e) stay
-    ∙ by_both (can_pop n (on f es)) (take_all os (popped n (on f es))) (takes o e))
+    ∙ by_both (can_pop n (on f es)) (take_all os (popped n (on f es))) (operand_takes o e))
   where
     by_both : (b a c : Bool) →
         (if b then option_map (with_pushed (length os) (on f es)) (if_typed (a && c) (known us)) else None)
@@ -181,12 +186,13 @@ taken_last os o us f es e =
 
 -- where there is none, it is unknown if the code is never reached
 taken_empty : (os : List Operand) (o : Operand) (us : List PrimitiveTypeInfo) (f : Frame) →
-    taken (os ++ o ∷ []) us (on f []) ≡ (if f.unreachable then (if takes o None then taken os us (on f []) else None) else None)
+    taken (os ++ o ∷ []) us (on f []) ≡ (if f.unreachable then (if operand_takes o None then taken os us (on f []) else None) else None)
 taken_empty os o us f =
     let n = length os in
     let k = length (os ++ o ∷ []) in
     let more : k ≡ suc n = length-append os (o ∷ []) ∙ omega arith in
-    ap (λ (j : ℕ). if can_pop j (on f []) then option_map (with_pushed j (on f [])) (if_typed (take_all (os ++ o ∷ []) (popped j (on f []))) (known us)) else None) more
+    ap (λ (j : ℕ). if can_pop j (on f []) then option_map (with_pushed j (on f []))
+    (if_typed (take_all (os ++ o ∷ []) (popped j (on f []))) (known us)) else None) more
     ∙ by_reached f.unreachable refl
   where
     n : ℕ
@@ -201,14 +207,14 @@ taken_empty os o us f =
         let all : n - 0 ≡ n = omega arith in
         let over : 0 - suc n ≡ 0 = omega arith in
         let under : 0 - n ≡ 0 = omega arith in
-        let bare : List Entry → List Entry = λ ps. ps ++ None ∷ [] in
-        ap₂ (λ (m j : ℕ). replicate m None ++ drop {A = Entry} j []) one over
+        let bare : List OperandEntry → List OperandEntry = λ ps. ps ++ None ∷ [] in
+        ap₂ (λ (m j : ℕ). replicate m None ++ drop {A = OperandEntry} j []) one over
         ∙ (append-nil (replicate (suc n) None)
         ∙ (one_more n None
-        ∙ ap bare (sym (ap₂ (λ (m j : ℕ). replicate m None ++ drop {A = Entry} j []) all under ∙ append-nil (replicate n None)))))
+        ∙ ap bare (sym (ap₂ (λ (m j : ℕ). replicate m None ++ drop {A = OperandEntry} j []) all under ∙ append-nil (replicate n None)))))
 
     pushed : (m : ℕ) → with_pushed m F (known us) ≡ on f (known us)
-    pushed m = let over : 0 - m ≡ 0 = omega arith in ap (λ (j : ℕ). on f (take {A = Entry} j [] ++ known us)) over
+    pushed m = let over : 0 - m ≡ 0 = omega arith in ap (λ (j : ℕ). on f (take {A = OperandEntry} j [] ++ known us)) over
 
     by_takes : (a c : Bool) →
         option_map (with_pushed (suc n) F) (if_typed (a && c) (known us)) ≡ (if c then option_map (with_pushed n F) (if_typed a (known us)) else None)
@@ -226,13 +232,14 @@ taken_empty os o us f =
 
     by_reached : (b : Bool) → f.unreachable ≡ b →
         (if can_pop (suc n) F then option_map (with_pushed (suc n) F) (if_typed (take_all (os ++ o ∷ []) (popped (suc n) F)) (known us)) else None)
-        ≡ (if b then (if takes o None then taken os us F else None) else None)
+        ≡ (if b then (if operand_takes o None then taken os us F else None) else None)
     by_reached true e =
-        ap₂ (λ (b : Bool) (ps : List Entry). if b then option_map (with_pushed (suc n) F) (if_typed (take_all (os ++ o ∷ []) ps) (known us)) else None)
+        ap₂ (λ (b : Bool) (ps : List OperandEntry). if b then option_map (with_pushed (suc n) F) (if_typed (take_all (os ++ o ∷ []) ps) (known us)) else None)
         (ap (λ b. b || f.unreachable) (leb-suc-zero n) ∙ e) pops
         ∙ (ap (λ a. option_map (with_pushed (suc n) F) (if_typed a (known us))) (taken_behind os o (popped n F) None)
-        ∙ (by_takes (take_all os (popped n F)) (takes o None)
-        ∙ ap (λ b. if takes o None then (if b then option_map (with_pushed n F) (if_typed (take_all os (popped n F)) (known us)) else None) else None) (sym (can e))))
+        ∙ (by_takes (take_all os (popped n F)) (operand_takes o None)
+        ∙ ap (λ b. if operand_takes o None then (if b then option_map (with_pushed n F) (if_typed (take_all os (popped n F)) (known us)) else None)
+        else None) (sym (can e))))
     by_reached false e = ap (λ b. if b then option_map (with_pushed (suc n) F) (if_typed (take_all (os ++ o ∷ []) (popped (suc n) F)) (known us)) else None)
         (ap (λ b. b || f.unreachable) (leb-suc-zero n) ∙ e)
 
@@ -249,7 +256,8 @@ module _ (context : Context) where
   other_takes i t own e f =
       some_last (check_row context (integer_row i) f)
       ∙ (ap (λ r. check_row context r f) own
-      ∙ ap (λ (o : Option OtherType). if can_pop (count_of o) f then option_map (with_pushed (count_of o) f) (option_and_then (other_entries (popped (count_of o) f)) o) else None) e)
+      ∙ ap (λ (o : Option OtherType). if can_pop (typed_operand_count o) f then option_map (with_pushed (typed_operand_count o) f)
+      (option_and_then (other_entries (popped (typed_operand_count o) f)) o) else None) e)
 
   -- an operator on whole numbers
   pub operation_takes : (i : Instruction) (g : IntegerOperator) → integer_row i ≡ operation g →
@@ -259,7 +267,8 @@ module _ (context : Context) where
       some_last (check_row context (integer_row i) f)
       ∙ (ap (λ r. check_row context r f) own
       ∙ (ap (λ b. if can_pop n f then option_map (with_pushed n f) (if_typed b (known (type_of g.result ∷ []))) else None) (may_take (popped n f) g.operands)
-      ∙ ap (λ (k : ℕ). if can_pop k f then option_map (with_pushed k f) (if_typed (take_all (fixed_operands g.operands) (popped k f)) (known (type_of g.result ∷ []))) else None)
+      ∙ ap (λ (k : ℕ). if can_pop k f then option_map (with_pushed k f)
+      (if_typed (take_all (fixed_operands g.operands) (popped k f)) (known (type_of g.result ∷ []))) else None)
       (sym (count g.operands))))
     where
       count : (ts : List PrimitiveTypeInfo) → length (fixed_operands ts) ≡ length ts
@@ -272,8 +281,9 @@ module _ (context : Context) where
   constant_pushes i t n own f =
       some_last (check_row context (integer_row i) f)
       ∙ (ap (λ r. check_row context r f) own
-      ∙ (ap (λ (ps : List Entry). if can_pop 0 f then option_map (with_pushed 0 f) (row_entries context (constant t n) ps) else None) (popped_none f f.operands)
-      ∙ (ap (λ (ps : List Entry). if can_pop 0 f then option_map (with_pushed 0 f) (if_typed (take_all [] ps) (known (type_of t ∷ []))) else None)
+      ∙ (ap (λ (ps : List OperandEntry). if can_pop 0 f then option_map (with_pushed 0 f) (row_entries context (constant t n) ps) else None)
+      (popped_none f f.operands)
+      ∙ (ap (λ (ps : List OperandEntry). if can_pop 0 f then option_map (with_pushed 0 f) (if_typed (take_all [] ps) (known (type_of t ∷ []))) else None)
       (sym (popped_none f f.operands))
       ∙ taken_none (type_of t ∷ []) f f.operands)))
 
@@ -306,7 +316,7 @@ module _ (context : Context) where
   -- on top of what is left, the last operand is there
   module _ (b : List Instruction) (os : List Operand) (u : PrimitiveTypeInfo) (vs : List PrimitiveTypeInfo)
       (takes_u : Takes context b (os ++ typed (Some u) ∷ []) vs) where
-    on_left : (f : Frame) (es : List Entry) → check_code context b (on f (es ++ Some u ∷ [])) ≡ taken os vs (on f es)
+    on_left : (f : Frame) (es : List OperandEntry) → check_code context b (on f (es ++ Some u ∷ [])) ≡ taken os vs (on f es)
     on_left f es =
         takes_u (on f (es ++ Some u ∷ []))
         ∙ (taken_last os (typed (Some u)) vs f es (Some u)
@@ -317,7 +327,7 @@ module _ (context : Context) where
         Takes context (a ++ b) (os ++ typed (Some t) ∷ []) vs
     taken_through a t h f = go (cut_last f.operands)
       where
-        by_last : (es : List Entry) (e : Entry) (c : Bool) →
+        by_last : (es : List OperandEntry) (e : OperandEntry) (c : Bool) →
             option_and_then (check_code context b) (if c then taken [] (u ∷ []) (on f es) else None) ≡ (if c then taken os vs (on f es) else None)
         by_last es e true = ap (option_and_then (check_code context b)) (taken_none (u ∷ []) f es) ∙ on_left f es
         by_last es e false = refl
@@ -326,11 +336,12 @@ module _ (context : Context) where
             option_and_then (check_code context b) (if c then taken [] (u ∷ []) (on f []) else None) ≡ (if c then taken os vs (on f []) else None)
         by_reached c = by_last [] None c
 
-        at : (es : List Entry) → f.operands ≡ es → check_code context (a ++ b) (on f es) ≡ taken (os ++ typed (Some t) ∷ []) vs (on f es) →
+        at : (es : List OperandEntry) → f.operands ≡ es → check_code context (a ++ b) (on f es) ≡ taken (os ++ typed (Some t) ∷ []) vs (on f es) →
             check_code context (a ++ b) f ≡ taken (os ++ typed (Some t) ∷ []) vs f
-        at es e is = ap (λ (ds : List Entry). check_code context (a ++ b) (on f ds)) e ∙ (is ∙ ap (λ (ds : List Entry). taken (os ++ typed (Some t) ∷ []) vs (on f ds)) (sym e))
+        at es e is = ap (λ (ds : List OperandEntry). check_code context (a ++ b) (on f ds)) e
+            ∙ (is ∙ ap (λ (ds : List OperandEntry). taken (os ++ typed (Some t) ∷ []) vs (on f ds)) (sym e))
 
-        go : (f.operands ≡ []) ⊎ ((es : List Entry) × (e : Entry) × (f.operands ≡ es ++ e ∷ [])) →
+        go : (f.operands ≡ []) ⊎ ((es : List OperandEntry) × (e : OperandEntry) × (f.operands ≡ es ++ e ∷ [])) →
             check_code context (a ++ b) f ≡ taken (os ++ typed (Some t) ∷ []) vs f
         go (inl e) = at [] e
             (check_both a b (on f [])
@@ -339,7 +350,7 @@ module _ (context : Context) where
         go (inr (es, e, is)) = at (es ++ e ∷ []) is
             (check_both a b (on f (es ++ e ∷ []))
             ∙ (ap (option_and_then (check_code context b)) (h (on f (es ++ e ∷ [])) ∙ taken_last [] (typed (Some t)) (u ∷ []) f es e)
-            ∙ (by_last es e (takes (typed (Some t)) e) ∙ sym (taken_last os (typed (Some t)) vs f es e))))
+            ∙ (by_last es e (operand_takes (typed (Some t)) e) ∙ sym (taken_last os (typed (Some t)) vs f es e))))
 
     -- code that pushes the last operand
     pub taken_under : (a : List Instruction) → ((f : Frame) → check_code context a f ≡ Some (with_types (u ∷ []) f)) → Takes context (a ++ b) os vs

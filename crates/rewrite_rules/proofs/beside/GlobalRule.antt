@@ -5,17 +5,17 @@ use Rattle.std.proofs.lemmas.List.{append-nil}
 use Rattle.std.proofs.Math.Seq.{set-append_seam}
 use Rattle.wasm_code.specs.Instruction.{Instruction}
 use Rattle.wasm_types.specs.declared.types.PrimitiveTypeInfo.{PrimitiveTypeInfo}
-use Rattle.peephole_machine.specs.Values.{same_type, Value, types, Context, State, HasTypes, Outcome, Ends, Traps, Stuck, global, then_run, above}
-use Rattle.peephole_machine.specs.IntegerRow as row
-use Rattle.peephole_machine.specs.IntegerRow.{if_typed, row_types}
-use Rattle.peephole_machine.specs.Machine.{read_of, context_of, act, run}
-use Rattle.peephole_machine.specs.Agreement.{with_globals, EndsTyped}
-use Rattle.peephole_machine.specs.RowLemmas.{if_typed_is, same_type_self, step_at, act_is}
-use Rattle.peephole_machine.specs.OutcomeLemmas.{length_types, run_append, run_one, run_cons}
-use Rattle.peephole_machine.specs.StateLemmas.{context_more, with_more, Follows}
-use Rattle.peephole_machine.specs.SameLemmas.{run_follows}
-use Rattle.peephole_programs.specs.control.Wider.{wider}
-use Rattle.peephole_programs.specs.validation.StaysValid.{MoreGlobalsCheckAlike, TypedCodePushes, PushesOnFrames, RowTypesStay}
+use Rattle.wasm_execution.specs.Values.{same_type, Value, types, Context, State, HasTypes, Outcome, Ends, Traps, Stuck, global, then_run, above}
+use Rattle.wasm_execution.specs.IntegerRow as row
+use Rattle.wasm_execution.specs.IntegerRow.{if_typed, row_types}
+use Rattle.wasm_execution.specs.Machine.{read_of, state_context, act, run}
+use Rattle.wasm_execution.specs.Agreement.{with_globals, EndsTyped}
+use Rattle.wasm_execution.specs.RowLemmas.{if_typed_is, same_type_self, step_at, act_is}
+use Rattle.wasm_execution.specs.OutcomeLemmas.{length_types, run_append, run_one, run_cons}
+use Rattle.wasm_execution.specs.StateLemmas.{context_more, with_more, Follows}
+use Rattle.wasm_execution.specs.SameLemmas.{run_follows}
+use Rattle.wasm_equivalence.specs.control.Wider.{wider}
+use Rattle.wasm_equivalence.specs.validation.StaysValid.{MoreGlobalsCheckAlike, TypedCodePushes, PushesOnFrames, RowTypesStay}
 use Rattle.rewrite_rules.specs.Code.{Leaves}
 use Rattle.rewrite_rules.specs.Beside.{get_global, set_global, through_code, StandsWith}
 use Rattle.rewrite_rules.proofs.CodeLemmas.{leaves_typed, leaves_above}
@@ -47,7 +47,7 @@ module _ (context : Context) (v : Value) (s : State) (h : HasTypes context s) wh
   count = sym (length_types s.globals) ∙ ap length h.globals_are
 
   -- the type of the global, and its value
-  there : (u : Value) (others : List Value) → slice_get (context_of (with_globals (u ∷ others) s)).info.globals g ≡ Some u.type
+  there : (u : Value) (others : List Value) → slice_get (state_context (with_globals (u ∷ others) s)).info.globals g ≡ Some u.type
   there u others =
       ap (λ (c : Context). slice_get c.info.globals g) (context_more h (u ∷ others)) ∙ get_seam context.info.globals u.type (types others)
 
@@ -64,10 +64,10 @@ module _ (context : Context) (v : Value) (s : State) (h : HasTypes context s) wh
       let before = with_globals (u ∷ others) s in
       let behind = with_globals (v ∷ others) s in
       let sets : act (row.set (global g)) (v ∷ []) before ≡ Ends [] behind =
-      act_is (row.set (global g)) (v ∷ []) [] before (set_types (context_of before) g v.type (there u others ∙ ap (λ (t : PrimitiveTypeInfo). Some t) same))
+      act_is (row.set (global g)) (v ∷ []) [] before (set_types (state_context before) g v.type (there u others ∙ ap (λ (t : PrimitiveTypeInfo). Some t) same))
       ∙ ap (λ (gs : List Value). Ends [] (record s { globals = gs })) (written u others) in
       let gets : act (row.get (global g)) [] behind ≡ Ends (v ∷ []) behind =
-      act_is (row.get (global g)) [] (v.type ∷ []) behind (get_types (context_of behind) g v.type (there v others))
+      act_is (row.get (global g)) [] (v.type ∷ []) behind (get_types (state_context behind) g v.type (there v others))
       ∙ ap (λ o. read_of o behind) (held v others) in
       run_cons (set_global g) (get_global g ∷ []) (row.set (global g)) (stack ++ v ∷ []) stack before behind (set_global_row g)
       (step_at (row.set (global g)) stack (v ∷ []) before refl ∙ (ap (above stack) sets ∙ ap (λ l. Ends l behind) (append-nil stack)))

@@ -4,15 +4,15 @@ use Rattle.std.specs.Prelude.{set as slice_set, slice_get, option_map, option_an
 use Rattle.std.proofs.lemmas.List.{append-nil}
 use Rattle.std.proofs.lemmas.Option.{slice_get-map}
 use Rattle.wasm_types.specs.declared.types.PrimitiveTypeInfo.{PrimitiveTypeInfo}
-use Rattle.peephole_machine.specs.Values.{same_type, Value, types, Context, State, Ends, local, write, then_run, above}
-use Rattle.peephole_machine.specs.IntegerRow as row
-use Rattle.peephole_machine.specs.IntegerRow.{if_typed, row_types}
-use Rattle.peephole_machine.specs.Machine.{read_of, only_if, act, step, run}
-use Rattle.peephole_machine.specs.RowLemmas.{act_is}
-use Rattle.peephole_machine.specs.OutcomeLemmas.{run_one}
-use Rattle.peephole_programs.specs.control.Wider.{wider}
-use Rattle.peephole_programs.specs.validation.Algorithm.{Entry, may_be, known, row_entries, Frame, can_pop, popped, with_pushed, check_row, check_code}
-use Rattle.peephole_programs.specs.validation.StaysValid.{with_types, MoreGlobalsCheckAlike, TypedCodePushes, PushesOnFrames}
+use Rattle.wasm_execution.specs.Values.{same_type, Value, types, Context, State, Ends, local, write, then_run, above}
+use Rattle.wasm_execution.specs.IntegerRow as row
+use Rattle.wasm_execution.specs.IntegerRow.{if_typed, row_types}
+use Rattle.wasm_execution.specs.Machine.{read_of, only_if, act, step, run}
+use Rattle.wasm_execution.specs.RowLemmas.{act_is}
+use Rattle.wasm_execution.specs.OutcomeLemmas.{run_one}
+use Rattle.wasm_equivalence.specs.control.Wider.{wider}
+use Rattle.wasm_equivalence.specs.validation.Algorithm.{OperandEntry, may_be, known, row_entries, Frame, can_pop, popped, with_pushed, check_row, check_code}
+use Rattle.wasm_equivalence.specs.validation.StaysValid.{with_types, MoreGlobalsCheckAlike, TypedCodePushes, PushesOnFrames}
 use Rattle.rewrite_rules.specs.Beside.{get_local, set_local, tee_local, StandsWith}
 use Rattle.rewrite_rules.proofs.beside.StandLemmas.{get_local_row, set_local_row, tee_local_row, step_bare, runs_alike, code_wider}
 
@@ -72,13 +72,13 @@ module _ (push : TypedCodePushes) (frames : PushesOnFrames) (context : Context) 
       (push.row context (get_local n) [] (u ∷ [])
       (ap (λ r. row_types context r []) (get_local_row n) ∙ ap (option_and_then (λ u. Some (u ∷ []))) e)) g
 
-  abbrev after_set : List Entry → Option Frame
+  abbrev after_set : List OperandEntry → Option Frame
   after_set es = option_and_then (check_code context (get_local n ∷ [])) (option_map (with_pushed 1 f) (row_entries context (row.set (local n)) es))
 
-  abbrev after_tee : List Entry → Option Frame
+  abbrev after_tee : List OperandEntry → Option Frame
   after_tee es = option_and_then (λ g. Some g) (option_map (with_pushed 1 f) (row_entries context (row.tee (local n)) es))
 
-  on_entries : (es : List Entry) → after_set es ≡ after_tee es
+  on_entries : (es : List OperandEntry) → after_set es ≡ after_tee es
   on_entries [] = refl
   on_entries (e ∷ d ∷ es) = refl
   on_entries (e ∷ []) = go t refl
@@ -88,7 +88,7 @@ module _ (push : TypedCodePushes) (frames : PushesOnFrames) (context : Context) 
           ≡ option_and_then (λ g. Some g) (option_map (with_pushed 1 f) (if_typed b (known (u ∷ []))))
       behind u k true =
           get_checks u k (with_pushed 1 f [])
-          ∙ ap (λ (es : List Entry). Some (record f { operands = es ++ known (u ∷ []) })) (append-nil (take (length f.operands - 1) f.operands))
+          ∙ ap (λ (es : List OperandEntry). Some (record f { operands = es ++ known (u ∷ []) })) (append-nil (take (length f.operands - 1) f.operands))
       behind u k false = refl
 
       go : (o : Option PrimitiveTypeInfo) → t ≡ o → after_set (e ∷ []) ≡ after_tee (e ∷ [])

@@ -4,16 +4,16 @@ use Rattle.std.specs.Prelude.{option_and_then}
 use Rattle.std.proofs.lemmas.List.{append-nil}
 use Rattle.wasm_code.specs.Instruction.{Instruction}
 use Rattle.wasm_types.specs.declared.types.PrimitiveTypeInfo.{PrimitiveTypeInfo}
-use Rattle.peephole_machine.specs.Values.{Value, Context, State, HasTypes, Outcome, Ends, Traps, Stuck, then_run, above}
-use Rattle.peephole_machine.specs.IntegerRow as row
-use Rattle.peephole_machine.specs.IntegerRow.{row_types, integer_row}
-use Rattle.peephole_machine.specs.Machine.{run}
-use Rattle.peephole_machine.specs.Agreement.{EndsTyped}
-use Rattle.peephole_machine.specs.RowLemmas.{step_at}
-use Rattle.peephole_machine.specs.OutcomeLemmas.{run_append, run_one, run_cons}
-use Rattle.peephole_programs.specs.control.Wider.{wider}
-use Rattle.peephole_programs.specs.validation.Algorithm.{Frame, check_row, check_code}
-use Rattle.peephole_programs.specs.validation.StaysValid.{Pushes, MoreGlobalsCheckAlike, TypedCodePushes, PushesOnFrames, RowTypesStay}
+use Rattle.wasm_execution.specs.Values.{Value, Context, State, HasTypes, Outcome, Ends, Traps, Stuck, then_run, above}
+use Rattle.wasm_execution.specs.IntegerRow as row
+use Rattle.wasm_execution.specs.IntegerRow.{row_types, integer_row}
+use Rattle.wasm_execution.specs.Machine.{run}
+use Rattle.wasm_execution.specs.Agreement.{EndsTyped}
+use Rattle.wasm_execution.specs.RowLemmas.{step_at}
+use Rattle.wasm_execution.specs.OutcomeLemmas.{run_append, run_one, run_cons}
+use Rattle.wasm_equivalence.specs.control.Wider.{wider}
+use Rattle.wasm_equivalence.specs.validation.Algorithm.{Frame, check_row, check_code}
+use Rattle.wasm_equivalence.specs.validation.StaysValid.{Pushes, MoreGlobalsCheckAlike, TypedCodePushes, PushesOnFrames, RowTypesStay}
 use Rattle.rewrite_rules.specs.Code.{Leaves, writes, traps}
 use Rattle.rewrite_rules.specs.Beside.{nop_code, drop_code, StandsWith}
 use Rattle.rewrite_rules.proofs.CodeLemmas.{leaves_typed, leaves_above}

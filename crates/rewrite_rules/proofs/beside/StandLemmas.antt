@@ -7,18 +7,18 @@ use Rattle.wasm_code.specs.Instruction.{Instruction}
 use Rattle.wasm_code.specs.Table.{table, row_at}
 use Rattle.wasm_code.specs.declared.operator.Operator.TheVariants.{Instr}
 use Rattle.wasm_types.specs.declared.types.PrimitiveTypeInfo.{PrimitiveTypeInfo}
-use Rattle.peephole_machine.specs.Values.{Value, IsValue, Context, State, HasTypes, Ends, Stuck, local, global, above}
-use Rattle.peephole_machine.specs.IntegerRow as row
-use Rattle.peephole_machine.specs.IntegerRow.{IntegerRow, operand_count, integer_row}
-use Rattle.peephole_machine.specs.Machine.{act, step, run}
-use Rattle.peephole_machine.specs.Agreement.{with_globals}
-use Rattle.peephole_machine.specs.RowLemmas.{and_then_some, map_some, step_at}
-use Rattle.peephole_machine.specs.StateLemmas.{Follows}
-use Rattle.peephole_machine.specs.SameLemmas.{run_follows}
-use Rattle.peephole_programs.specs.control.Function.{RunsAs}
-use Rattle.peephole_programs.specs.control.Wider.{wider}
-use Rattle.peephole_programs.specs.validation.Algorithm.{Frame, check_row, check_code, Structural, check}
-use Rattle.peephole_programs.specs.validation.StaysValid.{Pushes, MoreGlobalsCheckAlike, TypedCodePushes, RowTypesStay}
+use Rattle.wasm_execution.specs.Values.{Value, IsValue, Context, State, HasTypes, Ends, Stuck, local, global, above}
+use Rattle.wasm_execution.specs.IntegerRow as row
+use Rattle.wasm_execution.specs.IntegerRow.{IntegerRow, operand_count, integer_row}
+use Rattle.wasm_execution.specs.Machine.{act, step, run}
+use Rattle.wasm_execution.specs.Agreement.{with_globals}
+use Rattle.wasm_execution.specs.RowLemmas.{and_then_some, map_some, step_at}
+use Rattle.wasm_execution.specs.StateLemmas.{Follows}
+use Rattle.wasm_execution.specs.SameLemmas.{run_follows}
+use Rattle.wasm_equivalence.specs.control.Function.{RunsAs}
+use Rattle.wasm_equivalence.specs.control.Wider.{wider}
+use Rattle.wasm_equivalence.specs.validation.Algorithm.{Frame, check_row, check_code, Structural, check}
+use Rattle.wasm_equivalence.specs.validation.StaysValid.{Pushes, MoreGlobalsCheckAlike, TypedCodePushes, RowTypesStay}
 use Rattle.rewrite_rules.specs.Code.{types_behind, types_after}
 use Rattle.rewrite_rules.specs.Instance.{StandsFor}
 use Rattle.rewrite_rules.specs.Beside.{nop_code, drop_code, get_local, set_local, tee_local, get_global, set_global, StandsWith}

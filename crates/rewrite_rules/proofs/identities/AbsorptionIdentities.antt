@@ -2,11 +2,11 @@
 use Rattle.std.proofs.Common.{◌≡◌, ℕ, ◌^◌, ◌<◌, [], ◌∷◌, ap, ◌∙◌}
 use Rattle.std.specs.Prelude.{Ok}
 use mir.Val.{bits}
-use Rattle.peephole_machine.specs.declared.integer.IntegerType.{IntegerType}
-use Rattle.peephole_machine.specs.declared.operation.Binary.{Binary}
-use Rattle.peephole_machine.specs.declared.operation.Binary.TheVariants.{And, Or}
-use Rattle.peephole_machine.specs.declared.operation.Operation.TheVariants as operation
-use Rattle.peephole_machine.specs.Values.{width_of}
+use Rattle.wasm_execution.specs.declared.integer.IntegerType.{IntegerType}
+use Rattle.wasm_execution.specs.declared.operation.Binary.{Binary}
+use Rattle.wasm_execution.specs.declared.operation.Binary.TheVariants.{And, Or}
+use Rattle.wasm_execution.specs.declared.operation.Operation.TheVariants as operation
+use Rattle.wasm_execution.specs.Values.{width_of}
 use Rattle.rewrite_rules.specs.declared.pattern.Operator.TheVariants.{Whole}
 use Rattle.rewrite_rules.specs.Numbers.{value_on, or_zero}
 use Rattle.rewrite_rules.specs.Line.{IsRight}

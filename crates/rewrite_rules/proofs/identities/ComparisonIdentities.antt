@@ -6,11 +6,11 @@ use Rattle.std.proofs.lemmas.Nat.{and_comm, and_le_l, xor_lt}
 use Rattle.std.proofs.lemmas.Bool.{eqb-true, eq-eqb, ne_eqb, ltb-true, ltb-false, le-ltb}
 use Rattle.std.proofs.Math.Nat.{mod-eq_of_lt, mod_self, add-mod_right}
 use mir.Val.{bits}
-use Rattle.peephole_machine.specs.declared.integer.IntegerType.{IntegerType}
-use Rattle.peephole_machine.specs.declared.operation.Comparison.{Comparison}
-use Rattle.peephole_machine.specs.Values.{width_of}
-use Rattle.peephole_machine.specs.Integer.{holds}
-use Rattle.peephole_machine.specs.Operation.{comparison_of}
+use Rattle.wasm_execution.specs.declared.integer.IntegerType.{IntegerType}
+use Rattle.wasm_execution.specs.declared.operation.Comparison.{Comparison}
+use Rattle.wasm_execution.specs.Values.{width_of}
+use Rattle.wasm_execution.specs.Integer.{holds}
+use Rattle.wasm_execution.specs.Operation.{comparison_of}
 use Rattle.rewrite_rules.specs.Numbers.{low}
 use Rattle.rewrite_rules.specs.Line.{IsRight}
 use Rattle.rewrite_rules.proofs.identities.Words as line

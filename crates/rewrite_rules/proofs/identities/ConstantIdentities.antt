@@ -6,12 +6,12 @@ use Rattle.std.proofs.lemmas.Bool.{eqb-true, ltb-true, and_parts}
 use Rattle.std.proofs.lemmas.Nat.{pow_pos, pow_below}
 use Rattle.std.proofs.Math.Nat.{mod-eq_of_lt, mod-lt, div-le_self, mod-add-mod, add-mod-mod}
 use mir.Val.{bits}
-use Rattle.peephole_machine.specs.declared.integer.IntegerType.{IntegerType}
-use Rattle.peephole_machine.specs.declared.integer.IntegerType.TheVariants as integer
-use Rattle.peephole_machine.specs.declared.operation.Binary.TheVariants.{Shl, ShrU, Rotl, Rotr}
-use Rattle.peephole_machine.specs.Values.{width_of, Cause}
-use Rattle.peephole_machine.specs.Integer.{unless_zero}
-use Rattle.peephole_machine.specs.Computed.{kept}
+use Rattle.wasm_execution.specs.declared.integer.IntegerType.{IntegerType}
+use Rattle.wasm_execution.specs.declared.integer.IntegerType.TheVariants as integer
+use Rattle.wasm_execution.specs.declared.operation.Binary.TheVariants.{Shl, ShrU, Rotl, Rotr}
+use Rattle.wasm_execution.specs.Values.{width_of, Cause}
+use Rattle.wasm_execution.specs.Integer.{unless_zero}
+use Rattle.wasm_execution.specs.Computed.{kept}
 use Rattle.rewrite_rules.specs.declared.pattern.Number.TheVariants.{Literal, Ones}
 use Rattle.rewrite_rules.specs.Numbers.{or_cause, low, lowest_bit}
 use Rattle.rewrite_rules.specs.Line.{IsRight}

@@ -10,14 +10,14 @@ use mir.Val.{bits, sel}
 use Rattle.wasm_code.specs.Table.{table, row_at}
 use Rattle.wasm_types.specs.declared.types.PrimitiveTypeInfo.{PrimitiveTypeInfo}
 use Rattle.wasm_types.specs.declared.types.PrimitiveTypeInfo.TheVariants.{I32, I64}
-use Rattle.peephole_machine.specs.declared.integer.IntegerType.{IntegerType}
-use Rattle.peephole_machine.specs.declared.integer.IntegerType.TheVariants as integer
-use Rattle.peephole_machine.specs.Conversions.{fraction_bits, bias, rounded, bit_length, significand, convert_u, convert_s}
-use Rattle.peephole_machine.specs.ExactRow.{exact_row}
-use Rattle.peephole_machine.specs.Integer.{signed_into}
-use Rattle.peephole_machine.specs.IntegerRow.{integer_row}
-use Rattle.peephole_machine.specs.Lanes.{sign_bit, magnitude}
-use Rattle.peephole_machine.specs.Values.{width_of, IsOfType}
+use Rattle.wasm_execution.specs.declared.integer.IntegerType.{IntegerType}
+use Rattle.wasm_execution.specs.declared.integer.IntegerType.TheVariants as integer
+use Rattle.wasm_execution.specs.Conversions.{fraction_bits, bias, rounded, bit_length, significand, convert_u, convert_s}
+use Rattle.wasm_execution.specs.ExactRow.{exact_row}
+use Rattle.wasm_execution.specs.Integer.{signed_into}
+use Rattle.wasm_execution.specs.IntegerRow.{integer_row}
+use Rattle.wasm_execution.specs.Lanes.{sign_bit, magnitude}
+use Rattle.wasm_execution.specs.Values.{width_of, IsOfType}
 use Rattle.rewrite_rules.specs.declared.table.floats.TheConstants.{CONVERSIONS}
 use Rattle.rewrite_rules.specs.Exact.{exact_operator}
 use Rattle.rewrite_rules.specs.Line.{IsRight}

@@ -9,14 +9,14 @@ use Rattle.std.proofs.lemmas.Bool.{eqb-true, eq-eqb, ne_eqb}
 use Rattle.std.proofs.lemmas.Nat.{pow_pos, and_mask, leading_le, leading_top, trailing_le}
 use Rattle.std.proofs.lemmas.Nat.Bits.{bit_at-trailing_zeros}
 use mir.Val.{bits}
-use Rattle.peephole_machine.specs.declared.integer.IntegerType.{IntegerType}
-use Rattle.peephole_machine.specs.declared.integer.IntegerType.TheVariants as integer
-use Rattle.peephole_machine.specs.declared.operation.Unary.{Unary}
-use Rattle.peephole_machine.specs.declared.operation.Unary.TheVariants.{Clz, Ctz}
-use Rattle.peephole_machine.specs.declared.operation.Comparison.{Comparison}
-use Rattle.peephole_machine.specs.Values.{width_of}
-use Rattle.peephole_machine.specs.Integer.{ones_in, unary_value, holds}
-use Rattle.peephole_machine.specs.Operation.{unary_of, comparison_of}
+use Rattle.wasm_execution.specs.declared.integer.IntegerType.{IntegerType}
+use Rattle.wasm_execution.specs.declared.integer.IntegerType.TheVariants as integer
+use Rattle.wasm_execution.specs.declared.operation.Unary.{Unary}
+use Rattle.wasm_execution.specs.declared.operation.Unary.TheVariants.{Clz, Ctz}
+use Rattle.wasm_execution.specs.declared.operation.Comparison.{Comparison}
+use Rattle.wasm_execution.specs.Values.{width_of}
+use Rattle.wasm_execution.specs.Integer.{ones_in, unary_value, holds}
+use Rattle.wasm_execution.specs.Operation.{unary_of, comparison_of}
 use Rattle.rewrite_rules.specs.Numbers.{low}
 use Rattle.rewrite_rules.specs.Line.{IsRight}
 use Rattle.rewrite_rules.specs.declared.table.integers.TheConstants.{ZERO_COUNTS}

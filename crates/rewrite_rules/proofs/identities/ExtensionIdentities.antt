@@ -6,7 +6,7 @@ use Rattle.std.proofs.lemmas.Bool.{lt-ltb, le-ltb}
 use Rattle.std.proofs.Math.Nat.{mod-eq_of_lt, mod-mod, mod-lt}
 use Rattle.std.proofs.lemmas.Nat.{pow_pos, and_mask, mod-mul-add}
 use mir.Val.{bits, sel}
-use Rattle.peephole_machine.specs.Integer.{signed_into}
+use Rattle.wasm_execution.specs.Integer.{signed_into}
 use Rattle.rewrite_rules.proofs.identities.ExtensionNumbers.{signed}
 
 -- ---- low bits of what was extended

@@ -5,7 +5,7 @@ use Rattle.std.specs.Int.{Width, w8, w16, w32, w64}
 use mir.Val.{bits}
 use Rattle.wasm_types.specs.declared.types.PrimitiveTypeInfo.{PrimitiveTypeInfo}
 use Rattle.wasm_types.specs.declared.types.PrimitiveTypeInfo.TheVariants.{I32, I64}
-use Rattle.peephole_machine.specs.Integer.{signed_into}
+use Rattle.wasm_execution.specs.Integer.{signed_into}
 use Rattle.rewrite_rules.specs.declared.table.integers.TheConstants.{EXTENSIONS, EXTENSION_MASKS, EXTENSION_MOVES}
 use Rattle.rewrite_rules.specs.Line.{IsRight}
 use Rattle.rewrite_rules.specs.Table.{rows_of}

@@ -4,8 +4,8 @@ use Rattle.std.specs.Prelude.{not, if◌then◌else◌}
 use Rattle.std.proofs.Math.Bool.{and_comm}
 use Rattle.std.proofs.Math.Nat.{mod-eq_of_lt, mod-mod}
 use mir.Val.{bits}
-use Rattle.peephole_machine.specs.declared.integer.IntegerType.TheVariants as integer
-use Rattle.peephole_machine.specs.Lanes.{negated, float_lt, float_le, float_eq}
+use Rattle.wasm_execution.specs.declared.integer.IntegerType.TheVariants as integer
+use Rattle.wasm_execution.specs.Lanes.{negated, float_lt, float_le, float_eq}
 use Rattle.rewrite_rules.proofs.identities.ComparisonNumbers.{not_twice}
 use Rattle.rewrite_rules.proofs.identities.LaneNumbers.{first, second, Laned, each, cut, SameLanes}
 use Rattle.rewrite_rules.proofs.identities.VectorIdentities.{Right, by_lanes, x, y}

@@ -1,9 +1,9 @@
 -- The rows on tests of floats in lanes, and on their pseudo-minimum and -maximum, are right.
 use Rattle.std.proofs.Common.{refl}
 use Rattle.wasm_code.specs.Table.{table, row_at}
-use Rattle.peephole_machine.specs.ExactRow.{exact_row}
-use Rattle.peephole_machine.specs.IntegerRow.{integer_row}
-use Rattle.peephole_machine.specs.Lanes.{each_lane, each_pair}
+use Rattle.wasm_execution.specs.ExactRow.{exact_row}
+use Rattle.wasm_execution.specs.IntegerRow.{integer_row}
+use Rattle.wasm_execution.specs.Lanes.{each_lane, each_pair}
 use Rattle.rewrite_rules.specs.declared.table.lane_tests.TheConstants.{FLOAT_LANE_ORDERS, FLOAT_LANE_OPPOSITES, FLOAT_LANE_CHOICES, FLOAT_LANE_BOUNDS}
 use Rattle.rewrite_rules.specs.Exact.{exact_operator}
 use Rattle.rewrite_rules.specs.Line.{IsRight}

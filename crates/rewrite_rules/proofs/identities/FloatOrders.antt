@@ -4,9 +4,9 @@ use Rattle.std.specs.Prelude.{pos, negsuc, neg_ℤ, not, ◌&&◌, ◌||◌, if�
 use Rattle.std.proofs.Math.Bool.{and_comm, and_self}
 use Rattle.std.proofs.lemmas.Bool.{lt-ltb, le-ltb, ltb-true, ltb-false}
 use mir.Val.{bits}
-use Rattle.peephole_machine.specs.declared.integer.IntegerType.{IntegerType}
-use Rattle.peephole_machine.specs.Lanes.{magnitude, infinity, ordered, rank, float_lt, float_le, float_eq}
-use Rattle.peephole_machine.specs.Values.{width_of}
+use Rattle.wasm_execution.specs.declared.integer.IntegerType.{IntegerType}
+use Rattle.wasm_execution.specs.Lanes.{magnitude, infinity, ordered, rank, float_lt, float_le, float_eq}
+use Rattle.wasm_execution.specs.Values.{width_of}
 use Rattle.rewrite_rules.proofs.identities.ComparisonNumbers.{int_le_is}
 use Rattle.rewrite_rules.proofs.identities.FloatNumbers.{sign, neg, neg_off, neg_on, by_sign, magnitude_of_neg}
 use Rattle.rewrite_rules.proofs.identities.FloatTestWords.{Test, holds, equal, unequal, less, greater, at_most, at_least}

@@ -2,10 +2,10 @@
 use Rattle.std.specs.Prelude.{ℕ, Bool, not}
 use Rattle.std.specs.Int.{Width}
 use Rattle.wasm_types.specs.declared.types.PrimitiveTypeInfo.TheVariants as primitive
-use Rattle.peephole_machine.specs.declared.integer.IntegerType.{IntegerType}
-use Rattle.peephole_machine.specs.declared.integer.IntegerType.TheVariants as integer
-use Rattle.peephole_machine.specs.declared.operation.Binary.TheVariants.{And, Or}
-use Rattle.peephole_machine.specs.Lanes.{float_lt, float_le, float_eq}
+use Rattle.wasm_execution.specs.declared.integer.IntegerType.{IntegerType}
+use Rattle.wasm_execution.specs.declared.integer.IntegerType.TheVariants as integer
+use Rattle.wasm_execution.specs.declared.operation.Binary.TheVariants.{And, Or}
+use Rattle.wasm_execution.specs.Lanes.{float_lt, float_le, float_eq}
 use Rattle.rewrite_rules.specs.Pattern.{Pattern}
 use Rattle.rewrite_rules.specs.Line.{Line}
 use Rattle.rewrite_rules.proofs.identities.Words.{x, y, two, lit, is_zero}

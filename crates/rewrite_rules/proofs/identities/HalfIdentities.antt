@@ -6,7 +6,7 @@ use Rattle.std.specs.Int.Signed.{shr_z}
 use Rattle.std.proofs.lemmas.Bool.{lt-ltb, le-ltb, ltb-true, ltb-false}
 use Rattle.std.proofs.Math.Nat.{mod-eq_of_lt, mod_self, zero-mod}
 use mir.Val.{bits, sel}
-use Rattle.peephole_machine.specs.declared.integer.IntegerType.TheVariants as integer
+use Rattle.wasm_execution.specs.declared.integer.IntegerType.TheVariants as integer
 use Rattle.rewrite_rules.specs.declared.table.integers.TheConstants.{HALVES}
 use Rattle.rewrite_rules.specs.Line.{IsRight}
 use Rattle.rewrite_rules.specs.Table.{rows_of}
@@ -59,12 +59,14 @@ half_is w H n both l low high = go (nat_lt n H) refl
     go false e = below (ltb-false n H e) (2 ^ bits w - suc n) refl
 
 pub half_32 : (n : ℕ) → n < 2 ^ 32 →
-    cast_unsigned w32 (int_div (cast_signed w32 n) (pos 2)) % 2 ^ 32 ≡ cast_unsigned w32 (int_shr (cast_signed w32 ((n + n / 2 ^ 31 % 2 ^ 32) % 2 ^ 32)) 1) % 2 ^ 32
+    cast_unsigned w32 (int_div (cast_signed w32 n) (pos 2)) % 2 ^ 32
+    ≡ cast_unsigned w32 (int_shr (cast_signed w32 ((n + n / 2 ^ 31 % 2 ^ 32) % 2 ^ 32)) 1) % 2 ^ 32
 unfolding signed
 half_32 n l = half_is w32 (2 ^ 31) n refl l (λ k. omega arith) (λ k. omega arith)
 
 half_64 : (n : ℕ) → n < 2 ^ 64 →
-    cast_unsigned w64 (int_div (cast_signed w64 n) (pos 2)) % 2 ^ 64 ≡ cast_unsigned w64 (int_shr (cast_signed w64 ((n + n / 2 ^ 63 % 2 ^ 64) % 2 ^ 64)) 1) % 2 ^ 64
+    cast_unsigned w64 (int_div (cast_signed w64 n) (pos 2)) % 2 ^ 64
+    ≡ cast_unsigned w64 (int_shr (cast_signed w64 ((n + n / 2 ^ 63 % 2 ^ 64) % 2 ^ 64)) 1) % 2 ^ 64
 unfolding signed
 half_64 n l = half_is w64 (2 ^ 63) n refl l (λ k. omega arith) (λ k. omega arith)
 

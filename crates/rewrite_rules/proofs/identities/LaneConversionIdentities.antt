@@ -7,11 +7,11 @@ use Rattle.std.proofs.Math.Pow.{mod-mod-pow}
 use Rattle.wasm_code.specs.Table.{table, row_at}
 use Rattle.wasm_types.specs.declared.types.PrimitiveTypeInfo.{PrimitiveTypeInfo}
 use Rattle.wasm_types.specs.declared.types.PrimitiveTypeInfo.TheVariants.{I32, F32, F64}
-use Rattle.peephole_machine.specs.Conversions.{trunc_sat_s, trunc_sat_u, convert_u, convert_s, each_resized}
-use Rattle.peephole_machine.specs.ExactRow.{exact_row, words_wide, doubles_wide}
-use Rattle.peephole_machine.specs.IntegerRow.{integer_row}
-use Rattle.peephole_machine.specs.Lanes.{each_lane, on_lanes, splat, lane_at}
-use Rattle.peephole_machine.specs.Values.{IsOfType}
+use Rattle.wasm_execution.specs.Conversions.{trunc_sat_s, trunc_sat_u, convert_u, convert_s, each_resized}
+use Rattle.wasm_execution.specs.ExactRow.{exact_row, words_wide, doubles_wide}
+use Rattle.wasm_execution.specs.IntegerRow.{integer_row}
+use Rattle.wasm_execution.specs.Lanes.{each_lane, on_lanes, splat, lane_at}
+use Rattle.wasm_execution.specs.Values.{IsOfType}
 use Rattle.rewrite_rules.specs.declared.table.lane_moves.TheConstants.{LANE_CONVERSIONS}
 use Rattle.rewrite_rules.specs.Exact.{exact_operator}
 use Rattle.rewrite_rules.specs.Line.{IsRight}

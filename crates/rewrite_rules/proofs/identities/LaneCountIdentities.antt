@@ -7,9 +7,9 @@ use Rattle.std.proofs.Math.Nat.{mod-mod}
 use Rattle.std.proofs.Math.Pow.{mod-mod-pow}
 use Rattle.wasm_code.specs.Table.{table, row_at}
 use Rattle.wasm_types.specs.declared.types.PrimitiveTypeInfo.TheVariants.{I32}
-use Rattle.peephole_machine.specs.ExactRow.{exact_row, bytes_wide, halves_wide, words_wide, doubles_wide}
-use Rattle.peephole_machine.specs.IntegerRow.{integer_row}
-use Rattle.peephole_machine.specs.Lanes.{Shape, on_lanes}
+use Rattle.wasm_execution.specs.ExactRow.{exact_row, bytes_wide, halves_wide, words_wide, doubles_wide}
+use Rattle.wasm_execution.specs.IntegerRow.{integer_row}
+use Rattle.wasm_execution.specs.Lanes.{Shape, on_lanes}
 use Rattle.rewrite_rules.specs.declared.table.vectors.TheConstants.{LANE_COUNTS}
 use Rattle.rewrite_rules.specs.Exact.{exact_operator}
 use Rattle.rewrite_rules.specs.Line.{IsRight}

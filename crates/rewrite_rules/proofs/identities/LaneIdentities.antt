@@ -1,13 +1,14 @@
 -- Sums, negatives and shifts of lanes: sides that have the same number in each lane.
-use Rattle.std.proofs.Common.{◌≡◌, ℕ, zero, suc, ◌+◌, ◌-◌, ◌*◌, ◌/◌, ◌%◌, ◌^◌, ◌<◌, ◌≤◌, Bool, true, false, refl, sym, ap, ◌∙◌, arith, add_comm, mul_comm, zero-add, add-zero}
+use Rattle.std.proofs.Common.{◌≡◌, ℕ, zero, suc, ◌+◌, ◌-◌, ◌*◌, ◌/◌, ◌%◌, ◌^◌, ◌<◌, ◌≤◌, Bool, true, false, refl, sym, ap, ◌∙◌, arith}
+use Rattle.std.proofs.Common.{add_comm, mul_comm, zero-add, add-zero}
 use Rattle.std.specs.Prelude.{nat_lt, if◌then◌else◌}
 use Rattle.std.specs.Int.{cast_signed, cast_unsigned, int_shr}
 use Rattle.std.proofs.lemmas.Bool.{ltb-true, ltb-false}
 use Rattle.std.proofs.lemmas.Nat.{pow_pos}
 use Rattle.std.proofs.Math.Nat.{mod-eq_of_lt, zero-mod, mod_self, add-mod-mod, mul-one, div-one}
 use mir.Val.{bits}
-use Rattle.peephole_machine.specs.Lanes.{Shape, sign_bit}
-use Rattle.peephole_machine.specs.ExactRow.{bytes_wide, halves_wide, words_wide, doubles_wide}
+use Rattle.wasm_execution.specs.Lanes.{Shape, sign_bit}
+use Rattle.wasm_execution.specs.ExactRow.{bytes_wide, halves_wide, words_wide, doubles_wide}
 use Rattle.rewrite_rules.proofs.identities.GroupLemmas.{add_grouped, mul_grouped}
 use Rattle.rewrite_rules.proofs.identities.NumberLemmas.{sign_shifted_by_zero}
 use Rattle.rewrite_rules.proofs.identities.LaneNumbers.{first, second, third, Laned, each, pair, cut, SameLanes}

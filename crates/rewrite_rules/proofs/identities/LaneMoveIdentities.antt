@@ -1,5 +1,6 @@
 -- Numbers put into lanes and taken out of them.
-use Rattle.std.proofs.Common.{◌≡◌, ℕ, zero, suc, ◌+◌, ◌-◌, ◌*◌, ◌/◌, ◌%◌, ◌^◌, ◌<◌, ◌≤◌, true, List, [], ◌∷◌, refl, sym, ap, ap₂, ◌∙◌, subst, arith, add_comm, add_assoc, mul_comm, mul_assoc, add-mul}
+use Rattle.std.proofs.Common.{◌≡◌, ℕ, zero, suc, ◌+◌, ◌-◌, ◌*◌, ◌/◌, ◌%◌, ◌^◌, ◌<◌, ◌≤◌, true, List, [], ◌∷◌, refl, sym, ap, ap₂, ◌∙◌}
+use Rattle.std.proofs.Common.{subst, arith, add_comm, add_assoc, mul_comm, mul_assoc, add-mul}
 use Rattle.std.specs.Prelude.{nat_lt, bit_and}
 use Rattle.std.specs.Int.{w32, cast_signed, cast_unsigned}
 use Rattle.std.proofs.lemmas.Bool.{ltb-true}
@@ -8,9 +9,9 @@ use Rattle.std.proofs.Math.Nat.{mod-eq_of_lt, mod-lt, mod-mod, div-one, mul-zero
 use mir.Val.{bits}
 use Rattle.wasm_types.specs.declared.types.PrimitiveTypeInfo.{PrimitiveTypeInfo}
 use Rattle.wasm_types.specs.declared.types.PrimitiveTypeInfo.TheVariants.{I32, I64, F32, F64, V128}
-use Rattle.peephole_machine.specs.Lanes.{each_lane, splat, lane_at, with_lane}
-use Rattle.peephole_machine.specs.Values.{IsOfType, of_bits}
-use Rattle.rewrite_rules.specs.Pattern.{Kind, fixed, kind_of}
+use Rattle.wasm_execution.specs.Lanes.{each_lane, splat, lane_at, with_lane}
+use Rattle.wasm_execution.specs.Values.{IsOfType, of_bits}
+use Rattle.rewrite_rules.specs.Pattern.{Kind, fixed, hole_kind_of}
 use Rattle.rewrite_rules.specs.Line.{IsOfKind}
 use Rattle.rewrite_rules.proofs.identities.WidthLemmas.{ok}
 use Rattle.rewrite_rules.proofs.identities.LaneNumbers.{lanes_fit}
@@ -28,11 +29,12 @@ pub record Moves (t : PrimitiveTypeInfo) : Type 0 where
   pub same : (n : ℕ) → IsOfType t n → left n ≡ right n
 
 -- the line from left to right, and the one from right to left
-pub onward : (t : PrimitiveTypeInfo) (m : Moves t) (h c : ℕ → ℕ) (us vs : List ℕ) → ((n : ℕ) → IsOfKind (kind_of (of_one_type t) n) (h n)) → true ≡ true →
+pub onward : (t : PrimitiveTypeInfo) (m : Moves t) (h c : ℕ → ℕ) (us vs : List ℕ) → ((n : ℕ) → IsOfKind (hole_kind_of (of_one_type t) n) (h n)) → true ≡ true →
     ok (m.left (h 0)) ≡ ok (m.right (h 0))
 onward t m h c us vs a e = ap ok (m.same (h 0) (a 0))
 
-pub homeward : (t : PrimitiveTypeInfo) (m : Moves t) (h c : ℕ → ℕ) (us vs : List ℕ) → ((n : ℕ) → IsOfKind (kind_of (of_one_type t) n) (h n)) → true ≡ true →
+pub homeward : (t : PrimitiveTypeInfo) (m : Moves t) (h c : ℕ → ℕ) (us vs : List ℕ) → ((n : ℕ) → IsOfKind (hole_kind_of (of_one_type t) n) (h n)) →
+    true ≡ true →
     ok (m.right (h 0)) ≡ ok (m.left (h 0))
 homeward t m h c us vs a e = sym (ap ok (m.same (h 0) (a 0)))
 
@@ -46,11 +48,11 @@ pub record Puts : Type 0 where
 abbrev pub of_vector_and : PrimitiveTypeInfo → List Kind
 of_vector_and t = fixed V128 ∷ fixed t ∷ fixed t ∷ []
 
-pub onto : (t : PrimitiveTypeInfo) (p : Puts) (h c : ℕ → ℕ) (us vs : List ℕ) → ((n : ℕ) → IsOfKind (kind_of (of_vector_and t) n) (h n)) → true ≡ true →
+pub onto : (t : PrimitiveTypeInfo) (p : Puts) (h c : ℕ → ℕ) (us vs : List ℕ) → ((n : ℕ) → IsOfKind (hole_kind_of (of_vector_and t) n) (h n)) → true ≡ true →
     ok (p.left (h 0) (h 1)) ≡ ok (p.right (h 0) (h 1))
 onto t p h c us vs a e = ap ok (p.same (h 0) (h 1))
 
-pub off : (t : PrimitiveTypeInfo) (p : Puts) (h c : ℕ → ℕ) (us vs : List ℕ) → ((n : ℕ) → IsOfKind (kind_of (of_vector_and t) n) (h n)) → true ≡ true →
+pub off : (t : PrimitiveTypeInfo) (p : Puts) (h c : ℕ → ℕ) (us vs : List ℕ) → ((n : ℕ) → IsOfKind (hole_kind_of (of_vector_and t) n) (h n)) → true ≡ true →
     ok (p.right (h 0) (h 1)) ≡ ok (p.left (h 0) (h 1))
 off t p h c us vs a e = sym (ap ok (p.same (h 0) (h 1)))
 

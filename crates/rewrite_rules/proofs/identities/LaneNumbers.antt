@@ -2,8 +2,9 @@
 use Rattle.std.proofs.Common.{◌≡◌, ℕ, zero, suc, ◌+◌, ◌*◌, ◌/◌, ◌%◌, ◌^◌, ◌<◌, refl, sym, ap, ap₂, ◌∙◌, subst, arith}
 use Rattle.std.specs.Prelude.{bit_and, bit_or, bit_xor}
 use Rattle.std.proofs.Math.Nat.{mod-eq_of_lt, mod-lt, zero-div, mul-zero, mul-suc}
-use Rattle.std.proofs.lemmas.Nat.{pow_pos, pow-add, div-mul-add, mod-mul-add, mul-add-lt, div_below, div-add-mod', and_le_l, or_lt, xor_lt, and_block, or_block, xor_block}
-use Rattle.peephole_machine.specs.Lanes.{each_lane, each_pair}
+use Rattle.std.proofs.lemmas.Nat.{pow_pos, pow-add, div-mul-add, mod-mul-add, mul-add-lt, div_below, div-add-mod', and_le_l, or_lt, xor_lt}
+use Rattle.std.proofs.lemmas.Nat.{and_block, or_block, xor_block}
+use Rattle.wasm_execution.specs.Lanes.{each_lane, each_pair}
 
 -- which one of three vectors
 pub data Place : Type 0 where

@@ -5,7 +5,7 @@ use Rattle.std.specs.Int.Bits.{xor_assoc, xor_self, xor_zero_l, xor_zero_r, and_
 use Rattle.std.proofs.lemmas.Nat.{pow_pos, and_assoc, and_le_l, and_xor_apart, and_block, xor_lt, xor_block}
 use Rattle.std.proofs.Math.Nat.{mod-eq_of_lt}
 use mir.Val.{bits}
-use Rattle.peephole_machine.specs.Lanes.{sign_bit}
+use Rattle.wasm_execution.specs.Lanes.{sign_bit}
 use Rattle.rewrite_rules.proofs.identities.LaneNumbers.{first, Laned, all, each, both, differ, cut}
 use Rattle.rewrite_rules.proofs.identities.VectorIdentities.{x}
 use Rattle.rewrite_rules.proofs.identities.LaneIdentities.{Whole, Sides, bound}

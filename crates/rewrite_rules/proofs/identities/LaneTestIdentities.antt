@@ -8,8 +8,8 @@ use Rattle.std.proofs.lemmas.Int.{of_z-to_z}
 use Rattle.std.proofs.lemmas.Nat.{pow_pos, and_mask}
 use Rattle.std.proofs.Math.Nat.{mod-eq_of_lt, zero-mod}
 use mir.Val.{bits}
-use Rattle.peephole_machine.specs.Lanes.{Shape, mask}
-use Rattle.peephole_machine.specs.ExactRow.{signed_lt, signed_le}
+use Rattle.wasm_execution.specs.Lanes.{Shape, mask}
+use Rattle.wasm_execution.specs.ExactRow.{signed_lt, signed_le}
 use Rattle.rewrite_rules.proofs.identities.ComparisonNumbers.{not_twice, le_is, lt_is, int_le_is, int_lt_is}
 use Rattle.rewrite_rules.proofs.identities.ComparisonIdentities.{eq_comm}
 use Rattle.rewrite_rules.proofs.identities.LaneNumbers.{first, second, Laned, all, pair, both, either, differ, cut}

@@ -1,17 +1,20 @@
 -- The rows on tests and bounds of lanes are right.
 use Rattle.std.proofs.Common.{refl}
 use Rattle.wasm_code.specs.Table.{table, row_at}
-use Rattle.peephole_machine.specs.ExactRow.{exact_row}
-use Rattle.peephole_machine.specs.IntegerRow.{integer_row}
-use Rattle.peephole_machine.specs.Lanes.{each_lane, each_pair}
-use Rattle.rewrite_rules.specs.declared.table.lane_tests.TheConstants.{LANE_ORDERS, WIDE_ORDERS, LANE_OPPOSITES, WIDE_OPPOSITES, LANE_COMPLEMENTS, WIDE_COMPLEMENTS, LANE_BOUNDS, LANE_REPEATS, LANE_CHOICES}
+use Rattle.wasm_execution.specs.ExactRow.{exact_row}
+use Rattle.wasm_execution.specs.IntegerRow.{integer_row}
+use Rattle.wasm_execution.specs.Lanes.{each_lane, each_pair}
+use Rattle.rewrite_rules.specs.declared.table.lane_tests.TheConstants.{LANE_ORDERS, WIDE_ORDERS, LANE_OPPOSITES, WIDE_OPPOSITES}
+use Rattle.rewrite_rules.specs.declared.table.lane_tests.TheConstants.{LANE_COMPLEMENTS, WIDE_COMPLEMENTS, LANE_BOUNDS, LANE_REPEATS}
+use Rattle.rewrite_rules.specs.declared.table.lane_tests.TheConstants.{LANE_CHOICES}
 use Rattle.rewrite_rules.specs.Exact.{exact_operator}
 use Rattle.rewrite_rules.specs.Line.{IsRight}
 use Rattle.rewrite_rules.specs.Table.{rows_of}
 use Rattle.rewrite_rules.proofs.identities.RowLemmas.{AtRows, ◌▸◌}
 use Rattle.rewrite_rules.proofs.identities.LaneIdentities.{bytes, halves, words, doubles, forth, back}
 use Rattle.rewrite_rules.proofs.identities.LaneTestIdentities as test
-use Rattle.rewrite_rules.proofs.identities.LaneTestIdentities.{eq, ne, lt_s, lt_u, gt_s, gt_u, le_s, le_u, ge_s, ge_u, eq_turned, ne_turned, unsigned_order, signed_order}
+use Rattle.rewrite_rules.proofs.identities.LaneTestIdentities.{eq, ne, lt_s, lt_u, gt_s, gt_u, le_s, le_u, ge_s, ge_u, eq_turned, ne_turned}
+use Rattle.rewrite_rules.proofs.identities.LaneTestIdentities.{unsigned_order, signed_order}
 
 pub orders_right : AtRows IsRight (rows_of LANE_ORDERS)
 unfolding exact_operator exact_row integer_row row_at table each_lane each_pair

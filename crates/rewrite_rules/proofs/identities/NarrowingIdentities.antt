@@ -7,10 +7,10 @@ use Rattle.std.proofs.lemmas.Nat.{pow_pos, div-mul-add, mod-mul-add}
 use Rattle.std.proofs.Math.Nat.{mod-eq_of_lt, mod-lt, zero-mod, min-eq_right}
 use mir.Val.{bits, hbits}
 use Rattle.wasm_code.specs.Table.{table, row_at}
-use Rattle.peephole_machine.specs.Conversions.{to_signed, to_unsigned, each_resized, narrowed}
-use Rattle.peephole_machine.specs.ExactRow.{exact_row, signed_lt}
-use Rattle.peephole_machine.specs.IntegerRow.{integer_row}
-use Rattle.peephole_machine.specs.Lanes.{each_lane, each_pair, on_pairs, splat}
+use Rattle.wasm_execution.specs.Conversions.{to_signed, to_unsigned, each_resized, narrowed}
+use Rattle.wasm_execution.specs.ExactRow.{exact_row, signed_lt}
+use Rattle.wasm_execution.specs.IntegerRow.{integer_row}
+use Rattle.wasm_execution.specs.Lanes.{each_lane, each_pair, on_pairs, splat}
 use Rattle.rewrite_rules.specs.declared.table.lane_moves.TheConstants.{NARROWED_LANES}
 use Rattle.rewrite_rules.specs.Exact.{exact_operator}
 use Rattle.rewrite_rules.specs.Line.{IsRight}

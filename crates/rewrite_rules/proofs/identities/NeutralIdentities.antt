@@ -7,14 +7,14 @@ use Rattle.std.specs.Int.Bits.{or_zero_r, xor_zero_r, and_zero_r, xor_comm}
 use Rattle.std.proofs.lemmas.Nat.{and_comm, or_comm}
 use Rattle.std.proofs.Math.Nat.{mod-eq_of_lt, add-mod_right, mul-one, mul-zero, div-one, mul_comm}
 use mir.Val.{bits}
-use Rattle.peephole_machine.specs.declared.integer.IntegerType.{IntegerType}
-use Rattle.peephole_machine.specs.declared.integer.IntegerType.TheVariants as integer
-use Rattle.peephole_machine.specs.declared.operation.Binary.{Binary}
-use Rattle.peephole_machine.specs.declared.operation.Binary.TheVariants.{Add, Sub, Mul, DivS, DivU, And, Or, Xor, Shl, ShrS, ShrU, Rotl, Rotr}
-use Rattle.peephole_machine.specs.declared.operation.Operation.TheVariants as operation
-use Rattle.peephole_machine.specs.Values.{width_of, Cause}
-use Rattle.peephole_machine.specs.Integer.{unless_zero}
-use Rattle.peephole_machine.specs.Computed.{kept}
+use Rattle.wasm_execution.specs.declared.integer.IntegerType.{IntegerType}
+use Rattle.wasm_execution.specs.declared.integer.IntegerType.TheVariants as integer
+use Rattle.wasm_execution.specs.declared.operation.Binary.{Binary}
+use Rattle.wasm_execution.specs.declared.operation.Binary.TheVariants.{Add, Sub, Mul, DivS, DivU, And, Or, Xor, Shl, ShrS, ShrU, Rotl, Rotr}
+use Rattle.wasm_execution.specs.declared.operation.Operation.TheVariants as operation
+use Rattle.wasm_execution.specs.Values.{width_of, Cause}
+use Rattle.wasm_execution.specs.Integer.{unless_zero}
+use Rattle.wasm_execution.specs.Computed.{kept}
 use Rattle.rewrite_rules.specs.declared.pattern.Number.{Number}
 use Rattle.rewrite_rules.specs.declared.pattern.Number.TheVariants.{Literal, Ones, Bits}
 use Rattle.rewrite_rules.specs.declared.pattern.Operator.TheVariants.{Whole}

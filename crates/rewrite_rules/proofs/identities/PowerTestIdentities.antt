@@ -5,9 +5,9 @@ use Rattle.std.proofs.lemmas.Bool.{lt-ltb, le-ltb, ltb-true, ltb-false, eq-eqb, 
 use Rattle.std.proofs.lemmas.Nat.{pow_pos, le-div}
 use Rattle.std.proofs.Math.Nat.{mod-eq_of_lt, div-le_self, div-eq_of_lt}
 use mir.Val.{bits}
-use Rattle.peephole_machine.specs.declared.integer.IntegerType.{IntegerType}
-use Rattle.peephole_machine.specs.declared.operation.Comparison.TheVariants.{LtU, GtU, LeU, GeU}
-use Rattle.peephole_machine.specs.Values.{width_of}
+use Rattle.wasm_execution.specs.declared.integer.IntegerType.{IntegerType}
+use Rattle.wasm_execution.specs.declared.operation.Comparison.TheVariants.{LtU, GtU, LeU, GeU}
+use Rattle.wasm_execution.specs.Values.{width_of}
 use Rattle.rewrite_rules.specs.declared.table.integers.TheConstants.{POWER_TESTS}
 use Rattle.rewrite_rules.specs.Numbers.{low, lowest_bit}
 use Rattle.rewrite_rules.specs.Line.{IsRight}

@@ -7,8 +7,8 @@ use Rattle.std.proofs.lemmas.Int.{to_z-of_z}
 use Rattle.std.proofs.lemmas.Nat.{pow_pos, mul-le, div_below}
 use Rattle.std.proofs.Math.Nat.{mod-eq_of_lt}
 use mir.Val.{sel}
-use Rattle.peephole_machine.specs.Conversions.{q15_product}
-use Rattle.peephole_machine.specs.ExactRow.{halves_wide, signed_lt}
+use Rattle.wasm_execution.specs.Conversions.{q15_product}
+use Rattle.wasm_execution.specs.ExactRow.{halves_wide, signed_lt}
 
 -- how far the number is below 0
 abbrev depth : ℤ → ℕ

@@ -8,8 +8,8 @@ use Rattle.std.proofs.lemmas.Bool.{ltb-true, ltb-false}
 use Rattle.std.proofs.lemmas.Nat.{pow_pos, and_mask}
 use Rattle.std.proofs.Math.Nat.{mod-eq_of_lt, mod-mod, mod_self, add-mod_right}
 use mir.Val.{bits}
-use Rattle.peephole_machine.specs.Conversions.{to_signed, add_sat_s, add_sat_u, sub_sat_u, average, q15_product, dot_product}
-use Rattle.peephole_machine.specs.ExactRow.{halves_wide, signed_lt}
+use Rattle.wasm_execution.specs.Conversions.{to_signed, add_sat_s, add_sat_u, sub_sat_u, average, q15_product, dot_product}
+use Rattle.wasm_execution.specs.ExactRow.{halves_wide, signed_lt}
 use Rattle.rewrite_rules.proofs.identities.RoundedProductNumbers.{never_least}
 use Rattle.rewrite_rules.proofs.identities.LaneNumbers.{first, second, Laned, all, pair, cut, SameLanes}
 use Rattle.rewrite_rules.proofs.identities.VectorIdentities.{Right, by_lanes, x, y}

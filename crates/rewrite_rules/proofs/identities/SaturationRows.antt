@@ -1,9 +1,9 @@
 -- The rows on sums, differences, means and products of lanes that saturate or are rounded are right.
 use Rattle.wasm_code.specs.Table.{table, row_at}
-use Rattle.peephole_machine.specs.Conversions.{add_sat_s, add_sat_u}
-use Rattle.peephole_machine.specs.ExactRow.{exact_row}
-use Rattle.peephole_machine.specs.IntegerRow.{integer_row}
-use Rattle.peephole_machine.specs.Lanes.{each_lane, each_pair}
+use Rattle.wasm_execution.specs.Conversions.{add_sat_s, add_sat_u}
+use Rattle.wasm_execution.specs.ExactRow.{exact_row}
+use Rattle.wasm_execution.specs.IntegerRow.{integer_row}
+use Rattle.wasm_execution.specs.Lanes.{each_lane, each_pair}
 use Rattle.rewrite_rules.specs.declared.table.vectors.TheConstants.{SATURATED_LANES}
 use Rattle.rewrite_rules.specs.Exact.{exact_operator}
 use Rattle.rewrite_rules.specs.Line.{IsRight}

@@ -7,10 +7,10 @@ use Rattle.std.proofs.lemmas.Bool.{lt-ltb, le-ltb, ltb-true, ltb-false}
 use Rattle.std.proofs.Math.Nat.{mod-eq_of_lt}
 use Rattle.std.proofs.lemmas.Nat.{xor_lt}
 use mir.Val.{bits, sel}
-use Rattle.peephole_machine.specs.declared.integer.IntegerType.{IntegerType}
-use Rattle.peephole_machine.specs.declared.integer.IntegerType.TheVariants as integer
-use Rattle.peephole_machine.specs.Integer.{Comparison, holds, lt_s, lt_u, gt_s, gt_u, le_s, le_u, ge_s, ge_u}
-use Rattle.peephole_machine.specs.Values.{width_of}
+use Rattle.wasm_execution.specs.declared.integer.IntegerType.{IntegerType}
+use Rattle.wasm_execution.specs.declared.integer.IntegerType.TheVariants as integer
+use Rattle.wasm_execution.specs.Integer.{Comparison, holds, lt_s, lt_u, gt_s, gt_u, le_s, le_u, ge_s, ge_u}
+use Rattle.wasm_execution.specs.Values.{width_of}
 use Rattle.rewrite_rules.specs.Numbers.{low}
 use Rattle.rewrite_rules.proofs.identities.ComparisonNumbers.{le_is, int_le_is}
 use Rattle.rewrite_rules.proofs.identities.ExtensionNumbers.{signed}

@@ -3,9 +3,9 @@ use Rattle.std.proofs.Common.{◌≡◌, ℕ, ◌/◌, ◌%◌, ◌^◌, ◌<◌
 use Rattle.std.specs.Prelude.{nat_lt, if◌then◌else◌}
 use Rattle.std.proofs.Math.Nat.{mod-eq_of_lt}
 use Rattle.wasm_code.specs.Table.{table, row_at}
-use Rattle.peephole_machine.specs.ExactRow.{exact_row}
-use Rattle.peephole_machine.specs.IntegerRow.{integer_row}
-use Rattle.peephole_machine.specs.Lanes.{each_lane, each_pair}
+use Rattle.wasm_execution.specs.ExactRow.{exact_row}
+use Rattle.wasm_execution.specs.IntegerRow.{integer_row}
+use Rattle.wasm_execution.specs.Lanes.{each_lane, each_pair}
 use Rattle.rewrite_rules.specs.declared.table.vectors.TheConstants.{SWIZZLES}
 use Rattle.rewrite_rules.specs.Exact.{exact_operator}
 use Rattle.rewrite_rules.specs.Line.{IsRight}

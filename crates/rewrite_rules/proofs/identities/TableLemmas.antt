@@ -4,16 +4,16 @@ use Rattle.std.specs.Prelude.{not, map, slice_get, take, drop}
 use Rattle.std.specs.Int.{w32, w64, cast_unsigned}
 use Rattle.std.proofs.lemmas.Bool.{and_parts}
 use Rattle.wasm_code.specs.Table.{table, row_at}
-use Rattle.peephole_machine.specs.ExactRow.{exact_row}
-use Rattle.peephole_machine.specs.IntegerRow.{integer_row}
-use Rattle.peephole_machine.specs.declared.integer.IntegerType.{IntegerType}
-use Rattle.peephole_machine.specs.declared.integer.IntegerType.TheVariants as integer
-use Rattle.peephole_machine.specs.declared.operation.Binary.{Binary}
-use Rattle.peephole_machine.specs.declared.operation.Binary.TheVariants.{Add, Sub, Mul, DivS, DivU, And, Or, Xor, Shl, ShrS, ShrU, Rotl, Rotr}
-use Rattle.peephole_machine.specs.declared.operation.Unary.TheVariants.{Ctz}
-use Rattle.peephole_machine.specs.declared.operation.Comparison.{Comparison}
-use Rattle.peephole_machine.specs.declared.operation.Comparison.TheVariants.{Eq, Ne, LtS, LtU, GtS, GtU, LeS, LeU, GeS, GeU}
-use Rattle.peephole_machine.specs.Operation.{comparison_of}
+use Rattle.wasm_execution.specs.ExactRow.{exact_row}
+use Rattle.wasm_execution.specs.IntegerRow.{integer_row}
+use Rattle.wasm_execution.specs.declared.integer.IntegerType.{IntegerType}
+use Rattle.wasm_execution.specs.declared.integer.IntegerType.TheVariants as integer
+use Rattle.wasm_execution.specs.declared.operation.Binary.{Binary}
+use Rattle.wasm_execution.specs.declared.operation.Binary.TheVariants.{Add, Sub, Mul, DivS, DivU, And, Or, Xor, Shl, ShrS, ShrU, Rotl, Rotr}
+use Rattle.wasm_execution.specs.declared.operation.Unary.TheVariants.{Ctz}
+use Rattle.wasm_execution.specs.declared.operation.Comparison.{Comparison}
+use Rattle.wasm_execution.specs.declared.operation.Comparison.TheVariants.{Eq, Ne, LtS, LtU, GtS, GtU, LeS, LeU, GeS, GeU}
+use Rattle.wasm_execution.specs.Operation.{comparison_of}
 use Rattle.rewrite_rules.specs.declared.pattern.Number.{Number}
 use Rattle.rewrite_rules.specs.declared.pattern.Number.TheVariants.{Literal, Ones, Bits}
 use Rattle.rewrite_rules.specs.declared.table.Widths.{Widths}
@@ -21,9 +21,10 @@ use Rattle.rewrite_rules.specs.declared.table.Widths.TheVariants.{Both, Only, An
 use Rattle.rewrite_rules.specs.declared.table.Row.{Row}
 use Rattle.rewrite_rules.specs.Exact.{exact_operator}
 use Rattle.rewrite_rules.specs.Line.{Line, is_formed, IsRight}
-use Rattle.rewrite_rules.specs.declared.table.accesses.TheConstants.{ACCESS_BITS, ACCESS_WIDTHS, LOAD_SIGNS, STORE_SIGNS, ALIGNMENTS, CONSTANTS, WIDE_ACCESSES, CONSTANT_BITS}
+use Rattle.rewrite_rules.specs.declared.table.accesses.TheConstants.{ACCESS_BITS, ACCESS_WIDTHS, LOAD_SIGNS, STORE_SIGNS, ALIGNMENTS}
+use Rattle.rewrite_rules.specs.declared.table.accesses.TheConstants.{CONSTANTS, WIDE_ACCESSES, CONSTANT_BITS}
 use Rattle.rewrite_rules.specs.declared.table.control.TheConstants.{CONTROL}
-use Rattle.rewrite_rules.specs.Table.{Entry, row_in, parts, rows_of, joined, ROWS, width_by, line_of, widths_in, lines_of, OfEachLine}
+use Rattle.rewrite_rules.specs.Table.{Entry, row_in, parts, rows_of, joined, ROWS, width_by, line_of, widths_in, row_lines_of, OfEachLine}
 use Rattle.rewrite_rules.specs.Laws.{LinesKeepCode, TableIsRight}
 use Rattle.rewrite_rules.proofs.PassLemmas.{passes, passes_at}
 use Rattle.rewrite_rules.proofs.identities.Words as line
@@ -62,12 +63,12 @@ use Rattle.rewrite_rules.proofs.identities.FloatTestIdentities as test
 
 -- ---- well formed
 
-all_formed : passes (λ row. passes is_formed (lines_of row)) ROWS ≡ true
+all_formed : passes (λ row. passes is_formed (row_lines_of row)) ROWS ≡ true
 unfolding parts exact_operator exact_row integer_row row_at table
 all_formed = refl
 
 formed_line : OfEachLine (λ l. is_formed l ≡ true)
-formed_line i row e k l f = passes_at is_formed (lines_of row) (passes_at (λ r. passes is_formed (lines_of r)) ROWS all_formed i row e) k l f
+formed_line i row e k l f = passes_at is_formed (row_lines_of row) (passes_at (λ r. passes is_formed (row_lines_of r)) ROWS all_formed i row e) k l f
 
 -- ---- right
 

@@ -8,11 +8,11 @@ use Rattle.std.proofs.Math.Nat.{mod-eq_of_lt, div-le_self}
 use mir.Val.{bits}
 use Rattle.wasm_types.specs.declared.types.PrimitiveTypeInfo.{PrimitiveTypeInfo}
 use Rattle.wasm_types.specs.declared.types.PrimitiveTypeInfo.TheVariants.{I32, I64}
-use Rattle.peephole_machine.specs.declared.integer.IntegerType.{IntegerType}
-use Rattle.peephole_machine.specs.declared.integer.IntegerType.TheVariants as integer
-use Rattle.peephole_machine.specs.declared.operation.Comparison.TheVariants.{LtU, GtU, LeU, GeU}
-use Rattle.peephole_machine.specs.Integer.{signed_into}
-use Rattle.peephole_machine.specs.Values.{width_of}
+use Rattle.wasm_execution.specs.declared.integer.IntegerType.{IntegerType}
+use Rattle.wasm_execution.specs.declared.integer.IntegerType.TheVariants as integer
+use Rattle.wasm_execution.specs.declared.operation.Comparison.TheVariants.{LtU, GtU, LeU, GeU}
+use Rattle.wasm_execution.specs.Integer.{signed_into}
+use Rattle.wasm_execution.specs.Values.{width_of}
 use Rattle.rewrite_rules.specs.declared.table.integers.TheConstants.{UNDONE}
 use Rattle.rewrite_rules.specs.Numbers.{low, lowest_bit}
 use Rattle.rewrite_rules.specs.Line.{IsRight}

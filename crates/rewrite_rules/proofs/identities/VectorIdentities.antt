@@ -5,13 +5,14 @@ use Rattle.std.proofs.lemmas.Bool.{and_parts, eqb-true}
 use Rattle.std.proofs.lemmas.Nat.{pow_pos}
 use Rattle.std.proofs.Math.Nat.{mod-lt}
 use Rattle.wasm_types.specs.declared.types.PrimitiveTypeInfo.TheVariants.{V128}
-use Rattle.peephole_machine.specs.Lanes.{splat}
-use Rattle.peephole_machine.specs.ExactRow.{words_wide}
+use Rattle.wasm_execution.specs.Lanes.{splat}
+use Rattle.wasm_execution.specs.ExactRow.{words_wide}
 use Rattle.rewrite_rules.specs.Numbers.{first_word}
-use Rattle.rewrite_rules.specs.Pattern.{Kind, fixed, kind_of}
+use Rattle.rewrite_rules.specs.Pattern.{Kind, fixed, hole_kind_of}
 use Rattle.rewrite_rules.specs.Line.{IsOfKind}
 use Rattle.rewrite_rules.proofs.identities.WidthLemmas.{ok}
-use Rattle.rewrite_rules.proofs.identities.LaneNumbers.{Place, first, second, third, Laned, given, all, each, pair, both, either, differ, cut, lane, number, SameLanes, same_numbers}
+use Rattle.rewrite_rules.proofs.identities.LaneNumbers.{Place, first, second, third, Laned, given, all, each, pair, both, either, differ}
+use Rattle.rewrite_rules.proofs.identities.LaneNumbers.{cut, lane, number, SameLanes, same_numbers}
 
 -- ---- lines
 
@@ -25,7 +26,7 @@ of_holes h second = h 1
 of_holes h third = h 2
 
 abbrev pub AreVectors : (ℕ → ℕ) → Type 0
-AreVectors h = (n : ℕ) → IsOfKind (kind_of vectors n) (h n)
+AreVectors h = (n : ℕ) → IsOfKind (hole_kind_of vectors n) (h n)
 
 holes_fit : (h : ℕ → ℕ) → AreVectors h → (i : Place) → of_holes h i < 2 ^ 128
 holes_fit h a first = a 0

@@ -1,10 +1,11 @@
 -- The rows on vectors by their bits, and on sums, shifts and signs of lanes, are right.
 use Rattle.std.proofs.Common.{refl}
 use Rattle.wasm_code.specs.Table.{table, row_at}
-use Rattle.peephole_machine.specs.ExactRow.{exact_row}
-use Rattle.peephole_machine.specs.IntegerRow.{integer_row}
-use Rattle.peephole_machine.specs.Lanes.{each_lane, each_pair}
-use Rattle.rewrite_rules.specs.declared.table.vectors.TheConstants.{VECTOR_BITS, VECTOR_FORMS, LANE_SUMS, LANE_NEGATIVES, LANE_ZEROS, LANE_MAGNITUDES, LANE_SHIFTS, LANE_TURNS, LANE_FLOATS, VECTOR_DECIDED}
+use Rattle.wasm_execution.specs.ExactRow.{exact_row}
+use Rattle.wasm_execution.specs.IntegerRow.{integer_row}
+use Rattle.wasm_execution.specs.Lanes.{each_lane, each_pair}
+use Rattle.rewrite_rules.specs.declared.table.vectors.TheConstants.{VECTOR_BITS, VECTOR_FORMS, LANE_SUMS, LANE_NEGATIVES, LANE_ZEROS}
+use Rattle.rewrite_rules.specs.declared.table.vectors.TheConstants.{LANE_MAGNITUDES, LANE_SHIFTS, LANE_TURNS, LANE_FLOATS, VECTOR_DECIDED}
 use Rattle.rewrite_rules.specs.Exact.{exact_operator}
 use Rattle.rewrite_rules.specs.Line.{IsRight}
 use Rattle.rewrite_rules.specs.Table.{rows_of}

@@ -5,9 +5,9 @@ use Rattle.std.specs.Int.{trailing_zeros}
 use Rattle.std.proofs.lemmas.Nat.{pow_pos}
 use Rattle.std.proofs.Math.Nat.{mod-eq_of_lt, mod-lt, zero-mod}
 use mir.Val.{bits}
-use Rattle.peephole_machine.specs.declared.integer.IntegerType.{IntegerType}
-use Rattle.peephole_machine.specs.declared.integer.IntegerType.TheVariants as integer
-use Rattle.peephole_machine.specs.Values.{type_of, width_of, IsOfType, Cause}
+use Rattle.wasm_execution.specs.declared.integer.IntegerType.{IntegerType}
+use Rattle.wasm_execution.specs.declared.integer.IntegerType.TheVariants as integer
+use Rattle.wasm_execution.specs.Values.{type_of, width_of, IsOfType, Cause}
 use Rattle.rewrite_rules.specs.Numbers.{low, lowest_bit}
 
 pub small : (t : IntegerType) (n : ℕ) → IsOfType (type_of t) n → n < 2 ^ bits (width_of t)

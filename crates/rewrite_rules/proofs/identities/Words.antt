@@ -1,17 +1,17 @@
 -- The lines that rules share, by an operator and a width, and the words that they are written in.
 use Rattle.std.specs.Prelude.{ℕ, List, [], ◌∷◌}
 use Rattle.wasm_types.specs.declared.types.PrimitiveTypeInfo.TheVariants as primitive
-use Rattle.peephole_machine.specs.declared.integer.IntegerType.{IntegerType}
-use Rattle.peephole_machine.specs.declared.integer.IntegerType.TheVariants as integer
-use Rattle.peephole_machine.specs.declared.operation.Binary.{Binary}
-use Rattle.peephole_machine.specs.declared.operation.Binary.TheVariants.{Add, Sub, Mul, DivS, DivU, RemS, RemU, And, Or, Xor, Shl, ShrS, ShrU, Rotl, Rotr}
-use Rattle.peephole_machine.specs.declared.operation.Unary.{Unary}
-use Rattle.peephole_machine.specs.declared.operation.Unary.TheVariants.{Popcnt}
-use Rattle.peephole_machine.specs.declared.operation.Comparison.{Comparison}
-use Rattle.peephole_machine.specs.declared.operation.Comparison.TheVariants.{Eq, Ne, LtS, LtU, GeU}
-use Rattle.peephole_machine.specs.declared.operation.Operation.{Operation}
-use Rattle.peephole_machine.specs.declared.operation.Operation.TheVariants as operation
-use Rattle.peephole_machine.specs.Values.{type_of}
+use Rattle.wasm_execution.specs.declared.integer.IntegerType.{IntegerType}
+use Rattle.wasm_execution.specs.declared.integer.IntegerType.TheVariants as integer
+use Rattle.wasm_execution.specs.declared.operation.Binary.{Binary}
+use Rattle.wasm_execution.specs.declared.operation.Binary.TheVariants.{Add, Sub, Mul, DivS, DivU, RemS, RemU, And, Or, Xor, Shl, ShrS, ShrU, Rotl, Rotr}
+use Rattle.wasm_execution.specs.declared.operation.Unary.{Unary}
+use Rattle.wasm_execution.specs.declared.operation.Unary.TheVariants.{Popcnt}
+use Rattle.wasm_execution.specs.declared.operation.Comparison.{Comparison}
+use Rattle.wasm_execution.specs.declared.operation.Comparison.TheVariants.{Eq, Ne, LtS, LtU, GeU}
+use Rattle.wasm_execution.specs.declared.operation.Operation.{Operation}
+use Rattle.wasm_execution.specs.declared.operation.Operation.TheVariants as operation
+use Rattle.wasm_execution.specs.Values.{type_of}
 use Rattle.rewrite_rules.specs.declared.pattern.Operator.TheVariants.{Whole, Select}
 use Rattle.rewrite_rules.specs.declared.pattern.Number.{Number}
 use Rattle.rewrite_rules.specs.declared.pattern.Number.TheVariants.{Literal, Ones, Bits, Sign, Slot, Turned, Next, Previous, Negated, Power, Place, Sum}

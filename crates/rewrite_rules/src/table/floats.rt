@@ -2,7 +2,7 @@
 
 use crate::pattern::Number;
 use crate::table::{Step, TableLine, Widths};
-use peephole_machine::{Binary, IntegerType, Operation};
+use wasm_execution::{Binary, IntegerType, Operation};
 use wasm_types::PrimitiveTypeInfo;
 
 /// Signs of floats twice, and bits read as a float and back.

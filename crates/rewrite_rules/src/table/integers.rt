@@ -2,7 +2,7 @@
 
 use crate::pattern::Number;
 use crate::table::{Condition, Own, Step, TableLine, Widths};
-use peephole_machine::{Binary, Comparison, IntegerType, Operation, Unary};
+use wasm_execution::{Binary, Comparison, IntegerType, Operation, Unary};
 
 /// Operands in another order.
 pub const ORDERS: [TableLine; 15] = [

@@ -2,7 +2,7 @@
 
 use crate::pattern::Number;
 use crate::table::{Step, TableLine, Widths};
-use peephole_machine::{Binary, IntegerType, Operation};
+use wasm_execution::{Binary, IntegerType, Operation};
 use wasm_types::PrimitiveTypeInfo;
 
 /// A number put into each lane and taken out of one.

@@ -2,7 +2,7 @@
 
 use crate::pattern::Number;
 use crate::table::{Step, TableLine, Widths};
-use peephole_machine::{Binary, IntegerType, Operation};
+use wasm_execution::{Binary, IntegerType, Operation};
 use wasm_types::PrimitiveTypeInfo;
 
 /// Vectors by their bits: operands in another order or grouped otherwise, and what changes nothing.

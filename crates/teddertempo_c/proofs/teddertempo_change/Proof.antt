@@ -33,7 +33,7 @@ use denote.Triple.Table.{framed}
 use denote.Triple.Walked.{says, Stays, stay_dropped, walk_of, ends_at, Goes-dropped}
 use Rattle.std.specs.contracts.alloc.Global as G
 use Rattle.std.proofs.alloc.Global.TheLaws as L
-use Rattle.teddertempo_c.specs.Buffer.{bytes_at}
+use Rattle.teddertempo_c.specs.Buffer.{buffer_bytes_at}
 use Rattle.teddertempo_c.specs.Changes.{ChangesOnce}
 use Rattle.teddertempo_c.proofs.BufferLemmas.{Bytes, slice_at, Slice, Behind, bytes_out, lends_bytes, bytes_back}
 use Rattle.teddertempo_c.specs.contracts.changing.change_in as g
@@ -65,8 +65,8 @@ teddertempo_change_spec 𝓤 𝓛 𝓜 𝓡 wired =
       (κs, qs, bounds, (a.0, (p, (size, (n, (seed, tt))))), (h ∷ [], (rawptr_vals p, (uint_vals w64 size, (uint_vals w64 n, (uint_vals w64 seed, tt)))))),
       old,
     ) in
-    qed 𝓛 (raw (on_entry 𝓛 f.signature κs qs a (y a.1.0).0.4) ∷ ‵ (bytes_at a.1.0 n old) ∷ raw (fact 𝓤 (n < 2 ^ 63)) ∷ []) ∵ drop ! $
-    move ! (1 ∷ []) $ heard ! (n < 2 ^ 63) (λ low. in_a_block ! a.1.0 (λ p. bytes_at p n old) (id⊢ 𝓤 _) (λ b o e.
+    qed 𝓛 (raw (on_entry 𝓛 f.signature κs qs a (y a.1.0).0.4) ∷ ‵ (buffer_bytes_at a.1.0 n old) ∷ raw (fact 𝓤 (n < 2 ^ 63)) ∷ []) ∵ drop ! $
+    move ! (1 ∷ []) $ heard ! (n < 2 ^ 63) (λ low. in_a_block ! a.1.0 (λ p. buffer_bytes_at p n old) (id⊢ 𝓤 _) (λ b o e.
     regoal ! (λ p. prop (WpFn 𝓤 𝓛.H 𝓣.C 𝓣.Λ code.function (h ∷ ptr_val p ∷ vint w64 size ∷ vint w64 n ∷ vint w64 seed ∷ []) (W.post (y p)))) e refl $
     use1 𝓛 (‵ (Bytes n b o old)) (bytes_out 𝓛 n b o old) $ fsplit ! $ feq_l ! (λ count.
     let fits : length old < 2 ^ 64 = omega arith in let fits_n : n < 2 ^ 64 = omega arith in
@@ -107,12 +107,12 @@ teddertempo_change_spec 𝓤 𝓛 𝓜 𝓡 wired =
     split ! $ split ! $ split ! $ lft_end ! tt $
     move ! (3 ∷ []) $ pick ! (λ ws. let new : List ℕ = ws.1.0 in split ! $ fsplit ! $ drop ! $ fsplit ! $ fsplit ! $ fsplit ! $
     -- [the slice's last value; its length; its borrow; the numbers; the clause; the lifetime is over; nothing; the result; the right to the bytes; ..]
-    move ! (5 ∷ 8 ∷ 0 ∷ []) $ use3 𝓛 (later (‵ (bytes_at (block_ptr b o) n new))) (bytes_back 𝓛 n b o old count low κ γ new) $ await ! tt $
+    move ! (5 ∷ 8 ∷ 0 ∷ []) $ use3 𝓛 (later (‵ (buffer_bytes_at (block_ptr b o) n new))) (bytes_back 𝓛 n b o old count low κ γ new) $ await ! tt $
     move ! (4 ∷ []) $ heard ! _ (λ changes.
     -- [the bytes; the slice's length; its borrow; the numbers; nothing; the result; the locals]
     move ! (5 ∷ []) $ peeks ! usize (Is usize) (shows 𝓛 usize) r (v ∷ []) (λ is. lands_as ! refl refl ((uint_Lawful 𝓛 w64).typed r _ is).0 $
     returns ! (look_at ! 0 refl) $ free_all ! refl $ keep ! (0 ∷ 1 ∷ []) $
     suffices ! _ (ends_at 𝓛 f.ended stayed c (y (block_ptr b o)) v r (tt, (tt, (tt, (tt, (tt, tt))))) (tt, (tt, (tt, (tt, (tt, tt)))))) $
     nothing ! $ nothing ! $ join ! $ nothing ! $ join ! $ nothing ! $ join ! $ nothing ! $ join ! $ nothing ! $ join ! $ nothing ! $ group ! 3 $ frame ! $
-    show ! (λ (bytes : List ℕ). sep 𝓤 (sem 𝓛 (bytes_at (block_ptr b o) n bytes)) (fact 𝓤 (ChangesOnce seed size old r bytes))) new $
+    show ! (λ (bytes : List ℕ). sep 𝓤 (sem 𝓛 (buffer_bytes_at (block_ptr b o) n bytes)) (fact 𝓤 (ChangesOnce seed size old r bytes))) new $
     says ! changes $ done !))))))))))))

@@ -36,7 +36,7 @@ use denote.Triple.Table.{framed}
 use denote.Triple.Walked.{says, Stays, stay_dropped, gave_ref, walk_of, ends_at, Goes-dropped, Goes-gave_ref}
 use Rattle.std.specs.contracts.alloc.Global as G
 use Rattle.std.proofs.alloc.Global.TheLaws as L
-use Rattle.teddertempo_c.specs.Buffer.{bytes_at}
+use Rattle.teddertempo_c.specs.Buffer.{buffer_bytes_at}
 use Rattle.teddertempo_c.specs.ChangeReports.{ChangesWith}
 use Rattle.teddertempo_c.specs.declared.change_options.ChangeOptions.{ChangeOptions}
 use Rattle.teddertempo_c.specs.declared.report.Report.{Report}
@@ -91,12 +91,12 @@ teddertempo_change_with_spec 𝓤 𝓛 𝓜 𝓡 wired =
     (WpFn 𝓤 𝓛.H 𝓣.C 𝓣.Λ code.function (h ∷ ptr_val p ∷ vint w64 size ∷ vint w64 n ∷ (shr_vals options ++ mut_vals report)) (W.post (y p))) in
     qed 𝓛 (
     (raw (alive 𝓛 f.signature κs qs) ⊛ ‵ (owns (types_at f.signature.params κs) a (y a.1.0).0.4)) ∷
-    ‵ (bytes_at a.1.0 n old) ∷ raw (fact 𝓤 (n < 2 ^ 63)) ∷ []
+    ‵ (buffer_bytes_at a.1.0 n old) ∷ raw (fact 𝓤 (n < 2 ^ 63)) ∷ []
     ) ∵
     split ! $ move ! (1 ∷ []) $ fsplit ! $ drop ! $ fsplit ! $ drop ! $ fsplit ! $ drop ! $ fsplit ! $ drop ! $
     -- [the references; their tokens; the bytes; their bound]
     move ! (3 ∷ []) $ heard ! (n < 2 ^ 63) (λ low. move ! (2 ∷ []) $
-    in_a_block ! a.1.0 (λ p. bytes_at p n old) (id⊢ 𝓤 _) (λ b o e. regoal ! Called e refl $
+    in_a_block ! a.1.0 (λ p. buffer_bytes_at p n old) (id⊢ 𝓤 _) (λ b o e. regoal ! Called e refl $
     use1 𝓛 (‵ (Bytes n b o old)) (bytes_out 𝓛 n b o old) $ fsplit ! $ feq_l ! (λ count.
     let fits : length old < 2 ^ 64 = omega arith in let fits_n : n < 2 ^ 64 = omega arith in
     enter ! _ _ _ _ _ $
@@ -138,12 +138,13 @@ teddertempo_change_with_spec 𝓤 𝓛 𝓜 𝓡 wired =
     move ! (3 ∷ []) $ pick ! (λ ws. let new : List ℕ = ws.1.0 in let last : Report = ws.1.1.1.1.0 in
     split ! $ fsplit ! $ drop ! $ fsplit ! $ fsplit ! $ fsplit ! $
     -- [the slice's last value; its length; its borrow; the others; the clause; the lifetime is over; the tokens; the result; the right to the bytes; ..]
-    move ! (5 ∷ 8 ∷ 0 ∷ []) $ use3 𝓛 (later (‵ (bytes_at (block_ptr b o) n new))) (bytes_back 𝓛 n b o old count low κ γ new) $ await ! tt $
+    move ! (5 ∷ 8 ∷ 0 ∷ []) $ use3 𝓛 (later (‵ (buffer_bytes_at (block_ptr b o) n new))) (bytes_back 𝓛 n b o old count low κ γ new) $ await ! tt $
     move ! (4 ∷ []) $ heard ! _ (λ changes. move ! (5 ∷ []) $
     -- [the result; the bytes; the slice's length; its borrow; the other last values; the tokens; the locals]
     peeks ! usize (Is usize) (shows 𝓛 usize) r (v ∷ []) (λ is. lands_as ! refl refl ((uint_Lawful 𝓛 w64).typed r _ is).0 $
     returns ! (look_at ! 0 refl) $ free_all ! refl $ keep ! (4 ∷ 0 ∷ 1 ∷ 5 ∷ []) $
     suffices ! _ (ends_at 𝓛 f.ended stayed c (y (block_ptr b o)) v r (tt, (tt, (tt, (tt, (tt, (last, tt)))))) (tt, (tt, (tt, (tt, (tt, (tt, tt))))))) $
     fsplit ! $ drop ! $ nothing ! $ join ! $ nothing ! $ join ! $ nothing ! $ join ! $ nothing ! $ join ! $ move ! (3 ∷ 0 ∷ 1 ∷ []) $ group ! 3 $ frame ! $
-    show ! (λ (bytes : List ℕ). sep 𝓤 (sem 𝓛 (bytes_at (block_ptr b o) n bytes)) (fact 𝓤 (ChangesWith options.now size old r bytes report.now last))) new $
+    show ! (λ (bytes : List ℕ). sep 𝓤 (sem 𝓛 (buffer_bytes_at (block_ptr b o) n bytes))
+    (fact 𝓤 (ChangesWith options.now size old r bytes report.now last))) new $
     says ! changes $ done !))))))))))))

@@ -14,4 +14,8 @@ returns-in-Some c =
 
 pub returns-in-None : goal.returns-in-None
 returns-in-None c =
-    writes_none names c.args.rule c.args.name.now 0 c.args.name.now (slice_get_past names c.args.rule c.in-None.ensures.none) (record { size = refl; is = refl })
+    writes_none names c.args.rule c.args.name.now 0 c.args.name.now (slice_get_past names c.args.rule c.in-None.ensures.none) (record {
+      size =
+          refl;
+      is = refl;
+    })

@@ -35,7 +35,7 @@ use denote.Triple.Table.{framed}
 use denote.Triple.Walked.{says, Stays, stay_dropped, walk_of, ends_at, Goes-dropped}
 use Rattle.std.specs.contracts.alloc.Global as G
 use Rattle.std.proofs.alloc.Global.TheLaws as L
-use Rattle.teddertempo_c.specs.Buffer.{bytes_at}
+use Rattle.teddertempo_c.specs.Buffer.{buffer_bytes_at}
 use Rattle.teddertempo_c.specs.Splices.{SplicesOnce}
 use Rattle.teddertempo_c.proofs.BufferLemmas.{Bytes, slice_at, Slice, Behind, bytes_out, lends_bytes, bytes_back}
 use Rattle.teddertempo_c.specs.contracts.splicing.splice_in as g
@@ -82,18 +82,27 @@ teddertempo_splice_spec 𝓤 𝓛 𝓜 𝓡 wired =
     (WpFn 𝓤 𝓛.H 𝓣.C 𝓣.Λ code.function (h ∷ ptr_val p ∷ vint w64 size ∷ vint w64 n ∷ (shr_slice_vals other ++ vint w64 seed ∷ [])) (W.post (y p))) in
     qed 𝓛 (
     (raw (alive 𝓛 f.signature κs qs) ⊛ ‵ (owns (types_at f.signature.params κs) a (y a.1.0).0.4)) ∷
-    ‵ (bytes_at a.1.0 n old) ∷ raw (fact 𝓤 (n < 2 ^ 63)) ∷ []
+    ‵ (buffer_bytes_at a.1.0 n old) ∷ raw (fact 𝓤 (n < 2 ^ 63)) ∷ []
     ) ∵
     split ! $ move ! (1 ∷ []) $ fsplit ! $ drop ! $ fsplit ! $ drop ! $ fsplit ! $ drop ! $ fsplit ! $ drop ! $
     -- [the other module and the seed; their token; the bytes; their bound]
     move ! (3 ∷ []) $ heard ! (n < 2 ^ 63) (λ low. move ! (2 ∷ []) $
-    in_a_block ! a.1.0 (λ p. bytes_at p n old) (id⊢ 𝓤 _) (λ b o e. regoal ! Called e refl $
+    in_a_block ! a.1.0 (λ p. buffer_bytes_at p n old) (id⊢ 𝓤 _) (λ b o e. regoal ! Called e refl $
     use1 𝓛 (‵ (Bytes n b o old)) (bytes_out 𝓛 n b o old) $ fsplit ! $ feq_l ! (λ count.
     let fits : length old < 2 ^ 64 = omega arith in let fits_n : n < 2 ^ 64 = omega arith in
     enter ! _ _ _ _ _ $
     alloc_all ! (λ l. pass_all ! refl (
       ((of_fields.lawful G.the_type L.the_laws 𝓛).typed a.0 _ are.0).0,
-      ((tt, tt), ((tt, record { fits = are.1.1.0.1 }), ((tt, record { fits = fits_n }), ((tt, (tt, (record { fits = are.1.1.1.1.0.0.1.0 }, tt))), ((tt, record { fits = are.1.1.1.1.1.0.1 }), tt))))),
+      (
+        (tt, tt),
+        (
+          (tt, record { fits = are.1.1.0.1 }),
+          (
+            (tt, record { fits = fits_n }),
+            ((tt, (tt, (record { fits = are.1.1.1.1.0.0.1.0 }, tt))), ((tt, record { fits = are.1.1.1.1.1.0.1 }), tt)),
+          ),
+        ),
+      ),
     ) $
     -- [the bytes; the references; their tokens; the locals]
     -- from_raw_parts_mut(data, max_size)
@@ -126,7 +135,7 @@ teddertempo_splice_spec 𝓤 𝓛 𝓜 𝓡 wired =
     await ! tt $ pick ! (λ r. split ! $ split ! $ split ! $ lft_end ! tt $
     move ! (3 ∷ []) $ pick ! (λ ws. let new : List ℕ = ws.1.0 in split ! $ fsplit ! $ drop ! $ fsplit ! $ fsplit ! $ fsplit ! $
     -- [the slice's last value; its length; its borrow; the others; the clause; the lifetime is over; the tokens; the result; the right to the bytes; ..]
-    move ! (5 ∷ 8 ∷ 0 ∷ []) $ use3 𝓛 (later (‵ (bytes_at (block_ptr b o) n new))) (bytes_back 𝓛 n b o old count low κ γ new) $ await ! tt $
+    move ! (5 ∷ 8 ∷ 0 ∷ []) $ use3 𝓛 (later (‵ (buffer_bytes_at (block_ptr b o) n new))) (bytes_back 𝓛 n b o old count low κ γ new) $ await ! tt $
     move ! (4 ∷ []) $ heard ! _ (λ changes. move ! (5 ∷ []) $
     -- [the result; the bytes; the slice's length; its borrow; the other last values; the tokens; the locals]
     peeks ! usize (Is usize) (shows 𝓛 usize) r (v ∷ []) (λ is. lands_as ! refl refl ((uint_Lawful 𝓛 w64).typed r _ is).0 $
@@ -134,5 +143,5 @@ teddertempo_splice_spec 𝓤 𝓛 𝓜 𝓡 wired =
     suffices ! _ (ends_at 𝓛 f.ended stayed c (y (block_ptr b o)) v r (tt, (tt, (tt, (tt, (tt, (tt, tt)))))) (tt, (tt, (tt, (tt, (tt, (tt, tt))))))) $
     nothing ! $ nothing ! $ join ! $ nothing ! $ join ! $ nothing ! $ join ! $ nothing ! $ join ! $ nothing ! $ join ! $ nothing ! $ join ! $
     move ! (3 ∷ 0 ∷ 1 ∷ []) $ group ! 3 $ frame ! $
-    show ! (λ (bytes : List ℕ). sep 𝓤 (sem 𝓛 (bytes_at (block_ptr b o) n bytes)) (fact 𝓤 (SplicesOnce seed size other.now old r bytes))) new $
+    show ! (λ (bytes : List ℕ). sep 𝓤 (sem 𝓛 (buffer_bytes_at (block_ptr b o) n bytes)) (fact 𝓤 (SplicesOnce seed size other.now old r bytes))) new $
     says ! changes $ done !))))))))))))

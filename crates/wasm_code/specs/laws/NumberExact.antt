@@ -1,10 +1,12 @@
 -- Numbers: what is read is spelled so, and what is spelled so is read.
-use Rattle.std.proofs.Common.{◌≡◌, ℕ, ℤ, pos, negsuc, neg_ℤ, ◌≤ℤ◌, ◌<ℤ◌, zero, suc, ◌-◌, ◌^◌, ◌<◌, ◌≤◌, ◌⊎◌, Bool, true, false, cond, ltb, List, [], ◌∷◌, ◌++◌, length, Ok, Err, refl, ap, subst, ◌∙◌, arith, inl, inr}
+use Rattle.std.proofs.Common.{◌≡◌, ℕ, ℤ, pos, negsuc, neg_ℤ, ◌≤ℤ◌, ◌<ℤ◌, zero, suc, ◌-◌, ◌^◌, ◌<◌, ◌≤◌, ◌⊎◌, Bool, true, false, cond, ltb}
+use Rattle.std.proofs.Common.{List, [], ◌∷◌, ◌++◌, length, Ok, Err, refl, ap, subst, ◌∙◌, arith, inl, inr}
 use Rattle.std.proofs.lemmas.Bool.{le-ltb, lt-ltb, ltb-true, ltb-false, cases_lt}
 use Rattle.std.proofs.lemmas.Int.{ints}
 use Rattle.wasm_code.specs.declared.fault.Cause.TheVariants.{Truncated, UnknownOpcode, BadInteger, BadImmediate}
 use Rattle.wasm_code.specs.declared.fault.Cause.{Cause}
-use Rattle.wasm_code.specs.Number.{IsGroup, value, signed_value, most_bytes, SpellsUnsigned, SpellsSigned, AreHigh, EndsInside, GoesOn, FailsNumber, IsAbove, IsOutside, FailsUnsigned, FailsSigned}
+use Rattle.wasm_code.specs.Number.{IsGroup, value, signed_value, most_bytes, SpellsUnsigned, SpellsSigned, AreHigh, EndsInside, GoesOn}
+use Rattle.wasm_code.specs.Number.{FailsNumber, IsAbove, IsOutside, FailsUnsigned, FailsSigned}
 use Rattle.wasm_code.specs.Reader.{fits_half, group_at, below_at, within_at, unsigned_at, signed_at}
 use Rattle.wasm_code.specs.laws.GrammarLemmas.{Exact, bind_ok, bind_err, ok_is, err_is}
 

@@ -8,12 +8,15 @@ use Rattle.wasm_sections.specs.declared.id.SectionId.{SectionId}
 use Rattle.wasm_sections.specs.declared.id.SectionId.TheVariants as ids
 use Rattle.wasm_sections.specs.declared.section.Section.{Section}
 use Rattle.wasm_sections.specs.Id.{rank_of}
-use Rattle.wasm_sections.specs.Section.{SpellsModule, AreFinal, parts_of, preamble}
+use Rattle.wasm_sections.specs.Section.{SpellsModule, AreFinal, section_parts_of, preamble}
 use Rattle.wasm_sections.specs.Find.{IsFirstWith, IsPlaceOf, end_of, AreBefore, AreBehind}
 use Rattle.wasm_sections.specs.Writing.{section_code}
 use Rattle.wasm_sections.specs.Laws.{SpellsParts, AreJoined, IsWithin, IsInOrderAt}
 use Rattle.wasm_sections.specs.lemmas.SectionLemmas.{has_rank}
-use Rattle.wasm_sections.specs.lemmas.PieceLemmas.{Piece, code_of, joined, AreCounted, AreSorted, end_at, placed, all_placed, part, parts, last_of, of_module, of_pieces, module_parts, parts_are, joined-append, parts-append, counted-append, counted_cut, sorted-append, sorted_cut, final-append, final_cut, length-code, end_is}
+use Rattle.wasm_sections.specs.lemmas.PieceLemmas.{Piece, code_of, joined, AreCounted, AreSorted, end_at, placed, all_placed, part, parts}
+use Rattle.wasm_sections.specs.lemmas.PieceLemmas.{last_of, of_module, of_pieces, module_parts, parts_are, joined-append, parts-append}
+use Rattle.wasm_sections.specs.lemmas.PieceLemmas.{counted-append, counted_cut, sorted-append, sorted_cut, final-append, final_cut}
+use Rattle.wasm_sections.specs.lemmas.PieceLemmas.{length-code, end_is}
 
 -- ---- where sections stand
 
@@ -179,10 +182,10 @@ record IsChange (bytes new : List ℕ) (before behind : List Section) (y : Piece
   pub final : AreFinal (parts (first ++ y ∷ second))
 
 changed : (bytes new : List ℕ) (before behind : List Section) (y : Piece) → IsChange bytes new before behind y →
-    SpellsParts new (parts_of bytes before ++ part y ∷ parts_of bytes behind)
+    SpellsParts new (section_parts_of bytes before ++ part y ∷ section_parts_of bytes behind)
 changed bytes new before behind y c =
     let all = c.first ++ y ∷ c.second in
-    let first : parts_of bytes before ≡ parts c.first = ap (parts_of bytes) c.before_are
+    let first : section_parts_of bytes before ≡ parts c.first = ap (section_parts_of bytes) c.before_are
     ∙ parts_are c.first 8 bytes preamble (c.old ++ joined c.second) c.bytes_are refl in
     let at_second : bytes ≡ ((preamble ++ joined c.first) ++ c.old) ++ (joined c.second ++ []) = c.bytes_are
     ∙ sym (append_assoc preamble (joined c.first) (c.old ++ joined c.second)) ∙ sym (append_assoc (preamble ++ joined c.first) c.old (joined c.second))
@@ -193,14 +196,14 @@ changed bytes new before behind y c =
       length-append preamble (joined c.first),
       c.starts,
     ) in
-    let second : parts_of bytes behind ≡ parts c.second = ap (parts_of bytes) c.behind_are
+    let second : section_parts_of bytes behind ≡ parts c.second = ap (section_parts_of bytes) c.behind_are
     ∙ parts_are c.second c.start bytes ((preamble ++ joined c.first) ++ c.old) [] at_second len in
     record {
       sections = all_placed 8 all;
       spells = subst (λ (b : List ℕ). SpellsModule b (all_placed 8 all)) (sym c.new_are) (of_pieces all c.counted c.sorted c.final);
       are = module_parts new all c.new_are ∙ parts-append c.first (y ∷ c.second)
           ∙ ap (λ (l : List (SectionId × List ℕ)). l ++ part y ∷ parts c.second) (sym first)
-          ∙ ap (λ (l : List (SectionId × List ℕ)). parts_of bytes before ++ part y ∷ l) (sym second);
+          ∙ ap (λ (l : List (SectionId × List ℕ)). section_parts_of bytes before ++ part y ∷ l) (sym second);
     }
 
 -- ---- a section written anew
@@ -236,7 +239,8 @@ replaced_pieces : (bytes contents : List ℕ) (u : List Piece) (xs : List Piece)
     before ≡ all_placed 8 u → s ∷ behind ≡ all_placed (8 + length (joined u)) xs
     → bytes ≡ preamble ++ joined (u ++ xs) → AreCounted (u ++ xs) → AreSorted 0 (u ++ xs) → AreFinal (parts (u ++ xs)) → (s.id ≡ ids.Custom → ⊥)
     → SpellsUnsigned 32 (shortest (length contents)) (length contents)
-    → SpellsParts (take s.start bytes ++ section_code s.id contents ++ drop s.end bytes) (parts_of bytes before ++ (s.id, contents) ∷ parts_of bytes behind)
+    → SpellsParts (take s.start bytes ++ section_code s.id contents ++ drop s.end bytes) (section_parts_of bytes before ++ (s.id, contents)
+    ∷ section_parts_of bytes behind)
 replaced_pieces bytes contents u [] before behind s b e bytes_are counted sorted final other counts = absurd cc
 replaced_pieces bytes contents u (x ∷ w) before behind s b e bytes_are counted sorted final other counts =
     let start = 8 + length (joined u) in
@@ -246,13 +250,14 @@ replaced_pieces bytes contents u (x ∷ w) before behind s b e bytes_are counted
     let is = changed bytes (take start bytes ++ section_code x.id contents ++ drop (end_at start x) bytes) (all_placed 8 u) (all_placed (end_at start x) w)
     (written x.id contents) change in
     let P : List Section → Section → List Section → Type 0 = λ p z q. SpellsParts (take z.start bytes ++ section_code z.id contents ++ drop z.end bytes)
-    (parts_of bytes p ++ (z.id, contents) ∷ parts_of bytes q) in
+    (section_parts_of bytes p ++ (z.id, contents) ∷ section_parts_of bytes q) in
     subst (λ (p : List Section). P p s behind) (sym b) (subst (λ (z : Section). P (all_placed 8 u) z behind) (sym t.0)
     (subst (P (all_placed 8 u) (placed start x)) (sym t.1) is))
 
 pub replaced : (bytes contents : List ℕ) (before behind : List Section) (s : Section) → SpellsModule bytes (before ++ s ∷ behind) →
     (s.id ≡ ids.Custom → ⊥) → SpellsUnsigned 32 (shortest (length contents)) (length contents)
-    → SpellsParts (take s.start bytes ++ section_code s.id contents ++ drop s.end bytes) (parts_of bytes before ++ (s.id, contents) ∷ parts_of bytes behind)
+    → SpellsParts (take s.start bytes ++ section_code s.id contents ++ drop s.end bytes) (section_parts_of bytes before ++ (s.id, contents)
+    ∷ section_parts_of bytes behind)
 replaced bytes contents before behind s m other counts =
     let v = of_module bytes (before ++ s ∷ behind) m in
     let r = cut before (s ∷ behind) 8 v.pieces v.are in
@@ -309,7 +314,8 @@ more bytes contents u w id place e counted sorted final other counts at smaller 
 
 pub added : (bytes contents : List ℕ) (ss : List Section) (id : SectionId) (place : ℕ) → SpellsModule bytes ss → (p : IsPlaceOf ss id place) →
     (id ≡ ids.Custom → ⊥) → SpellsUnsigned 32 (shortest (length contents)) (length contents)
-    → SpellsParts (take place bytes ++ section_code id contents ++ drop place bytes) (parts_of bytes p.before ++ (id, contents) ∷ parts_of bytes p.behind)
+    → SpellsParts (take place bytes ++ section_code id contents ++ drop place bytes) (section_parts_of bytes p.before ++ (id, contents)
+    ∷ section_parts_of bytes p.behind)
 added bytes contents ss id place m p other counts =
     let v = of_module bytes ss m in
     let r = cut p.before p.behind 8 v.pieces (sym p.parts ∙ v.are) in
@@ -319,5 +325,5 @@ added bytes contents ss id place m p other counts =
     at (subst (AreBefore (rank_of id)) r.before_are p.smaller) (subst (AreBehind (rank_of id)) r.behind_are p.greater) in
     let new = take place bytes ++ section_code id contents ++ drop place bytes in
     let is = changed bytes new (all_placed 8 r.first) (all_placed (8 + length (joined r.first)) r.second) (written id contents) change in
-    let P : List Section → List Section → Type 0 = λ a b. SpellsParts new (parts_of bytes a ++ (id, contents) ∷ parts_of bytes b) in
+    let P : List Section → List Section → Type 0 = λ a b. SpellsParts new (section_parts_of bytes a ++ (id, contents) ∷ section_parts_of bytes b) in
     subst (λ (a : List Section). P a p.behind) (sym r.before_are) (subst (P (all_placed 8 r.first)) (sym r.behind_are) is)

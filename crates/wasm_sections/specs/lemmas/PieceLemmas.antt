@@ -6,7 +6,7 @@ use Rattle.wasm_code.specs.Number.{SpellsUnsigned}
 use Rattle.wasm_sections.specs.declared.id.SectionId.{SectionId}
 use Rattle.wasm_sections.specs.declared.section.Section.{Section}
 use Rattle.wasm_sections.specs.Id.{id_code, rank_of}
-use Rattle.wasm_sections.specs.Section.{SpellsSections, AreInOrder, parts_of, AreFinal, preamble, SpellsModule}
+use Rattle.wasm_sections.specs.Section.{SpellsSections, AreInOrder, section_parts_of, AreFinal, preamble, SpellsModule}
 use Rattle.wasm_sections.specs.Sections.{last_rank}
 use Rattle.wasm_sections.specs.lemmas.SectionLemmas.{section_of}
 
@@ -109,7 +109,7 @@ range_is bytes a b c from to e f t =
     ap (λ (l : List ℕ). take (to - from) (drop from l)) e ∙ ap (take (to - from)) (drop_at a (b ++ c) from f) ∙ take_at b c (to - from) len
 
 pub parts_are : (xs : List Piece) (start : ℕ) (bytes before behind : List ℕ) → bytes ≡ before ++ (joined xs ++ behind) → length before ≡ start →
-    parts_of bytes (all_placed start xs) ≡ parts xs
+    section_parts_of bytes (all_placed start xs) ≡ parts xs
 parts_are [] start bytes before behind e f = refl
 parts_are (x ∷ xs) start bytes before behind e f =
     let at_contents : bytes ≡ (before ++ id_code x.id ∷ x.size) ++ (x.contents ++ (joined xs ++ behind)) = e ∙ simp append_assoc in
@@ -120,7 +120,7 @@ parts_are (x ∷ xs) start bytes before behind e f =
     omega (arith, length-append before (code_of x), length-append (id_code x.id ∷ x.size) x.contents, f) in
     let here = range_is bytes (before ++ id_code x.id ∷ x.size) x.contents (joined xs ++ behind) (contents_at start x) (end_at start x) at_contents
     head_len refl in
-    ap (λ (l : List ℕ). (x.id, l) ∷ parts_of bytes (all_placed (end_at start x) xs)) here
+    ap (λ (l : List ℕ). (x.id, l) ∷ section_parts_of bytes (all_placed (end_at start x) xs)) here
     ∙ ap (λ (l : List (SectionId × List ℕ)). part x ∷ l) (parts_are xs (end_at start x) bytes (before ++ code_of x) behind at_rest piece_len)
 
 -- ---- modules
@@ -133,7 +133,7 @@ pub record IsModuleView (bytes : List ℕ) (sections : List Section) : Type 0 wh
   pub sorted : AreSorted 0 pieces
   pub final : AreFinal (parts pieces)
 
-pub module_parts : (bytes : List ℕ) (xs : List Piece) → bytes ≡ preamble ++ joined xs → parts_of bytes (all_placed 8 xs) ≡ parts xs
+pub module_parts : (bytes : List ℕ) (xs : List Piece) → bytes ≡ preamble ++ joined xs → section_parts_of bytes (all_placed 8 xs) ≡ parts xs
 module_parts bytes xs e = parts_are xs 8 bytes preamble [] (e ∙ ap (λ (l : List ℕ). preamble ++ l) (sym (append-nil (joined xs)))) refl
 
 pub of_module : (bytes : List ℕ) (ss : List Section) → SpellsModule bytes ss → IsModuleView bytes ss
@@ -146,7 +146,7 @@ of_module bytes ss m =
       are = v.are;
       counted = v.counted;
       sorted = sorted v.pieces 8 0 (subst (AreInOrder 0) v.are m.ordered);
-      final = subst AreFinal (ap (parts_of bytes) v.are ∙ module_parts bytes v.pieces e) m.final;
+      final = subst AreFinal (ap (section_parts_of bytes) v.are ∙ module_parts bytes v.pieces e) m.final;
     }
 
 -- the pieces spell a module

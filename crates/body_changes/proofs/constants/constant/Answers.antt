@@ -3,7 +3,7 @@ use Rattle.std.proofs.Common.{◌≡◌, ℕ, [], Some, sym, ap, ◌∙◌, subs
 use Rattle.std.specs.Prelude.{IsTrue}
 use Rattle.wasm_code.specs.Instruction.{Instruction, fits_row}
 use Rattle.wasm_code.specs.Table.{row_at}
-use Rattle.peephole_machine.specs.Row.{instruction_types}
+use Rattle.wasm_execution.specs.Row.{instruction_types}
 use Rattle.body_changes.proofs.ConstantLemmas.{constant_fits, constant_typed}
 use Rattle.body_changes.proofs.constants.constant.Goals as goal
 

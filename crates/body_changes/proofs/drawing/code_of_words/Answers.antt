@@ -4,7 +4,7 @@ use Rattle.std.proofs.lemmas.Grind.{common_steps}
 use Rattle.std.proofs.lemmas.List.Elements.{All-pop}
 use Rattle.body_changes.specs.declared.goal.Goal.{Goal}
 use Rattle.body_changes.specs.declared.goal.Words.{Words}
-use Rattle.body_changes.specs.Goals.{context_for, HasDrawn, IsOpen}
+use Rattle.body_changes.specs.Goals.{context_for, HasDrawn, GoalIsOpen}
 use Rattle.body_changes.proofs.DrawingLemmas.{drawing_goes_on, drawing_stays, drawing_ends, drawn_plain, only_goes_on, only_stays, only_ends}
 use Rattle.body_changes.proofs.drawing.code_of_words.Goals.{in-Some+in_ok-draw_next, in_default}
 use Rattle.body_changes.proofs.drawing.code_of_words.Goals as goal
@@ -20,7 +20,7 @@ loop-step-preserved c =
     elim c.match-pop.branch [
       | in-Some+in_ok-draw_next w ↦
           let items = rw w.in-Some.is at c.pop.ensures.items in
-          let open_goals = All-pop (IsOpen context) c.loop-step.goals.items c.pop.new.self.items c.pop.result c.pop.ensures.items
+          let open_goals = All-pop (GoalIsOpen context) c.loop-step.goals.items c.pop.new.self.items c.pop.result c.pop.ensures.items
           c.loop-step.invariant.drawing.some in
           let is_open = rw w.in-Some.is at open_goals.1 in
           let drawn = w.in_ok-draw_next.ensures in

@@ -1,5 +1,5 @@
 -- Operator by operator.
-use Rattle.peephole_machine.specs.Values.{context_in}
+use Rattle.wasm_execution.specs.Values.{context_in}
 use Rattle.body_changes.proofs.PassLemmas.{none_before, one_unit_more}
 use Rattle.body_changes.proofs.units.units_of.Goals as goal
 

@@ -1,5 +1,5 @@
 -- The units of the operators so far.
-use Rattle.peephole_machine.specs.Values.{context_in}
+use Rattle.wasm_execution.specs.Values.{context_in}
 use Rattle.body_changes.specs.Pass.{AreUnitsBefore, AreValues}
 use Rattle.body_changes.proofs.units.units_of.Given as goal
 

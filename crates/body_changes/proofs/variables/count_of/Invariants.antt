@@ -1,7 +1,7 @@
 -- How many of the types so far are that one.
 use Rattle.std.proofs.Common.{◌≡◌, ◌≤◌, take}
 use Rattle.std.specs.Prelude.{count_by}
-use Rattle.peephole_machine.specs.Values.{same_type}
+use Rattle.wasm_execution.specs.Values.{same_type}
 use Rattle.body_changes.proofs.variables.count_of.Given as goal
 
 abbrev pub invariant-loop-i : goal.invariant-loop-i

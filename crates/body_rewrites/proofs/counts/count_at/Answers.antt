@@ -9,7 +9,8 @@ use Rattle.body_rewrites.specs.Places.{context_of}
 use Rattle.body_rewrites.specs.Roots.{IsClassAt}
 use Rattle.body_rewrites.proofs.AskingLemmas.{candidates_few, is_asked}
 use Rattle.body_rewrites.proofs.CounterLemmas.{counts_all}
-use Rattle.body_rewrites.proofs.CountingLemmas.{filter_asked, less_room, room_behind}
+use Rattle.body_rewrites.proofs.CountingLemmas.{less_room, room_behind}
+use Rattle.body_rewrites.proofs.CountingBounds.{filter_asked}
 use Rattle.body_rewrites.proofs.OwnFindLemmas.{tree_told}
 use Rattle.body_rewrites.proofs.counts.count_at.Goals as goal
 

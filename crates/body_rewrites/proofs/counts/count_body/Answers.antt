@@ -1,7 +1,7 @@
 -- Operator by operator.
 use Rattle.std.proofs.Common.{rules, ◌<◌, ◌^◌}
 use Rattle.body_rewrites.specs.Places.{context_of}
-use Rattle.body_rewrites.proofs.CountingLemmas.{counts_have_room, counts_more}
+use Rattle.body_rewrites.proofs.CountingBounds.{counts_have_room, counts_more}
 use Rattle.body_rewrites.proofs.counts.count_body.Goals as goal
 
 pub count_at-requires-clause-room : goal.count_at-requires-clause-room

@@ -4,7 +4,7 @@ use Rattle.body_rewrites.specs.declared.rewrite.Rewrite.{Rewrite}
 use Rattle.body_rewrites.specs.Asking.{rewrites_of}
 use Rattle.body_rewrites.specs.Listing.{AreThose, HasGrowth}
 use Rattle.body_rewrites.specs.Places.{context_of}
-use Rattle.body_rewrites.proofs.CountingLemmas.{passed_to, passed_over, passed_all}
+use Rattle.body_rewrites.proofs.CountingBounds.{passed_to, passed_over, passed_all}
 use Rattle.body_rewrites.proofs.counts.find_rewrite.Goals as goal
 
 pub loop-at-init : goal.loop-at-init

@@ -2,7 +2,7 @@
 use Rattle.std.proofs.Common.{Vec, sym, ap, ◌∙◌, arith}
 use Rattle.std.specs.Global.{Global}
 use Rattle.body_rewrites.specs.declared.asked.Asked.{Asked}
-use Rattle.body_rewrites.proofs.CountingLemmas.{of_rule_next, of_rule_skip}
+use Rattle.body_rewrites.proofs.CountingBounds.{of_rule_next, of_rule_skip}
 use Rattle.body_rewrites.proofs.counts.lines_of.Goals.{then-is_of+in_ok-add_numbered, else-is_of}
 use Rattle.body_rewrites.proofs.counts.lines_of.Goals as goal
 

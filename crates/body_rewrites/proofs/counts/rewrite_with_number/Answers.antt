@@ -6,7 +6,8 @@ use Rattle.body_rewrites.specs.Counting.{is_of, asked_of}
 use Rattle.body_rewrites.specs.Listing.{AreThose, HasGrowth}
 use Rattle.body_rewrites.specs.Places.{context_of}
 use Rattle.body_rewrites.proofs.AskingLemmas.{is_asked, if_ok}
-use Rattle.body_rewrites.proofs.CountingLemmas.{filter_asked, those_of_lines, if_some, if_none}
+use Rattle.body_rewrites.proofs.CountingLemmas.{if_some, if_none}
+use Rattle.body_rewrites.proofs.CountingBounds.{filter_asked, those_of_lines}
 use Rattle.body_rewrites.proofs.counts.rewrite_with_number.Goals as goal
 
 pub find_rewrite-requires-clause-lines : goal.find_rewrite-requires-clause-lines

@@ -7,7 +7,8 @@ use Rattle.body_rewrites.proofs.layout.add_row.Goals as goal
 
 pub returns-then-not-may_serve-clause-added : goal.returns-then-not-may_serve-clause-added
 returns-then-not-may_serve-clause-added c = λ lines so.
-    row_skipped c.args.exact c.args.used.now c.args.number c.args.row c.form_of-form.result c.form_of-form.ensures (c.may_serve.ensures c.if-not-may_serve.true) lines
+    row_skipped c.args.exact c.args.used.now c.args.number c.args.row c.form_of-form.result c.form_of-form.ensures
+    (c.may_serve.ensures c.if-not-may_serve.true) lines
     c.args.lists.now c.args.alone.now.items so
 
 pub returns-in-Some-clause-added : goal.returns-in-Some-clause-added

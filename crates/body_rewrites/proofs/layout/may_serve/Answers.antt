@@ -1,6 +1,6 @@
 -- Of each width.
 use Rattle.std.proofs.Common.{List, sym, ap, subst, ◌∙◌}
-use Rattle.peephole_machine.specs.declared.integer.IntegerType.{IntegerType}
+use Rattle.wasm_execution.specs.declared.integer.IntegerType.{IntegerType}
 use Rattle.body_rewrites.specs.Asking.{NoneServes}
 use Rattle.body_rewrites.specs.Listing.{widths_told}
 use Rattle.body_rewrites.specs.Rewrites.{asked_widths}

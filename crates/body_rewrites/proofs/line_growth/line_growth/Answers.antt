@@ -7,7 +7,7 @@ use Rattle.body_rewrites.specs.Rewrites.{MakesBy}
 use Rattle.body_rewrites.proofs.MadeLemmas.{if_found}
 use Rattle.body_rewrites.proofs.FormLemmas.{form_own, form_alone, growth_told, is_line, some_is, none_is}
 use Rattle.body_rewrites.proofs.OwnFindLemmas.{tree_told}
-use Rattle.body_rewrites.proofs.AloneLineLemmas.{alone_some, alone_none}
+use Rattle.body_rewrites.proofs.AloneLineApplies.{alone_some, alone_none}
 use Rattle.body_rewrites.proofs.line_growth.line_growth.Goals as goal
 
 pub returns-in-Own-clause-some : goal.returns-in-Own-clause-some

@@ -3,7 +3,7 @@ use Rattle.std.proofs.Common.{sym, ap, ◌∙◌}
 use Rattle.std.proofs.lemmas.Bool.{false≢true}
 use Rattle.body_rewrites.specs.Places.{context_of}
 use Rattle.rewrite_rules.specs.Table.{parts_for}
-use Rattle.body_rewrites.specs.Rewrites.{growth_by}
+use Rattle.body_rewrites.specs.Rewrites.{growth_by_sizes}
 use Rattle.body_rewrites.specs.Writing.{parts_count}
 use Rattle.body_rewrites.proofs.GrowingLemmas.{place_grows, place_keeps}
 use Rattle.body_rewrites.proofs.LineMakingLemmas.{differs_there}
@@ -17,8 +17,8 @@ returns-in-Shrinks-clause-some c =
     let found = rw c.in-Some.is at c.place_of.ensures.some in
     place_grows (context_of c.args.body.now) operators line c.args.at place found _ (λ e. cc)
     (sym c.in-Shrinks.is ∙ (c.side_growth.ensures
-    ∙ ap (λ side. growth_by c.saturating_sub-old.result (parts_count operators place.operands (parts_for line.width side))) c.right.ensures
-    ∙ ap (λ old. growth_by old (parts_count operators place.operands (parts_for line.width line.row.right))) c.saturating_sub-old.ensures))
+    ∙ ap (λ side. growth_by_sizes c.saturating_sub-old.result (parts_count operators place.operands (parts_for line.width side))) c.right.ensures
+    ∙ ap (λ old. growth_by_sizes old (parts_count operators place.operands (parts_for line.width line.row.right))) c.saturating_sub-old.ensures))
 
 pub returns-in-Grows-clause-some : goal.returns-in-Grows-clause-some
 returns-in-Grows-clause-some c =
@@ -28,8 +28,8 @@ returns-in-Grows-clause-some c =
     let found = rw c.in-Some.is at c.place_of.ensures.some in
     place_grows (context_of c.args.body.now) operators line c.args.at place found _ (λ e. cc)
     (sym c.in-Grows.is ∙ (c.side_growth.ensures
-    ∙ ap (λ side. growth_by c.saturating_sub-old.result (parts_count operators place.operands (parts_for line.width side))) c.right.ensures
-    ∙ ap (λ old. growth_by old (parts_count operators place.operands (parts_for line.width line.row.right))) c.saturating_sub-old.ensures))
+    ∙ ap (λ side. growth_by_sizes c.saturating_sub-old.result (parts_count operators place.operands (parts_for line.width side))) c.right.ensures
+    ∙ ap (λ old. growth_by_sizes old (parts_count operators place.operands (parts_for line.width line.row.right))) c.saturating_sub-old.ensures))
 
 pub returns-else-not-changes-clause-some : goal.returns-else-not-changes-clause-some
 returns-else-not-changes-clause-some c =
@@ -40,8 +40,8 @@ returns-else-not-changes-clause-some c =
     place_keeps (context_of c.args.body.now) operators line c.args.at place found _
     (c.changes.ensures.0 c.if-not-changes.false)
     (sym c.in-Keeps.is ∙ (c.side_growth.ensures
-    ∙ ap (λ side. growth_by c.saturating_sub-old.result (parts_count operators place.operands (parts_for line.width side))) c.right.ensures
-    ∙ ap (λ old. growth_by old (parts_count operators place.operands (parts_for line.width line.row.right))) c.saturating_sub-old.ensures))
+    ∙ ap (λ side. growth_by_sizes c.saturating_sub-old.result (parts_count operators place.operands (parts_for line.width side))) c.right.ensures
+    ∙ ap (λ old. growth_by_sizes old (parts_count operators place.operands (parts_for line.width line.row.right))) c.saturating_sub-old.ensures))
 
 pub returns-then-not-changes-clause-none : goal.returns-then-not-changes-clause-none
 returns-then-not-changes-clause-none c = λ change is.

@@ -6,7 +6,7 @@ use Rattle.body_rewrites.specs.declared.asked.Asked.{Asked}
 use Rattle.body_rewrites.specs.Asking.{all_asked, is_ready, rewrite_of, rewrites_of, AreAsked, IsAskedSo}
 use Rattle.body_rewrites.specs.Listing.{AreFound, AddsFound}
 use Rattle.body_rewrites.specs.Places.{context_of}
-use Rattle.body_rewrites.proofs.CountingLemmas.{filter_asked}
+use Rattle.body_rewrites.proofs.CountingBounds.{filter_asked}
 use Rattle.body_rewrites.proofs.ExactnessLemmas.{found_ready}
 use Rattle.body_rewrites.proofs.AskingLemmas.{is_asked, asked_at, added_next, rewrites_are, all_added}
 use Rattle.body_rewrites.proofs.listing.rewrites_at.Goals as goal

@@ -13,6 +13,7 @@ returns-in-Own-clause-some c =
     let (change, own, written) = is (context_of c.args.body.now) refl c.requires.lists in
     record {
       change = change;
-      makes = subst (λ (w : Widths). MakesBy (context_of c.args.body.now) c.args.body.now.operators.now c.args.line.now c.args.at change w) (sym c.in-Own.is ∙ c.widths.ensures) own;
+      makes = subst (λ (w : Widths). MakesBy (context_of c.args.body.now) c.args.body.now.operators.now c.args.line.now c.args.at change w)
+          (sym c.in-Own.is ∙ c.widths.ensures) own;
       written = written;
     }) c.own_code.ensures.some

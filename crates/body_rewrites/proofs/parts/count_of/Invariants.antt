@@ -1,6 +1,6 @@
 -- Each so far is one.
 use Rattle.std.proofs.Common.{◌≡◌, ◌+◌, drop, length}
-use Rattle.peephole_machine.specs.declared.integer.IntegerType.{IntegerType}
+use Rattle.wasm_execution.specs.declared.integer.IntegerType.{IntegerType}
 use Rattle.rewrite_rules.specs.Table.{parts_for}
 use Rattle.body_rewrites.proofs.parts.count_of.Given as goal
 

@@ -16,6 +16,8 @@ pub loop-at-preserved : goal.loop-at-preserved
 loop-at-preserved c =
     let rows = c.as_slice-in-loop-at.result.now in
     reached_more (context_of c.args.body.now) c.args.body.now.operators.now rows (subst AreRules (sym c.as_slice-in-loop-at.ensures.value) c.in_ok-rows.ensures)
-    c.args.rules.now c.args.wanted.now c.one_change.ensures c.loop-at.at c.loop-at-test.true c.in_ok-found.found.items c.in_ok-found.ensures c.loop-at.marks.items c.push.new.self.items
+    c.args.rules.now c.args.wanted.now c.one_change.ensures c.loop-at.at c.loop-at-test.true c.in_ok-found.found.items c.in_ok-found.ensures
+    c.loop-at.marks.items c.push.new.self.items
     (c.in_ok-push.ensures.items
-    ∙ ap (λ b. c.loop-at.marks.items ++ b ∷ []) (c.has_wanted.ensures ∙ ap (has_wanted rows c.args.rules.now c.args.wanted.now) c.as_slice-in-loop-at-2.ensures.value)) c.loop-at.invariant
+    ∙ ap (λ b. c.loop-at.marks.items ++ b ∷ []) (c.has_wanted.ensures
+    ∙ ap (has_wanted rows c.args.rules.now c.args.wanted.now) c.as_slice-in-loop-at-2.ensures.value)) c.loop-at.invariant

@@ -1,7 +1,7 @@
 -- Both are asked.
 use Rattle.std.proofs.Common.{refl, sym, subst}
-use Rattle.peephole_machine.specs.declared.integer.IntegerType.{IntegerType}
-use Rattle.peephole_machine.specs.declared.integer.IntegerType.TheVariants.{I32, I64}
+use Rattle.wasm_execution.specs.declared.integer.IntegerType.{IntegerType}
+use Rattle.wasm_execution.specs.declared.integer.IntegerType.TheVariants.{I32, I64}
 use Rattle.rewrite_rules.specs.declared.table.Widths.TheVariants.{Both}
 use Rattle.body_rewrites.specs.Rewrites.{asked_widths, HasWidth}
 use Rattle.body_rewrites.proofs.rewriting.is_asked.Goals as goal

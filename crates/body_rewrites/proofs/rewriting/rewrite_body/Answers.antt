@@ -12,7 +12,8 @@ returns-in_default-clause-none c = λ (change, made).
 
 pub returns-then-rewrite-body-clause-none : goal.returns-then-rewrite-body-clause-none
 returns-then-rewrite-body-clause-none c = λ (change, made).
-    let inside = c.changes_may_stand.ensures.inside (context_of c.args.body.now) c.args.body.now.operators.now made.line c.args.rewrite.operator change made.makes in
+    let inside = c.changes_may_stand.ensures.inside (context_of c.args.body.now) c.args.body.now.operators.now made.line c.args.rewrite.operator
+    change made.makes in
     absurd (omega (arith, inside, c.if-rewrite-body.true))
 
 pub returns-in_default-made-clause-none : goal.returns-in_default-made-clause-none

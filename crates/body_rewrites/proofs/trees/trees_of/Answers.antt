@@ -1,6 +1,6 @@
 -- Operator by operator.
 use Rattle.std.proofs.Common.{◌+◌, sym, subst, arith}
-use Rattle.peephole_machine.specs.Values.{context_in}
+use Rattle.wasm_execution.specs.Values.{context_in}
 use Rattle.body_rewrites.specs.Open.{AreTreesBefore}
 use Rattle.body_rewrites.proofs.PassLemmas.{none_before, one_more, all_trees}
 use Rattle.body_rewrites.proofs.trees.trees_of.Goals as goal

@@ -1,5 +1,5 @@
 -- The trees of the operators so far.
-use Rattle.peephole_machine.specs.Values.{context_in}
+use Rattle.wasm_execution.specs.Values.{context_in}
 use Rattle.body_rewrites.specs.Open.{AreOpen, AreTreesBefore}
 use Rattle.body_rewrites.proofs.trees.trees_of.Given as goal
 

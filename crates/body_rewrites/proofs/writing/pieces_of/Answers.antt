@@ -3,11 +3,11 @@ use Rattle.std.proofs.Common.{◌≡◌, ℕ, suc, ◌+◌, ◌<◌, List, [], �
 use Rattle.std.specs.List.{All}
 use Rattle.std.proofs.Math.Seq.{drop-cons}
 use Rattle.std.proofs.lemmas.List.Elements.{All-head, All-tail}
-use Rattle.peephole_machine.specs.declared.integer.IntegerType.{IntegerType}
+use Rattle.wasm_execution.specs.declared.integer.IntegerType.{IntegerType}
 use Rattle.rewrite_rules.specs.declared.pattern.Part.{Part}
 use Rattle.rewrite_rules.specs.declared.table.Step.{Step}
 use Rattle.rewrite_rules.specs.declared.table.Step.TheVariants.{Operand}
-use Rattle.rewrite_rules.specs.Table.{part_for, up_to_none, parts_for, IsInstruction}
+use Rattle.rewrite_rules.specs.Table.{part_for, up_to_none, parts_for, PartIsInstruction}
 use Rattle.rewrite_rules.specs.Numbers.{constant_at}
 use Rattle.rewrite_rules.specs.Parts.{draws}
 use Rattle.body_rewrites.specs.Writing.{piece_for, side_pieces}
@@ -20,8 +20,8 @@ next_part t steps i p l e =
 
 pub piece_of-requires : goal.piece_of-requires
 piece_of-requires c =
-    All-head IsInstruction c.in-Some.part (parts_for c.args.width (drop (suc c.loop-i.i) c.args.side.now))
-    (subst (All IsInstruction)
+    All-head PartIsInstruction c.in-Some.part (parts_for c.args.width (drop (suc c.loop-i.i) c.args.side.now))
+    (subst (All PartIsInstruction)
     (next_part c.args.width c.args.side.now c.loop-i.i c.in-Some.part (omega (arith, c.loop-i-test.true, c.told-side)) (sym c.part.ensures ∙ c.in-Some.is))
     c.loop-i.invariant.2)
 
@@ -43,6 +43,6 @@ loop-i-preserved c =
           ∙ ap₂ (λ a b. a ++ b) (ap (λ p. old ++ p ∷ []) (sym c.piece_of.ensures) ∙ sym c.push.ensures.items)
           (ap₂ (λ words i. pieces words (parts_for width (drop i side))) (sym c.words_after-words.ensures) next))),
       omega (arith, c.push.ensures.len, c.loop-i.invariant.1),
-      subst (λ i. All IsInstruction (parts_for width (drop i side))) next
-          (All-tail IsInstruction part (parts_for width (drop (suc c.loop-i.i) side)) (subst (All IsInstruction) parts c.loop-i.invariant.2)),
+      subst (λ i. All PartIsInstruction (parts_for width (drop i side))) next
+          (All-tail PartIsInstruction part (parts_for width (drop (suc c.loop-i.i) side)) (subst (All PartIsInstruction) parts c.loop-i.invariant.2)),
     )

@@ -11,7 +11,8 @@ use Rattle.module_changes.proofs.attempt.change_once.Goals as goal
 pub returns-clause-chosen : goal.returns-clause-chosen
 returns-clause-chosen g c =
     IfOk-weaker c.change_chosen.result
-    (λ (m : Step). ChoosesLater (itself c.args.bytes.now c.in-Ok.module.info c.in-Ok.module.layout) c.args.scope.now c.args.bytes.now c.in-Ok.module.info c.in-Ok.module.layout (g.R.Rng.stream c.args.generator.now) m.made
+    (λ (m : Step). ChoosesLater (itself c.args.bytes.now c.in-Ok.module.info c.in-Ok.module.layout) c.args.scope.now c.args.bytes.now
+    c.in-Ok.module.info c.in-Ok.module.layout (g.R.Rng.stream c.args.generator.now) m.made
     m.bytes.items (g.R.Rng.stream c.change_chosen.new.generator))
     (λ (m : Step). ChoosesOne c.args.scope.now c.args.bytes.now (g.R.Rng.stream c.args.generator.now) m.made m.bytes.items
     (g.R.Rng.stream c.change_chosen.new.generator))
@@ -27,7 +28,8 @@ returns-clause-chosen g c =
 pub returns-clause-fails : goal.returns-clause-fails
 returns-clause-fails g c =
     IfErr-weaker c.change_chosen.result
-    (RefusesFrom (itself c.args.bytes.now c.in-Ok.module.info c.in-Ok.module.layout) c.args.scope.now c.args.bytes.now c.in-Ok.module.info c.in-Ok.module.layout (g.R.Rng.stream c.args.generator.now))
+    (RefusesFrom (itself c.args.bytes.now c.in-Ok.module.info c.in-Ok.module.layout) c.args.scope.now c.args.bytes.now c.in-Ok.module.info
+    c.in-Ok.module.layout (g.R.Rng.stream c.args.generator.now))
     (IsRefusal c.args.scope.now c.args.bytes.now (g.R.Rng.stream c.args.generator.now))
     (refuses c.args.scope.now c.args.bytes.now c.in-Ok.module.info c.in-Ok.module.layout (g.R.Rng.stream c.args.generator.now) c.in-Ok.ensures.read
     c.in-Ok.ensures.unmarked)

@@ -1,6 +1,6 @@
 -- Words once more.
 use Rattle.std.proofs.Common.{◌≡◌, ◌+◌, ◌∙◌, sym, subst, arith}
-use Rattle.module_changes.specs.Chosen.{draws}
+use Rattle.module_changes.specs.Chosen.{most_drawn_times}
 use Rattle.module_changes.specs.Entry.{donor_of, AllTried}
 use Rattle.module_changes.specs.declared.refusal.Refusal.{Refusal}
 use Rattle.module_changes.proofs.TimesLemmas.{gives_up, large_more, nothing_more, VainSoFar}
@@ -34,6 +34,6 @@ draws-preserved g c =
 
 pub returns-clause-none : goal.returns-clause-none
 returns-clause-none g c =
-    let all : c.draws.counter ≡ draws = omega (arith, c.draws-test.false, c.draws.auto.counter-end) in
+    let all : c.draws.counter ≡ most_drawn_times = omega (arith, c.draws-test.false, c.draws.auto.counter-end) in
     gives_up (donor_of c.args.source.now) c.args.scope.now c.args.reading.now.bytes.now c.args.reading.now.info.now c.args.reading.now.layout.now
     (g.R.Rng.stream c.args.generator.now) c.draws.counter c.draws.refusal (g.R.Rng.stream c.draws.generator) c.requires.there all c.draws.invariant

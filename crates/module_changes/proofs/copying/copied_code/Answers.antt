@@ -8,4 +8,5 @@ returns-in-Some-clause-copied c = λ may.
 
 pub returns-in-None-clause-copied : goal.returns-in-None-clause-copied
 returns-in-None-clause-copied c = λ may.
-    nothing c.entry_named-n.result (rw c.word_at.ensures at c.entry_named-n.ensures.named) (rw c.in-None.is at c.in_ok-code.ensures.none) c.new-in-None.ensures.items
+    nothing c.entry_named-n.result (rw c.word_at.ensures at c.entry_named-n.ensures.named) (rw c.in-None.is at c.in_ok-code.ensures.none)
+    c.new-in-None.ensures.items

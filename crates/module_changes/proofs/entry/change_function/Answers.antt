@@ -1,7 +1,7 @@
 -- The function's body in the module, and the module with it.
 use Rattle.std.proofs.Common.{ℕ, ◌≤◌, ◌++◌, length, subst, sym, ◌∙◌}
 use Rattle.body_splices.specs.OwnBytes.{IsBodyIn}
-use Rattle.wasm_declarations.specs.declared.entries.Entry.{Entry}
+use Rattle.wasm_lists.specs.declared.entries.Entry.{Entry}
 use Rattle.module_rewrites.specs.Mutated.{IsBehindLocals}
 use Rattle.std.proofs.lemmas.Option.{same_Some}
 use Rattle.module_changes.specs.Entry.{choice_of, IsLarge}
@@ -16,7 +16,8 @@ change_body-requires-clause-body c =
 
 pub returns-in_default-clause-tried : goal.returns-in_default-clause-tried
 returns-in_default-clause-tried c =
-    none_here (choice_of c.args.trial.now) c.args.reading.now.bytes.now c.args.reading.now.info.now c.args.reading.now.layout.now c.args.trial.now.words.now c.args.n
+    none_here (choice_of c.args.trial.now) c.args.reading.now.bytes.now c.args.reading.now.info.now c.args.reading.now.layout.now
+    c.args.trial.now.words.now c.args.n
     c.args.function.now.locals.items c.deref.result.now c.args.function.now.operators.items c.deref-2.result.now c.deref.ensures.value
     c.deref-2.ensures.value c.requires.only (rw c.in_default.is at c.in_ok-changed.ensures.none)
 
@@ -29,7 +30,8 @@ locals_of-locals-requires c =
 
 pub returns-in-Some-2-clause-tried : goal.returns-in-Some-2-clause-tried
 returns-in-Some-2-clause-tried c =
-    makes (choice_of c.args.trial.now) c.args.reading.now.bytes.now c.args.reading.now.info.now c.args.reading.now.layout.now c.args.trial.now.words.now c.args.n
+    makes (choice_of c.args.trial.now) c.args.reading.now.bytes.now c.args.reading.now.info.now c.args.reading.now.layout.now
+    c.args.trial.now.words.now c.args.n
     (record { function = c.function_index.result; change = c.in-Some.changed.change; operator = c.in-Some.changed.at; start = c.in-Some.changed.start })
     c.args.function.now.locals.items c.deref.result.now c.args.function.now.expression c.args.function.now.operators.items c.deref-2.result.now
     c.entry_at.result c.new-body.result c.change_body.new.sink c.locals_of-locals.result.now c.bytes.result.now c.requires.function c.deref.ensures.value
@@ -45,7 +47,8 @@ returns-in-Some-2-clause-tried c =
 
 pub returns-clause-tried : goal.returns-clause-tried
 returns-clause-tried c =
-    does_not_fit (choice_of c.args.trial.now) c.args.reading.now.bytes.now c.args.reading.now.info.now c.args.reading.now.layout.now c.args.trial.now.words.now c.args.n
+    does_not_fit (choice_of c.args.trial.now) c.args.reading.now.bytes.now c.args.reading.now.info.now c.args.reading.now.layout.now
+    c.args.trial.now.words.now c.args.n
     (record { function = 0; change = c.in-Some.changed.change; operator = c.in-Some.changed.at; start = c.in-Some.changed.start })
     c.args.function.now.locals.items c.deref.result.now c.args.function.now.expression c.args.function.now.operators.items c.deref-2.result.now
     c.entry_at.result c.new-body.result c.change_body.new.sink c.locals_of-locals.result.now c.bytes.result.now c.requires.function c.deref.ensures.value

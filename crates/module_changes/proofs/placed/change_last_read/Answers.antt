@@ -26,7 +26,8 @@ returns-in_default-clause-refused c =
     let operators = c.in-Ok.function.operators.items in
     let sized : c.len.result ≡ length operators = grind (arith, common_steps) in
     let end : c.min.result ≡ min at.end (length operators) = c.min.ensures ∙ ap (min at.end) sized in
-    none_here at size bytes info layout c.requires.reading c.requires.unmarked c.args.n c.requires.inside c.requires.function locals operators c.in-Ok.ensures.only
+    none_here at size bytes info layout c.requires.reading c.requires.unmarked c.args.n c.requires.inside c.requires.function locals operators
+    c.in-Ok.ensures.only
     (subst (NoneWithin (MakesIn c.args.reading.now c.in-Ok.function at.change) at.first) end (rw c.in_default.is at c.in_ok-operator.ensures.none))
 
 pub returns-in-Made-clause-made : goal.returns-in-Made-clause-made
@@ -44,7 +45,8 @@ returns-in-Made-clause-made c =
     let k = c.in-Some.operator in
     let below : k < min at.end (length operators) = subst (λ (n : ℕ). k < n) end found.1 in
     let tried : IsTried (choice_at at size) bytes info layout (words_at k) c.args.n c.in_ok-made.field-0 = c.in_ok-made.ensures.tried in
-    made_last at size bytes info layout c.requires.reading c.requires.unmarked c.args.n c.requires.inside c.requires.function locals operators c.in-Ok.ensures.only k found.0 below
+    made_last at size bytes info layout c.requires.reading c.requires.unmarked c.args.n c.requires.inside c.requires.function locals operators
+    c.in-Ok.ensures.only k found.0 below
     found.2 (subst (NoneWithin (MakesIn c.args.reading.now c.in-Ok.function at.change) (k + 1)) end found.3) c.in-Made.made c.in-Made.bytes.items
     (subst (λ (a : Attempt). IsTried (choice_at at size) bytes info layout (words_at k) c.args.n a) c.in-Made.is tried)
 
@@ -63,7 +65,8 @@ unreachable-requires c =
     let k = c.in-Some.operator in
     let below : k < min at.end (length operators) = subst (λ (n : ℕ). k < n) end found.1 in
     let tried : IsTried (choice_at at size) bytes info layout (words_at k) c.args.n c.in_ok-made.field-0 = c.in_ok-made.ensures.tried in
-    never_unchanged at size bytes info layout c.requires.reading c.requires.unmarked c.args.n c.requires.inside c.requires.function locals operators c.in-Ok.ensures.only k found.0
+    never_unchanged at size bytes info layout c.requires.reading c.requires.unmarked c.args.n c.requires.inside c.requires.function locals operators
+    c.in-Ok.ensures.only k found.0
     below found.2 c.in-Ok.function.expression c.in-Ok.ensures.read
     (subst (λ (a : Attempt). IsTried (choice_at at size) bytes info layout (words_at k) c.args.n a) c.in-Unchanged.is tried)
 
@@ -82,6 +85,7 @@ returns-clause-refused c =
     let k = c.in-Some.operator in
     let below : k < min at.end (length operators) = subst (λ (n : ℕ). k < n) end found.1 in
     let tried : IsTried (choice_at at size) bytes info layout (words_at k) c.args.n c.in_ok-made.field-0 = c.in_ok-made.ensures.tried in
-    large_here at size bytes info layout c.requires.reading c.requires.unmarked c.args.n c.requires.inside c.requires.function locals operators c.in-Ok.ensures.only k found.0 below
+    large_here at size bytes info layout c.requires.reading c.requires.unmarked c.args.n c.requires.inside c.requires.function locals operators
+    c.in-Ok.ensures.only k found.0 below
     found.2 (subst (NoneWithin (MakesIn c.args.reading.now c.in-Ok.function at.change) (k + 1)) end found.3)
     (subst (λ (a : Attempt). IsTried (choice_at at size) bytes info layout (words_at k) c.args.n a) c.in-TooLarge.is tried)

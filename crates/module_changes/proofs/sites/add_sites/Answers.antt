@@ -18,7 +18,11 @@ loop-change-preserved c =
           let found = rw w.in-Some.is at c.in_ok-made.ensures.made in
           subst (λ sites. AddsSites Makes (take (k + 1) changes) operator old sites.items) (sym w.sites-is)
           (adds_one Makes changes operator k _ c.loop-change-test.true old c.loop-change.sites.items w.push.new.self.items w.in-Some.made.change
-          w.in-Some.made.at c.loop-change.invariant found.0 found.1 found.2 (w.in-Some.made.start, w.in-Some.made.code.items, found.3.is) w.in_ok-push.ensures.items)
+          w.in-Some.made.at c.loop-change.invariant found.0 found.1 found.2 (
+            w.in-Some.made.start,
+            w.in-Some.made.code.items,
+            found.3.is,
+          ) w.in_ok-push.ensures.items)
       | in_default w ↦
           subst (λ sites. AddsSites Makes (take (k + 1) changes) operator old sites.items) (sym w.sites-is)
           (adds_nothing Makes changes operator k _ c.loop-change-test.true old c.loop-change.sites.items c.loop-change.invariant

@@ -1,7 +1,7 @@
 -- Those of one operator more.
 use Rattle.std.proofs.Common.{◌≡◌, ℕ, suc, [], ◌+◌, length, subst, arith}
 use Rattle.body_changes.specs.Body.{ChangesIn}
-use Rattle.body_changes.specs.Replacing.{context_of}
+use Rattle.body_changes.specs.Replacing.{source_context}
 use Rattle.body_changes.specs.declared.changing.Body.{Body}
 use Rattle.body_rewrites.specs.Listing.{AreThose}
 use Rattle.module_changes.specs.Sites.{sites_below, IsSite}
@@ -20,5 +20,5 @@ pub returns : goal.returns
 returns c =
     let source = c.args.source.now in
     let all : c.loop-operator.operator ≡ length source.operators.now = omega (arith, c.loop-operator-test.false, c.loop-operator.auto.operator-end) in
-    sites_so (context_of source) source.operators.now c.in_ok-copied.copied.code.now c.args.changes.now c.loop-operator.operator c.loop-operator.sites.items
+    sites_so (source_context source) source.operators.now c.in_ok-copied.copied.code.now c.args.changes.now c.loop-operator.operator c.loop-operator.sites.items
     c.in_ok-copied.ensures.code all c.loop-operator.invariant

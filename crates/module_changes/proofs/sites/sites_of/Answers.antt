@@ -1,7 +1,7 @@
 -- By what was read of the function.
 use Rattle.std.proofs.Common.{subst, sym}
 use Rattle.std.proofs.lemmas.Result.{IfOk-weaker}
-use Rattle.peephole_machine.specs.Values.{context_in}
+use Rattle.wasm_execution.specs.Values.{context_in}
 use Rattle.module_changes.specs.Sites.{AreSites, AreSitesOf}
 use Rattle.module_changes.proofs.SitesLemmas.{of_read, of_unread}
 use Rattle.module_changes.proofs.sites.sites_of.Goals as goal

@@ -1,7 +1,7 @@
 -- What is told is of the module that was written.
 use Rattle.std.proofs.Common.{◌∙◌, ℕ, List, ap, subst}
 use Rattle.std.specs.Io.KnownBytes.{Appends}
-use Rattle.module_commands.specs.Form.{form_of}
+use Rattle.module_commands.specs.Form.{output_form_of}
 use Rattle.module_commands.proofs.ChangeShownLemmas.{told_text}
 use Rattle.module_commands.proofs.changing.write_changed.Goals as goal
 
@@ -26,7 +26,8 @@ returns-clause-told g c =
       before = c.in_ok-report_asked_module.ensures.tells;
       shown = new.shown.items;
       shown_are = c.in_ok-new.ensures.shown;
-      changes = told_text options.stats options.show options.place (form_of options) c.args.bytes.now new.module.made.items new.module.stopped new.module.bytes.items
+      changes = told_text options.stats options.show options.place (output_form_of options) c.args.bytes.now new.module.made.items new.module.stopped
+          new.module.bytes.items
           new.shown.items c.deref-2.result.now between behind c.in_ok-new.ensures.shown (c.deref-2.ensures.value ∙ c.in_ok-told.ensures.told)
           (λ wanted. c.in_ok-show.ensures.shown (c.is_told.ensures ∙ wanted))
           (λ wanted. ap g.E.Write.contents (c.in_ok-show.ensures.quiet (c.is_told.ensures ∙ wanted)));

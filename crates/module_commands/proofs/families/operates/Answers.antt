@@ -1,7 +1,7 @@
 -- By the opcodes of operators.
 use Rattle.std.proofs.Common.{◌∙◌}
-use Rattle.peephole_machine.specs.IntegerRow.{bare_operator}
-use Rattle.peephole_machine.specs.Operation.{operator_of}
+use Rattle.wasm_execution.specs.IntegerRow.{bare_operator}
+use Rattle.wasm_execution.specs.Operation.{operator_of}
 use Rattle.module_commands.proofs.FamiliesLemmas.{some_alike}
 use Rattle.module_commands.proofs.families.operates.Goals as goal
 

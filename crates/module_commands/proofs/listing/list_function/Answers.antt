@@ -1,6 +1,6 @@
 -- The lines of a function, or none where it can't be read.
 use Rattle.std.proofs.Common.{[], ◌∙◌, ap}
-use Rattle.module_commands.specs.Form.{form_of}
+use Rattle.module_commands.specs.Form.{output_form_of}
 use Rattle.module_commands.specs.Lines.{rewrite_lines}
 use Rattle.module_commands.specs.Scope.{scope_of}
 use Rattle.module_commands.specs.declared.form.Form.{Form}
@@ -12,7 +12,7 @@ pub returns-in-Err-clause-lines : goal.returns-in-Err-clause-lines
 returns-in-Err-clause-lines g c = (
   [],
   appends_nothing (g.W.Write.contents c.args.output.now),
-  lists_nothing (form_of c.args.options.now) (scope_of c.args.options.now) c.args.bytes.now c.args.wasm.now.info c.args.wasm.now.layout c.args.n
+  lists_nothing (output_form_of c.args.options.now) (scope_of c.args.options.now) c.args.bytes.now c.args.wasm.now.info c.args.wasm.now.layout c.args.n
       c.requires.marked
       (λ l x o f.
       let memory = c.is_memory.ensures.1 (c.in-Err.ensures.only l x o f) in
@@ -26,10 +26,10 @@ returns-clause-lines g c =
     ok_map c.write_rewrites.result (λ h. (
       lines,
       h,
-      lists_function (form_of c.args.options.now) (scope_of c.args.options.now) c.scope.result c.args.bytes.now c.args.wasm.now.info
+      lists_function (output_form_of c.args.options.now) (scope_of c.args.options.now) c.scope.result c.args.bytes.now c.args.wasm.now.info
           c.args.wasm.now.layout c.args.n c.in-Ok.function.locals.items c.in-Ok.function.expression c.in-Ok.function.operators.items
           c.in_ok-rewrites.rewrites.items c.index_of-index.result lines c.scope.ensures
           c.requires.marked c.in-Ok.ensures.read c.in-Ok.ensures.only c.in_ok-rewrites.ensures c.index_of-index.ensures
           (ap (λ (form : Form). rewrite_lines form c.index_of-index.result c.deref.result.now) c.form.ensures
-          ∙ ap (rewrite_lines (form_of c.args.options.now) c.index_of-index.result) c.deref.ensures.value),
+          ∙ ap (rewrite_lines (output_form_of c.args.options.now) c.index_of-index.result) c.deref.ensures.value),
     )) c.write_rewrites.ensures.lines

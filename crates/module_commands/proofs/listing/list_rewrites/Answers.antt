@@ -1,6 +1,6 @@
 -- The lines of each function, one behind another.
 use Rattle.std.proofs.Common.{◌≡◌, ◌+◌, ◌-◌, ◌≤◌, ℕ, [], ◌++◌, refl, sym, subst, arith}
-use Rattle.module_commands.specs.Form.{form_of}
+use Rattle.module_commands.specs.Form.{output_form_of}
 use Rattle.module_commands.specs.Lists.{InTurn, ListsFunction}
 use Rattle.module_commands.specs.Scope.{scope_of}
 use Rattle.module_commands.proofs.TurnLemmas.{appends_more, appends_nothing, turn_more}
@@ -13,7 +13,7 @@ loop-n-init g c =
     let none : 0 ≡ from - from = omega arith in (
       [],
       appends_nothing (g.W.Write.contents c.args.output.now),
-      subst (λ (k : ℕ). InTurn (ListsFunction (form_of options) (scope_of options) c.args.bytes.now c.in_ok-module.module.info
+      subst (λ (k : ℕ). InTurn (ListsFunction (output_form_of options) (scope_of options) c.args.bytes.now c.in_ok-module.module.info
           c.in_ok-module.module.layout) from k []) none refl,
     )
 
@@ -25,7 +25,7 @@ loop-n-preserved g c =
       front.0 ++ own.0,
       appends_more (g.W.Write.contents c.args.output.now) (g.W.Write.contents c.loop-n.output) (g.W.Write.contents c.list_function.new.output)
           front.0 own.0 front.1 own.1,
-      turn_more (ListsFunction (form_of options) (scope_of options) c.args.bytes.now c.in_ok-module.module.info c.in_ok-module.module.layout)
+      turn_more (ListsFunction (output_form_of options) (scope_of options) c.args.bytes.now c.in_ok-module.module.info c.in_ok-module.module.layout)
           c.in_ok-chosen.chosen.start c.loop-n.n front.0 own.0 c.loop-n.auto.n front.2 own.2,
     )
 
@@ -46,7 +46,7 @@ returns-clause-lines g c =
         from = from;
         count = to - from;
         chosen = λ n. rw (sym whole) (c.in_ok-chosen.ensures.chosen n);
-        told = subst (λ (k : ℕ). InTurn (ListsFunction (form_of options) (scope_of options) c.args.bytes.now c.in_ok-module.module.info
+        told = subst (λ (k : ℕ). InTurn (ListsFunction (output_form_of options) (scope_of options) c.args.bytes.now c.in_ok-module.module.info
             c.in_ok-module.module.layout) from (k - from) c.loop-n.invariant.0) end c.loop-n.invariant.2;
       };
       written = c.loop-n.invariant.1;

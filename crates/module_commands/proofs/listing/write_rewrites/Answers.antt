@@ -1,5 +1,5 @@
 -- One line more.
-use Rattle.peephole_machine.specs.declared.integer.IntegerType.TheVariants.{I32}
+use Rattle.wasm_execution.specs.declared.integer.IntegerType.TheVariants.{I32}
 use Rattle.module_commands.proofs.ListingLemmas.{lines_next}
 use Rattle.module_commands.proofs.listing.write_rewrites.Goals as goal
 

@@ -12,7 +12,12 @@ returns-in_ok-module-in-Ok-rewrite_module-clause-shown g c =
     let made = c.in-Ok-rewrite_module.new.made.items in
     let shown = c.in_ok-shown-in-Ok-rewrite_module.shown.items in
     let all : IsShown show made c.rewrite_module.new.watch.text.items =
-    is_shown c.scope-scope.result (record { bytes = c.args.bytes.now; stream = generator.ghosts.stream c.seed_from_u64-generator.result; watcher = c.new-shower.result }) made
+    is_shown c.scope-scope.result (record {
+      bytes = c.args.bytes.now;
+      stream = generator.ghosts.stream c.seed_from_u64-generator.result;
+      watcher =
+          c.new-shower.result;
+    }) made
     (record { bytes = c.in-Ok-rewrite_module.new.bytes.items; stream = c.in-Ok-rewrite_module.ensures.seen.left; watcher = c.rewrite_module.new.watch }) show
     c.in-Ok-rewrite_module.ensures.seen.each c.in_ok-shown-in-Ok-rewrite_module.ensures.text.1 c.new-shower.ensures.wanted c.new-shower.ensures.text in
     subst (λ (ms : List MadeRewrite). IsShown show ms shown) (sym c.in_ok-module-in-Ok-rewrite_module.ensures.made)

@@ -1,7 +1,7 @@
 -- One function more.
 use Rattle.std.proofs.Common.{◌≡◌, ◌≤◌, ℕ, length, refl, subst, arith}
 use Rattle.std.proofs.lemmas.Grind.{common_steps}
-use Rattle.module_commands.specs.Reach.{AreOfEntries, Told}
+use Rattle.module_commands.specs.Reach.{AreOfEntries, ToldReach}
 use Rattle.module_commands.proofs.ReachLemmas.{told_more, told_nothing}
 use Rattle.module_commands.proofs.reach.reach_of.Goals as goal
 
@@ -20,4 +20,4 @@ returns-clause-reach c =
     let past : length entries ≤ c.loop-n.n = grind (arith, common_steps) in
     let within : c.loop-n.n ≤ length entries = grind (arith, common_steps) in
     let end : c.loop-n.n ≡ length entries = omega (arith, past, within) in
-    subst (λ (n : ℕ). Told (AreOfEntries c.args.scope.now c.args.bytes.now c.args.info.now c.args.layout.now n) c.loop-n.reach) end c.loop-n.invariant
+    subst (λ (n : ℕ). ToldReach (AreOfEntries c.args.scope.now c.args.bytes.now c.args.info.now c.args.layout.now n) c.loop-n.reach) end c.loop-n.invariant

@@ -1,6 +1,6 @@
 -- By the marks of reached operators.
 use Rattle.std.proofs.Common.{List, length, sym, ap, ◌∙◌, subst}
-use Rattle.peephole_machine.specs.Values.{context_in}
+use Rattle.wasm_execution.specs.Values.{context_in}
 use Rattle.rewrite_rules.specs.declared.rule.Rule.{Rule}
 use Rattle.body_rewrites.specs.declared.growth.Growth.{Growth}
 use Rattle.body_rewrites.specs.Reached.{AreReached}

@@ -2,7 +2,7 @@
 use Rattle.std.proofs.Common.{◌∙◌, ℕ, List, ap, subst}
 use Rattle.std.specs.Io.KnownBytes.{Appends}
 use Rattle.module_commands.specs.Reports.{rewrites_report}
-use Rattle.module_commands.specs.Form.{form_of}
+use Rattle.module_commands.specs.Form.{output_form_of}
 use Rattle.module_commands.specs.declared.form.Form.{Form}
 use Rattle.module_commands.proofs.TurnLemmas.{appends_more}
 use Rattle.module_commands.proofs.running.write_reported.Goals as goal
@@ -14,7 +14,7 @@ returns-clause-reported g c =
     let middle = g.E.Write.contents c.write_all.new.self in
     let behind = g.E.Write.contents c.write_all-2.new.self in
     let count = new.count in
-    let report = rewrites_report (form_of c.args.options.now) count c.args.bytes.now new.module.made.items new.module.stopped new.module.bytes.items in
+    let report = rewrites_report (output_form_of c.args.options.now) count c.args.bytes.now new.module.made.items new.module.stopped new.module.bytes.items in
     record {
       writes = record {
         made = new.module.made.items;

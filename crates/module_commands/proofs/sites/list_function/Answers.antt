@@ -2,7 +2,7 @@
 use Rattle.std.proofs.Common.{◌∙◌, List, ap, subst}
 use Rattle.body_changes.specs.declared.change.Change.{Change}
 use Rattle.module_changes.specs.Sites.{AreSitesOf}
-use Rattle.module_commands.specs.Form.{form_of}
+use Rattle.module_commands.specs.Form.{output_form_of}
 use Rattle.module_commands.specs.Sites.{site_lines}
 use Rattle.module_commands.specs.declared.form.Form.{Form}
 use Rattle.module_commands.proofs.TurnLemmas.{ok_map}
@@ -21,7 +21,7 @@ returns-clause-lines g c =
             c.in_ok-sites.ensures;
         lines = λ few.
             ap (λ (form : Form). site_lines form index c.deref-2.result.now) c.form.ensures
-            ∙ (ap (site_lines (form_of c.args.options.now) index) c.deref-2.ensures.value
-            ∙ ap (λ i. site_lines (form_of c.args.options.now) i sites) (c.index_of-index.ensures few));
+            ∙ (ap (site_lines (output_form_of c.args.options.now) index) c.deref-2.ensures.value
+            ∙ ap (λ i. site_lines (output_form_of c.args.options.now) i sites) (c.index_of-index.ensures few));
       },
     )) c.write_sites.ensures.lines

@@ -1,11 +1,11 @@
 use Rattle.std.proofs.Common.{ℕ, ◌-◌, List}
 use Rattle.std.specs.Io.KnownBytes.{Appends}
-use Rattle.module_commands.specs.Form.{form_of}
+use Rattle.module_commands.specs.Form.{output_form_of}
 use Rattle.module_commands.specs.Lists.{InTurn}
-use Rattle.module_commands.specs.Sites.{ListsSites}
+use Rattle.module_commands.specs.Sites.{ListsSitesInText}
 use Rattle.module_commands.proofs.sites.list_sites.Given as goal
 
 abbrev pub invariant-loop-n : goal.invariant-loop-n
 invariant-loop-n g l =
     (text : List ℕ) × Appends (g.W.Write.contents l.initial.output) (g.W.Write.contents l.output) text
-    × InTurn (ListsSites (form_of l.options) l.options.changes.items l.bytes l.module.info l.module.layout) l.from (l.n - l.from) text
+    × InTurn (ListsSitesInText (output_form_of l.options) l.options.changes.items l.bytes l.module.info l.module.layout) l.from (l.n - l.from) text

@@ -1,7 +1,7 @@
 -- None of the functions that may be rewritten can be read, or there is none.
 use Rattle.std.proofs.Common.{◌<◌, ◌≤◌, ℕ, Option, subst, arith}
 use Rattle.std.specs.Prelude.{IfSome}
-use Rattle.module_rewrites.specs.Attempt.{CanRead, IsKnownFault}
+use Rattle.module_rewrites.specs.Attempt.{CanRead, IsKnownFunctionFault}
 use Rattle.module_rewrites.specs.declared.function.FunctionError.{FunctionError}
 use Rattle.module_rewrites.proofs.AttemptLemmas.{first_chosen, no_function}
 use Rattle.module_rewrites.proofs.attempt.without_rewrite.Goals as goal
@@ -25,7 +25,7 @@ returns-in-Ok-Some-clause-reason c scope marked cannot are =
       is = c.requires.module;
       n = start;
       first = first_chosen scope.function layout start end are.chosen (omega (arith, c.if-entries.false));
-      fault = subst (λ (o : Option FunctionError). IfSome o (IsKnownFault bytes info layout start)) c.in-Ok-Some.field-0-is c.in-Ok-Some.ensures.fault;
+      fault = subst (λ (o : Option FunctionError). IfSome o (IsKnownFunctionFault bytes info layout start)) c.in-Ok-Some.field-0-is c.in-Ok-Some.ensures.fault;
       none = λ m inside may can.
           let within = (are.chosen m).1 (inside, may) in
           subst (λ (o : Option FunctionError). IfSome o (λ e. (n : ℕ) → start ≤ n → n < end → ¬ (CanRead bytes info layout n))) c.in-Ok-Some.field-0-is

@@ -1,4 +1,4 @@
-use Rattle.peephole_machine.specs.Values.{context_in}
+use Rattle.wasm_execution.specs.Values.{context_in}
 use Rattle.module_rewrites.specs.Scope.{wanted_of}
 use Rattle.module_rewrites.proofs.EntryWordsLemmas.{entry_words, few_wanted}
 use Rattle.module_rewrites.proofs.laws.each_rewrite_is_drawn.Goals as goal

@@ -9,14 +9,16 @@ pub returns-in-None-clause-mutated : goal.returns-in-None-clause-mutated
 returns-in-None-clause-mutated g c =
     let is : c.args.scope.now.function ≡ None = sym (ap (λ (s : Scope). s.function) c.scope.view_is) ∙ c.in-None.is in
     some_map c.mutate_any.result
-    (λ m h. mutated_any c.args.scope.now c.args.bytes.now c.args.info.now c.args.layout.now c.requires.module c.requires.marked is m.function m.rewrite m.bytes.items h.0 h.1)
+    (λ m h. mutated_any c.args.scope.now c.args.bytes.now c.args.info.now c.args.layout.now c.requires.module c.requires.marked is m.function
+    m.rewrite m.bytes.items h.0 h.1)
     (some_both _ _ c.mutate_any.result c.mutate_any.ensures.mutated c.mutate_any.ensures.fits)
 
 pub returns-in-None-clause-refused : goal.returns-in-None-clause-refused
 returns-in-None-clause-refused g c =
     let is : c.args.scope.now.function ≡ None = sym (ap (λ (s : Scope). s.function) c.scope.view_is) ∙ c.in-None.is in
     err_map c.mutate_any.result
-    (λ e h. refuses_any c.args.scope.now c.args.bytes.now c.args.info.now c.args.layout.now c.requires.module c.requires.marked is e h) c.mutate_any.ensures.refused
+    (λ e h. refuses_any c.args.scope.now c.args.bytes.now c.args.info.now c.args.layout.now c.requires.module c.requires.marked is e h)
+    c.mutate_any.ensures.refused
 
 pub returns-in-Some-clause-mutated : goal.returns-in-Some-clause-mutated
 returns-in-Some-clause-mutated g c =

@@ -1,12 +1,13 @@
 -- At the function that was read.
 use Rattle.std.proofs.Common.{Err, ℕ, List, subst, ◌++◌, ap, refl}
-use Rattle.peephole_machine.specs.Values.{context_in}
+use Rattle.wasm_execution.specs.Values.{context_in}
 use Rattle.body_rewrites.specs.Random.{AppendsByWords}
 use Rattle.module_rewrites.specs.Chosen.{by_lack}
 use Rattle.module_rewrites.specs.Scope.{wanted_of}
 use Rattle.module_rewrites.specs.Size.{IsNotFor, IsSmallEnough}
 use Rattle.module_rewrites.specs.Writing.{WritesAt}
-use Rattle.module_rewrites.proofs.MutationLemmas.{behind_locals, body_in, mutates, nothing_here, refuses_size, refuses_writing, tried_size, tried_writing, writes_here}
+use Rattle.module_rewrites.proofs.MutationLemmas.{behind_locals, body_in, mutates, nothing_here, refuses_size, refuses_writing, tried_size}
+use Rattle.module_rewrites.proofs.MutationLemmas.{tried_writing, writes_here}
 use Rattle.module_rewrites.proofs.mutation.mutate_entry.Goals as goal
 
 pub returns-in-Err-clause-none : goal.returns-in-Err-clause-none

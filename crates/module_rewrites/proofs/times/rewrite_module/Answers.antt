@@ -70,7 +70,8 @@ rewrites-preserved g c =
           (record { function = c.in-Ok-Some.next.mutated.function; rewrite = c.in-Ok-Some.next.mutated.rewrite })
           c.add_made-in-rewrites.new.made.items c.in-Ok-Some.next.mutated.bytes.items (g.R.Rng.stream c.mutate_with.new.generator)
           c.add_made-in-rewrites.new.watch c.rewrites.invariant.2 added mutated chosen seen,
-      c.rewritten_modules_do_as_before.ensures.follow c.args.scope.now.exact c.args.bytes.now c.rewrites.module.bytes.items c.in-Ok-Some.next.mutated.bytes.items c.rewrites.invariant.3
+      c.rewritten_modules_do_as_before.ensures.follow c.args.scope.now.exact c.args.bytes.now c.rewrites.module.bytes.items
+          c.in-Ok-Some.next.mutated.bytes.items c.rewrites.invariant.3
           (c.rewritten_modules_do_as_before.ensures.one c.args.scope.now c.rewrites.module.bytes.items c.in-Ok-Some.next.mutated.bytes.items
           c.in-Ok-Some.next.mutated.function c.in-Ok-Some.next.mutated.rewrite mutated),
       rw c.in-Ok-Some.field-0-is at c.in-Ok-Some.ensures.read,
@@ -156,4 +157,5 @@ returns-then-is_err-clause-does_as_before g c = rw c.stopped-then-is_err.ensures
 
 pub mutate_with-requires : goal.mutate_with-requires
 mutate_with-requires g c =
-    subst (λ (b : List ℕ). WasRewrittenAt c.args.scope.now c.rewrites.read.info c.rewrites.read.layout c.rewrites.function b) (sym c.deref.ensures.value) c.rewrites.invariant.4
+    subst (λ (b : List ℕ). WasRewrittenAt c.args.scope.now c.rewrites.read.info c.rewrites.read.layout c.rewrites.function b)
+    (sym c.deref.ensures.value) c.rewrites.invariant.4

@@ -10,7 +10,14 @@ use Rattle.peephole_examples.proofs.replacing.replace.Goals as goal
 
 pub build_function-requires-clause-body : goal.build_function-requires-clause-body
 build_function-requires-clause-body g c =
-    record { from = 0; to = length c.args.bytes.now; ordered = omega arith; inside = omega arith; spells = rw c.deref-3.ensures.value (record { all = c.in_ok-operators.ensures.found.all; last = c.in_ok-operators.ensures.found.last }) }
+    record {
+      from = 0;
+      to = length c.args.bytes.now;
+      ordered = omega arith;
+      inside = omega arith;
+      spells =
+          rw c.deref-3.ensures.value (record { all = c.in_ok-operators.ensures.found.all; last = c.in_ok-operators.ensures.found.last });
+    }
 
 pub returns-clause-replaced : goal.returns-clause-replaced
 returns-clause-replaced g c =

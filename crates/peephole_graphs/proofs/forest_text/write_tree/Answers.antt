@@ -1,5 +1,5 @@
 use Rattle.std.proofs.Common.{◌++◌, ◌∷◌, [], Ok, ap, ◌∙◌, string_bytes}
-use Rattle.peephole_graphs.specs.ForestSteps.{edges, has_some}
+use Rattle.peephole_graphs.specs.ForestSteps.{edges, has_some_children}
 use Rattle.std.proofs.lemmas.List.{nil_from_length}
 use Rattle.std.proofs.lemmas.Result.{err_from_is_err_and}
 use Rattle.peephole_graphs.specs.ForestText.{CanTell, AnswersAmong, branch, tree_lines, entry_term}
@@ -51,7 +51,8 @@ returns-in_err-write_child g c =
     (tree_lines [] [] (entry_term c.args.entries.now c.args.root)) c.as_slice.result.now (string_bytes c.loop-ids.text) c.loop-ids.invariant.rest
     c.as_slice.ensures.value c.in_err-write_child.field-0.0
     (among_fails g.F.Fn c.args.f.now c.args.entries.now _ (child_there t)
-    (string_bytes c.loop-ids.text ++ (edges (shown c.as_slice.result.now) ++ branch (has_some c.in-Some-split_first.later.now))) c.in_err-write_child.field-0.0
+    (string_bytes c.loop-ids.text ++ (edges (shown c.as_slice.result.now) ++ branch (has_some_children c.in-Some-split_first.later.now)))
+    c.in_err-write_child.field-0.0
     c.in_err-write_child.ensures))
 
 pub loop-ids-smaller-in-Continue-branch-5 : goal.loop-ids-smaller-in-Continue-branch-5
@@ -76,7 +77,7 @@ loop-ids-preserved-in-Continue-branch-5 g c =
           (string_bytes c.args.text.now) (tree_lines [] [] (entry_term c.args.entries.now c.args.root)) c.as_slice.result.now
           (string_bytes c.loop-ids.text) (string_bytes c.write_child.new.text) c.loop-ids.invariant.rest c.as_slice.ensures.value
           (among g.F.Fn c.args.f.now c.args.entries.now _ (child_there t)
-          (string_bytes c.loop-ids.text ++ (edges (shown c.as_slice.result.now) ++ branch (has_some c.in-Some-split_first.later.now)))
+          (string_bytes c.loop-ids.text ++ (edges (shown c.as_slice.result.now) ++ branch (has_some_children c.in-Some-split_first.later.now)))
           (Ok (string_bytes c.write_child.new.text)) c.in_ok-write_child.ensures);
     }
 

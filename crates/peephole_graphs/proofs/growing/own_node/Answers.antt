@@ -29,4 +29,5 @@ unreachable-requires c =
     c.in_ok-push_missing.ensures in
     let count = length_ids c.push_ids.new.ids.items c.push_missing.new.ids.items c.args.base c.args.missing c.args.taken.now
     c.in_ok-push_ids.ensures missing in
-    false≢true (sym (ap is_some c.in-None.is) ∙ (c.in_ok-node.ensures.complete ∙ (ap (λ n. takes_children c.args.instr.row n) (ap (λ (x : List Id). length x) c.deref.ensures.value ∙ count) ∙ c.requires.fits)))
+    false≢true (sym (ap is_some c.in-None.is) ∙ (c.in_ok-node.ensures.complete
+    ∙ (ap (λ n. takes_children c.args.instr.row n) (ap (λ (x : List Id). length x) c.deref.ensures.value ∙ count) ∙ c.requires.fits)))

@@ -19,7 +19,8 @@ step ids ids' i b l all e n h f =
 
 pub loop-left-preserved : goal.loop-left-preserved
 loop-left-preserved c = (
-  step c.loop-left.ids.items c.push.new.self.items (record { 0 = c.args.base + (c.loop-left.left - 1) }) c.args.base c.loop-left.left (numbers_of c.args.ids.now.items ++ down c.args.base c.args.missing)
+  step c.loop-left.ids.items c.push.new.self.items (record { 0 = c.args.base + (c.loop-left.left - 1) }) c.args.base c.loop-left.left
+      (numbers_of c.args.ids.now.items ++ down c.args.base c.args.missing)
       c.in_ok-push.ensures.items refl (omega arith) c.loop-left.invariant.0,
   omega arith,
 )

@@ -10,7 +10,8 @@ use Rattle.peephole_graphs.specs.declared.postfix.Turn.{Turn}
 use Rattle.peephole_graphs.specs.Postfix.{turns_of}
 use Rattle.peephole_graphs.proofs.LayoutLemmas.{term_is, some_expr}
 use Rattle.peephole_graphs.proofs.graph.LayoutTrees.{missing, node_of_entry}
-use Rattle.peephole_graphs.proofs.terms.LayoutWalk.{layout_state, first_ones, start, child_inside, own_inside, down, found, own_done, still_more, end_laid, end_whole}
+use Rattle.peephole_graphs.proofs.terms.LayoutWalk.{layout_state, first_ones, start, child_inside, own_inside, down, found, own_done}
+use Rattle.peephole_graphs.proofs.terms.LayoutWalk.{still_more, end_laid, end_whole}
 use Rattle.peephole_graphs.proofs.layout.lay_out.Goals as goal
 
 pub loop-turn-init : goal.loop-turn-init

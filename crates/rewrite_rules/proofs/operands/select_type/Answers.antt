@@ -3,14 +3,14 @@ use Rattle.std.proofs.Common.{◌≡◌, ℕ, suc, ◌+◌, true, List, ◌∷�
 use Rattle.std.proofs.Math.Seq.{drop-cons}
 use Rattle.std.specs.Prelude.{is_some, not}
 use Rattle.wasm_types.specs.declared.types.PrimitiveTypeInfo.{PrimitiveTypeInfo}
-use Rattle.rewrite_rules.specs.Pattern.{Kind, kind_of}
+use Rattle.rewrite_rules.specs.Pattern.{Kind, hole_kind_of}
 use Rattle.rewrite_rules.specs.Table.{kinds_for}
 use Rattle.rewrite_rules.specs.Operands.{fixed_in, type_given, select_type}
 use Rattle.rewrite_rules.proofs.operands.select_type.Goals.{in-Some+else-is_none, in_default}
 use Rattle.rewrite_rules.proofs.operands.select_type.Goals as goal
 
 has_own : (kinds : List Kind) (n : ℕ) (t : PrimitiveTypeInfo) (ts : List (Option PrimitiveTypeInfo)) (o : Option PrimitiveTypeInfo) →
-    o ≡ fixed_in (kind_of kinds n) → is_some o ≡ true → select_type kinds n (Some t ∷ ts) ≡ select_type kinds (suc n) ts
+    o ≡ fixed_in (hole_kind_of kinds n) → is_some o ≡ true → select_type kinds n (Some t ∷ ts) ≡ select_type kinds (suc n) ts
 has_own kinds n t ts (Some k) e s = ap (λ p. type_given t p (select_type kinds (suc n) ts)) (sym e)
 has_own kinds n t ts None e s = absurd cc
 

@@ -1,13 +1,13 @@
 -- A module changed by options, and the report.
 use Rattle.std.proofs.Common.{rules}
 use Rattle.teddertempo_c.specs.ChangeReports.{TellsChanges}
-use Rattle.teddertempo_c.specs.Writes.{IsPut}
+use Rattle.teddertempo_c.specs.Writes.{IsPutInBuffer}
 use Rattle.teddertempo_c.proofs.ChangeReportsLemmas.{with_changes}
 use Rattle.teddertempo_c.proofs.changing.change_with_in.Goals as goal
 
 pub returns-in-Ok : goal.returns-in-Ok
 returns-in-Ok c =
-    let put : IsPut c.in-Ok.module.bytes.items c.args.buffer.now c.put.result c.put.new.buffer = search rules in
+    let put : IsPutInBuffer c.in-Ok.module.bytes.items c.args.buffer.now c.put.result c.put.new.buffer = search rules in
     let tells : TellsChanges c.in-Ok.module.made.items c.report_of.result = search rules in
     with_changes c.args.options.now c.args.size c.args.buffer.now c.args.report.now c.in-Ok.module.made.items c.in-Ok.module.bytes.items c.put.result
     c.put.new.buffer c.report_of.result c.in-Ok.ensures.made put c.report_of.ensures.outcome tells c.report_of.ensures.size

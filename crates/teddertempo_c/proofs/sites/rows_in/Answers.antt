@@ -5,7 +5,7 @@ use Rattle.module_rewrites.specs.Mutated.{IsChosen}
 use Rattle.module_changes.specs.Sites.{AreSitesOf}
 use Rattle.module_changes.specs.declared.sites.Site.{Site}
 use Rattle.teddertempo_c.specs.ChangeOptions.{changes_of}
-use Rattle.teddertempo_c.specs.Sites.{rows_of, AreRows}
+use Rattle.teddertempo_c.specs.Sites.{site_rows_of, AreRows}
 use Rattle.teddertempo_c.proofs.SitesLemmas.{next_rows}
 use Rattle.teddertempo_c.proofs.sites.rows_in.Goals as goal
 
@@ -27,7 +27,7 @@ loop-n-preserved c =
     c.in_ok-sites.ensures)
     c.index_of.ensures
     (c.in_ok-add_rows.ensures.added
-    ∙ ap (λ (ss : List Site). c.loop-n.rows.items ++ rows_of c.index_of.result ss) c.deref-in-loop-n.ensures.value)
+    ∙ ap (λ (ss : List Site). c.loop-n.rows.items ++ site_rows_of c.index_of.result ss) c.deref-in-loop-n.ensures.value)
 
 pub returns-clause-listed : goal.returns-clause-listed
 returns-clause-listed c =

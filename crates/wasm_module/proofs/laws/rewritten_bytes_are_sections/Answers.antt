@@ -1,5 +1,5 @@
 use Rattle.std.proofs.Common.{arith}
-use Rattle.wasm_module.proofs.AgainLemmas.{module_again}
+use Rattle.wasm_module.proofs.GrownLemmas.{module_again}
 use Rattle.wasm_module.proofs.laws.rewritten_bytes_are_sections.Goals as goal
 
 pub returns : goal.returns

@@ -1,6 +1,6 @@
 use Rattle.std.proofs.Common.{[]}
 use Rattle.wasm_sections.specs.declared.id.SectionId.TheVariants as ids
-use Rattle.wasm_declarations.specs.Entries.{SpellsEntries}
+use Rattle.wasm_lists.specs.Entries.{SpellsEntries}
 use Rattle.wasm_module.proofs.ListedLemmas.{only_memory}
 use Rattle.wasm_module.proofs.lists.entries_in.Goals as goal
 

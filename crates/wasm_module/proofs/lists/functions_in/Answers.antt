@@ -1,6 +1,6 @@
 use Rattle.std.proofs.Common.{[]}
 use Rattle.wasm_sections.specs.declared.id.SectionId.TheVariants as ids
-use Rattle.wasm_declarations.specs.List.{SpellsList}
+use Rattle.wasm_lists.specs.List.{SpellsList}
 use Rattle.wasm_code.specs.Number.{SpellsUnsigned}
 use Rattle.wasm_module.proofs.ListedLemmas.{only_memory}
 use Rattle.wasm_module.proofs.lists.functions_in.Goals as goal

@@ -5,7 +5,7 @@ use Rattle.wasm_code.specs.Code.{shortest}
 use Rattle.wasm_sections.specs.declared.section.Section.{Section}
 use Rattle.wasm_sections.specs.declared.id.SectionId.TheVariants as ids
 use Rattle.wasm_sections.specs.Find.{IsFirstWith}
-use Rattle.wasm_declarations.specs.declared.entries.Entry.{Entry}
+use Rattle.wasm_lists.specs.declared.entries.Entry.{Entry}
 use Rattle.wasm_module.specs.Module.{Layout}
 use Rattle.wasm_module.specs.Moved.{moved, CanMoveAround}
 use Rattle.wasm_module.proofs.MovedLemmas.{move_of, same_entry, same_layout}

@@ -2,7 +2,7 @@ use Rattle.std.proofs.Common.{◌≡◌, ◌++◌, ◌∷◌, [], List, length, 
 use Rattle.std.proofs.lemmas.Grind.{common_steps}
 use Rattle.std.specs.Vec.Iter.{into_iter_items}
 use Rattle.wasm_types.specs.declared.types.TypeInfo.{TypeInfo}
-use Rattle.wasm_declarations.specs.Types.{types_in}
+use Rattle.wasm_lists.specs.Types.{types_in}
 use Rattle.wasm_module.proofs.spaces.type_space.Goals as goal
 
 nothing_left : {X : Type 0} (l : List X) → length l ≡ 0 → l ≡ []

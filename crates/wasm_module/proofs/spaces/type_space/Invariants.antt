@@ -1,6 +1,6 @@
 use Rattle.std.proofs.Common.{◌≡◌, ◌++◌, length}
 use Rattle.std.specs.Vec.Iter.{into_iter_items, into_iter_len}
-use Rattle.wasm_declarations.specs.Types.{types_in}
+use Rattle.wasm_lists.specs.Types.{types_in}
 use Rattle.wasm_module.proofs.spaces.type_space.Given as goal
 
 abbrev pub invariant-loop-group : goal.invariant-loop-group

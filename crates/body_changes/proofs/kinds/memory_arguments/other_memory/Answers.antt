@@ -5,7 +5,7 @@ use Rattle.wasm_code.specs.Instruction.{Instruction, fits_row}
 use Rattle.wasm_code.specs.Table.{row_at}
 use Rattle.wasm_code.specs.declared.immediate.Imm.{Imm}
 use Rattle.body_changes.specs.declared.goal.Words.{Words}
-use Rattle.body_changes.specs.Kinds.{accessing, memory_argument, with_argument, IsBehindOperands, MakesMemoryArgument, NamesArgument}
+use Rattle.body_changes.specs.Kinds.{access_with_argument, memory_argument, with_argument, IsBehindOperands, MakesMemoryArgument, NamesArgument}
 use Rattle.body_changes.specs.Proposals.{context_at, operators_of, IsNewAt}
 use Rattle.body_changes.proofs.MemoryLemmas.{argument_fits, named_memory, new_memory}
 use Rattle.body_changes.proofs.PartLemmas.{ok_some_then}
@@ -29,7 +29,7 @@ returns-clause-new c =
     let other = c.other_argument-other.result in
     let own_is : memory_argument own.imm ≡ Some c.in-Some-memory_argument.argument =
     ap memory_argument (sym c.imm.ensures) ∙ (sym c.memory_argument.ensures ∙ c.in-Some-memory_argument.is) in
-    let is : c.instr.result ≡ accessing other own =
+    let is : c.instr.result ≡ access_with_argument other own =
     c.instr.ensures.is ∙ ap₂ (λ (n : ℕ) (i : Imm). let a : Instruction = record { row = n; imm = i } in a) c.row.ensures.row
     (c.with_argument-imm.ensures ∙ ap (with_argument other) c.imm-2.ensures) in
     ok_some_then c.behind_operands.result (λ code. IsBehindOperands (operators_of place) place.at place.unit c.instr.result code.items)
@@ -45,7 +45,7 @@ returns-clause-named c =
     let words = c.first_words.ensures in
     let own_is : memory_argument own.imm ≡ Some c.in-Some-memory_argument.argument =
     ap memory_argument (sym c.imm.ensures) ∙ (sym c.memory_argument.ensures ∙ c.in-Some-memory_argument.is) in
-    let is : c.instr.result ≡ accessing other own =
+    let is : c.instr.result ≡ access_with_argument other own =
     c.instr.ensures.is ∙ ap₂ (λ (n : ℕ) (i : Imm). let a : Instruction = record { row = n; imm = i } in a) c.row.ensures.row
     (c.with_argument-imm.ensures ∙ ap (with_argument other) c.imm-2.ensures) in
     ok_some_then c.behind_operands.result (λ code. IsBehindOperands (operators_of place) place.at place.unit c.instr.result code.items)

@@ -1,6 +1,6 @@
 -- Instructions stand before the operator.
 use Rattle.body_changes.specs.Proposals.{context_at, operators_of}
-use Rattle.peephole_machine.specs.Row.{list_of}
+use Rattle.wasm_execution.specs.Row.{list_of}
 use Rattle.body_changes.proofs.PartLemmas.{front_stands}
 use Rattle.body_changes.proofs.kinds.operators.behind_operands.Goals as goal
 

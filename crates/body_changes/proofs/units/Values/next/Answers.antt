@@ -1,6 +1,6 @@
 -- The next operator: no instruction, or one without a unit, or one with a unit.
 use Rattle.std.proofs.Common.{◌+◌}
-use Rattle.peephole_machine.specs.Values.{context_in}
+use Rattle.wasm_execution.specs.Values.{context_in}
 use Rattle.body_changes.proofs.KeptLemmas.{nothing_across, same_values}
 use Rattle.body_changes.proofs.StandLemmas.{has_there, none_across}
 use Rattle.body_changes.proofs.UnitLemmas.{has_unit, no_unit, values_behind}

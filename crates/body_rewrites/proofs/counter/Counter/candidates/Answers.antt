@@ -23,6 +23,7 @@ returns c =
     let inside = class_is_used c.self.inside.used.items c.args.class used in
     let count = c.self.invariant.1 in
     subst (λ (laying : Laying). c.list_at.result.now ≡ candidates laying.exact c.args.class) c.self.view_is
-    (list_is c.self.inside.exact c.self.inside.used.items c.self.inside.lists.items c.self.invariant.2 c.args.class (omega (arith, inside, count)) used c.list_at.result.now
+    (list_is c.self.inside.exact c.self.inside.used.items c.self.inside.lists.items c.self.invariant.2 c.args.class (omega (arith, inside, count))
+    used c.list_at.result.now
     (subst (λ lists. IfSome (slice_get lists c.args.class) (λ (list : Vec Asked Global). c.list_at.result.now ≡ list.items)) c.as_slice.ensures.value
     c.list_at.ensures))

@@ -3,7 +3,7 @@ use Rattle.std.proofs.Common.{◌-◌, ℕ, List, sym, ◌∙◌, arith}
 use Rattle.std.specs.Prelude.{Some, None}
 use Rattle.std.proofs.lemmas.Bool.{false≢true}
 use Rattle.wasm_code.specs.declared.operator.Operator.{Operator}
-use Rattle.peephole_machine.specs.Values.{Context}
+use Rattle.wasm_execution.specs.Values.{Context}
 use Rattle.body_rewrites.specs.Trees.{AreTrees}
 use Rattle.body_rewrites.specs.Own.{IsReadBefore}
 use Rattle.body_rewrites.specs.OwnSites.{IsSettledBefore}

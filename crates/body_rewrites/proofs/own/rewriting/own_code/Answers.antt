@@ -1,9 +1,9 @@
 -- By what stands at the site.
 use Rattle.std.proofs.Common.{◌≡◌, subst}
-use Rattle.peephole_machine.specs.Values.{Context}
+use Rattle.wasm_execution.specs.Values.{Context}
 use Rattle.body_rewrites.specs.Changes.{Change, IsWritten}
 use Rattle.body_rewrites.specs.Own.{IsOwnChange, made_asks, made_pieces}
-use Rattle.body_rewrites.specs.OwnSites.{IsCode, IsSiteOf, IsWritable}
+use Rattle.body_rewrites.specs.OwnSites.{IsNewCode, IsSiteOf, IsWritable}
 use Rattle.body_rewrites.specs.Places.{AreListsOf}
 use Rattle.body_rewrites.proofs.MadeLemmas.{if_found}
 use Rattle.body_rewrites.proofs.OwnCodeLemmas.{if_none, is_change, is_writable, none_behind}
@@ -18,7 +18,7 @@ returns-clause-some c =
     let operators = c.args.body.now.operators.now in
     let at = c.args.at in
     let site = c.in-Some.site in
-    if_found c.written.result (IsCode site.start (made_pieces site.start at site.made c.args.word) (made_asks site.made))
+    if_found c.written.result (IsNewCode site.start (made_pieces site.start at site.made c.args.word) (made_asks site.made))
     (λ code. (context : Context) → context.info ≡ c.args.body.now.info.now → AreListsOf context c.args.body.now →
     (change : Change) × IsOwnChange context operators c.args.own at change × IsWritten change c.args.word code)
     (λ code is context same lists.

@@ -1,6 +1,6 @@
 -- The next operator: no instruction, or one without a tree, or one with a tree.
 use Rattle.std.proofs.Common.{[], ◌∷◌, ◌++◌, take, ◌∙◌, ap}
-use Rattle.peephole_machine.specs.Values.{context_in}
+use Rattle.wasm_execution.specs.Values.{context_in}
 use Rattle.body_rewrites.proofs.OpenLemmas as lemmas
 use Rattle.body_rewrites.proofs.trees.Open.next.Goals as goal
 

@@ -5,7 +5,7 @@ use Rattle.peephole_lang.specs.Node.{node_of}
 use Rattle.peephole_script.specs.Text.{texts}
 use Rattle.peephole_commands.specs.Commands.{analysis_of}
 use Rattle.peephole_commands.specs.Graphs.{site_of}
-use Rattle.peephole_commands.specs.Results.{Tells}
+use Rattle.peephole_commands.specs.Results.{TellsPointType}
 use Rattle.peephole_commands.specs.State.{SessionState}
 use Rattle.peephole_commands.proofs.Working.{kept_here, keeps_block, keeps_here, result_printed}
 use Rattle.peephole_commands.proofs.Typings.{point_there}
@@ -46,7 +46,7 @@ returns-in-Ok c =
       nodes = map node_of c.self.inside.nodes;
     } in
     let made : c.of-analysis.result ≡ analysis_of s = rw (c.of-analysis.ensures, c.replace-info.ensures.value, c.replace-locals.ensures.value) in
-    let told : Tells (analysis_of s) c.in-Ok.graph c.in_ok-place.place c.point_type-told.result = rw made at c.point_type-told.ensures in
+    let told : TellsPointType (analysis_of s) c.in-Ok.graph c.in_ok-place.place c.point_type-told.result = rw made at c.point_type-told.ensures in
     let info : c.into_parts-info.result.0 ≡ s.info = c.into_parts-info.ensures.info ∙ ap (λ (a : Analysis). a.info) made in
     let locals : c.into_parts-info.result.1.items ≡ s.locals = c.into_parts-info.ensures.locals ∙ ap (λ (a : Analysis). a.locals) made in
     rw (info, locals, ← c.self.view_is)

@@ -5,14 +5,14 @@ use Rattle.std.proofs.lemmas.Result.{IfOk-weaker, IfErr-weaker}
 use Rattle.peephole_lang.specs.Node.{node_of}
 use Rattle.peephole_graphs.specs.declared.dfg.StackEntry.{StackEntry}
 use Rattle.peephole_graphs.specs.declared.subtree.Subtree.{Subtree}
-use Rattle.peephole_graphs.specs.Measures.{sizes_kept, Measured}
+use Rattle.peephole_graphs.specs.Measures.{sizes_kept, SubtreesAreMeasured}
 use Rattle.peephole_graphs.specs.Span.{IsSpan}
 use Rattle.peephole_graphs.proofs.DfgLemmas.{sizes_count, kept_count, kept_size}
 use Rattle.peephole_graphs.proofs.graph.LayoutTrees.{entries_below}
 use Rattle.peephole_graphs.proofs.SpanLemmas.{Below, IsCopying, span_laid, span_holds, span_small}
 use Rattle.peephole_graphs.proofs.dfg.MiniDFG.lay_out_at.Goals as goal
 
-copying : (es : List StackEntry) (ts : List Subtree) (start root : ℕ) (own : Subtree) → Measured es ts → Below es → root < length es →
+copying : (es : List StackEntry) (ts : List Subtree) (start root : ℕ) (own : Subtree) → SubtreesAreMeasured es ts → Below es → root < length es →
     own ≡ get_or ts root own → start ≡ (root + 1) - own.len → IsSpan es (sizes_kept ts) start (root + 1) → IsCopying es (sizes_kept ts) start root
 copying es ts start root own m below l q w span =
     let n = sizes_count es (sizes_kept ts) m.sizes_are in

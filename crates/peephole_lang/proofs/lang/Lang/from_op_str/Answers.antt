@@ -12,5 +12,6 @@ unwrap-requires c =
     let counted : length c.args.children.items ≡ c.len.result = omega (arith, whole, len) in
     c.make.ensures.complete
     ∙ (ap (is_made c.in-Some.variant.place c.in_ok-payload-in-Some.payload) counted
-    ∙ is_a_node (find_in variants c.args.text.now) c.args.text.now c.in-Some.variant c.in-Some.payload_text.now c.in_ok-payload-in-Some.payload c.len.result refl c.in-Some.ensures
+    ∙ is_a_node (find_in variants c.args.text.now) c.args.text.now c.in-Some.variant c.in-Some.payload_text.now c.in_ok-payload-in-Some.payload
+    c.len.result refl c.in-Some.ensures
     c.in_ok-payload-in-Some.ensures)

@@ -11,24 +11,28 @@ overflow_add-row c =
 
 pub returns-in_err-variant-clause-complete : goal.returns-in_err-variant-clause-complete
 returns-in_err-variant-clause-complete c =
-    absurd (has_variant_row c.args.instr.now c.row.ensures.instruction c.row.result c.variant_row_at.result c.row.ensures.row c.variant_row_at.ensures c.in_err-variant.was)
+    absurd (has_variant_row c.args.instr.now c.row.ensures.instruction c.row.result c.variant_row_at.result c.row.ensures.row c.variant_row_at.ensures
+    c.in_err-variant.was)
 
 pub returns-in_err-payload-clause-complete : goal.returns-in_err-payload-clause-complete
 returns-in_err-payload-clause-complete c =
     absurd
-    (payload_there c.args.instr.now c.row.ensures.instruction c.row.result c.variant_row_at.result c.row.ensures.row c.variant_row_at.ensures c.in_ok-variant.variant c.in_ok-variant.was c.of_imm.result
+    (payload_there c.args.instr.now c.row.ensures.instruction c.row.result c.variant_row_at.result c.row.ensures.row c.variant_row_at.ensures
+    c.in_ok-variant.variant c.in_ok-variant.was c.of_imm.result
     (c.of_imm.ensures ∙ ap (payload_of_imm c.in_ok-variant.variant.payload) c.imm.ensures) c.in_err-payload.was)
 
 pub returns-clause-instruction : goal.returns-clause-instruction
 returns-clause-instruction c =
     says_found c.args.instr.now c.row.ensures.instruction c.in_ok-variant.variant c.in_ok-payload.payload
-    (node_found c.args.instr.now c.row.ensures.instruction c.row.result c.variant_row_at.result c.row.ensures.row c.variant_row_at.ensures c.in_ok-variant.variant c.in_ok-variant.was c.of_imm.result
+    (node_found c.args.instr.now c.row.ensures.instruction c.row.result c.variant_row_at.result c.row.ensures.row c.variant_row_at.ensures
+    c.in_ok-variant.variant c.in_ok-variant.was c.of_imm.result
     (c.of_imm.ensures ∙ ap (payload_of_imm c.in_ok-variant.variant.payload) c.imm.ensures) c.in_ok-payload.payload c.in_ok-payload.was)
     c.make.result c.make.ensures.place c.make.ensures.payload
 
 pub returns-clause-complete : goal.returns-clause-complete
 returns-clause-complete c =
     takes_found c.args.instr.now c.row.ensures.instruction c.in_ok-variant.variant c.in_ok-payload.payload
-    (node_found c.args.instr.now c.row.ensures.instruction c.row.result c.variant_row_at.result c.row.ensures.row c.variant_row_at.ensures c.in_ok-variant.variant c.in_ok-variant.was c.of_imm.result
+    (node_found c.args.instr.now c.row.ensures.instruction c.row.result c.variant_row_at.result c.row.ensures.row c.variant_row_at.ensures
+    c.in_ok-variant.variant c.in_ok-variant.was c.of_imm.result
     (c.of_imm.ensures ∙ ap (payload_of_imm c.in_ok-variant.variant.payload) c.imm.ensures) c.in_ok-payload.payload c.in_ok-payload.was)
     c.make.result (length c.args.children.items) c.make.ensures.place c.make.ensures.payload c.make.ensures.count c.make.ensures.complete

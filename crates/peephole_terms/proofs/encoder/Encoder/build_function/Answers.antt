@@ -5,7 +5,7 @@ use Rattle.mutate_base.specs.Config.{info_of}
 use Rattle.peephole_graphs.specs.Dfg.{graph_of}
 use Rattle.peephole_graphs.specs.GraphOf.{IsGraphOf}
 use Rattle.peephole_graphs.specs.Source.{source_of}
-use Rattle.peephole_terms.specs.EncoderSteps.{IsInside, writing_of}
+use Rattle.peephole_terms.specs.EncoderSteps.{BlockIsInside, writing_of}
 use Rattle.peephole_terms.specs.Expansion.{Setting, term_in}
 use Rattle.peephole_terms.specs.Writer.{writing_in}
 use Rattle.peephole_terms.specs.Written.{Site, site_at, source_at, before_block, after_block}
@@ -22,7 +22,7 @@ pub of-outside-requires : goal.of-outside-requires
 of-outside-requires g c =
     let operators = c.args.operators.now in
     let block = c.args.basicblock.now in
-    subst (IsInside c.args.input_wasm.now operators) (sym (piece_is block c.range.ensures.start c.range.ensures.end))
+    subst (BlockIsInside c.args.input_wasm.now operators) (sym (piece_is block c.range.ensures.start c.range.ensures.end))
     (inside c.args.input_wasm.now operators block c.requires.body (block_before_last operators block c.requires.body c.requires.block))
 
 pub write_body-requires-clause-walkable : goal.write_body-requires-clause-walkable
@@ -52,7 +52,8 @@ returns-in-Ok g c =
     (body_given c.args.insertion_point graph c.get_global_count-globals.ensures
     (c.of-outside.ensures.before ∙ ap (before_block site.input site.operators) block)
     (c.of-outside.ensures.after ∙ ap (after_block site.input site.operators) block)
-    (ap term_in c.as_ref.ensures.nodes) c.new-requests.ensures.items (left_as sink (ap (λ (v : Vec ResourceRequest Global). v.items) requested) (ap g.R.Rng.stream generator) c.in-Ok.ensures.taken)) in
+    (ap term_in c.as_ref.ensures.nodes) c.new-requests.ensures.items
+    (left_as sink (ap (λ (v : Vec ResourceRequest Global). v.items) requested) (ap g.R.Rng.stream generator) c.in-Ok.ensures.taken)) in
     rw (is_set_up c.args.config.now c.info.result.now c.rng-rng.result.now c.info.ensures c.rng-rng.ensures.value) (record {
       written = w.body;
       reads_again = body_again c.code_spells.ensures c.requires.body c.requires.block w;

@@ -1,7 +1,7 @@
 use Rattle.std.proofs.Common.{ℕ, take, ap, refl, Some, ◌∙◌, ◌≡◌, List, Vec, Global, rules}
 use Rattle.peephole_terms.specs.declared.encoder.request.ResourceRequest.{ResourceRequest}
 use Rattle.peephole_terms.specs.Expansion.{Setting, term_in}
-use Rattle.peephole_terms.specs.Spliced.{piece}
+use Rattle.peephole_terms.specs.Spliced.{range_as_block}
 use Rattle.peephole_terms.specs.EncoderSteps.{writing_of}
 use Rattle.peephole_terms.specs.Writer.{writing_in}
 use Rattle.peephole_terms.proofs.ReadAgainLemmas.{inside}
@@ -12,7 +12,7 @@ use Rattle.peephole_terms.proofs.encoder.splice.splice_term.Goals as goal
 
 pub of-outside-requires : goal.of-outside-requires
 of-outside-requires g c =
-    inside c.args.input_wasm.now c.args.operators.now (piece c.args.range.start c.args.range.end) c.requires.body
+    inside c.args.input_wasm.now c.args.operators.now (range_as_block c.args.range.start c.args.range.end) c.requires.body
     (record { ordered = c.requires.ordered; inside = c.requires.inside })
 
 pub returns-in-Ok : goal.returns-in-Ok
@@ -26,7 +26,8 @@ returns-in-Ok g c =
     let w = spliced_done s c.args.input_wasm.now c.args.operators.now c.args.range.start c.args.range.end (term_in c.args.expr.now)
     c.code_spells.ensures (record { push = law.push; on = law.on; stay = law.stay }) c.requires.body c.requires.ordered c.requires.inside c.args.newfunc.now v
     (around_given c.get_global_count-globals.ensures c.of-outside.ensures.before c.of-outside.ensures.after (ap term_in c.as_ref.ensures.nodes)
-    c.new-requests.ensures.items (left_as sink (ap (λ (v : Vec ResourceRequest Global). v.items) requested) (ap g.R.Rng.stream generator) c.in-Ok.ensures.taken)) in
+    c.new-requests.ensures.items (left_as sink (ap (λ (v : Vec ResourceRequest Global). v.items) requested) (ap g.R.Rng.stream generator)
+    c.in-Ok.ensures.taken)) in
     rw (is_set_up c.args.config.now c.info.result.now c.rng-rng.result.now c.info.ensures c.rng-rng.ensures.value) (record {
       spliced = w.body;
       requests = w.asks;

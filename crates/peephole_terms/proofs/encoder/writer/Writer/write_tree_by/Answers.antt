@@ -5,7 +5,8 @@ use Rattle.peephole_lang.specs.Term.{numbers_of}
 use Rattle.peephole_graphs.specs.declared.postfix.Turn.{Turn}
 use Rattle.peephole_graphs.specs.Postfix.{turns_of}
 use Rattle.peephole_terms.specs.Writer.{writing_in}
-use Rattle.peephole_terms.proofs.WalkLemmas.{walk_of, start, child_inside, own_inside, down, own_done, own_refused, leaf_tree, leaf_done, leaf_refused, no_ids, passed_on, kids_in, kept_more, arrived}
+use Rattle.peephole_terms.proofs.WalkLemmas.{walk_of, start, child_inside, own_inside, down, own_done, own_refused, leaf_tree, leaf_done}
+use Rattle.peephole_terms.proofs.WalkLemmas.{leaf_refused, no_ids, passed_on, kids_in, kept_more, arrived}
 use Rattle.peephole_terms.proofs.WriterLemmas.{goes_on, same_more}
 use Rattle.peephole_terms.proofs.encoder.writer.Writer.write_tree_by.Goals as goal
 

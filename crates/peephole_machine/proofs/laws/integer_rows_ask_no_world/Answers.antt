@@ -1,5 +1,0 @@
-use Rattle.peephole_machine.proofs.AloneLemmas.{ask_no_world}
-use Rattle.peephole_machine.proofs.laws.integer_rows_ask_no_world.Goals as goal
-
-pub returns : goal.returns
-returns c = ask_no_world

@@ -1,6 +1,0 @@
-use Rattle.std.proofs.Common.{arith}
-use Rattle.peephole_machine.proofs.BitLemmas.{ones_are}
-use Rattle.peephole_machine.proofs.value.unary_64.Goals as goal
-
-pub returns-in-Popcnt-clause-value : goal.returns-in-Popcnt-clause-value
-returns-in-Popcnt-clause-value c = rw c.in-Popcnt.is (ones_are 64 c.args.n (omega arith))

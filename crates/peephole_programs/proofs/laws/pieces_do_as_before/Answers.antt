@@ -1,5 +1,0 @@
-use Rattle.peephole_programs.proofs.hosts.ValidModuleLemmas.{pieces_do}
-use Rattle.peephole_programs.proofs.laws.pieces_do_as_before.Goals as goal
-
-pub returns : goal.returns
-returns c = pieces_do

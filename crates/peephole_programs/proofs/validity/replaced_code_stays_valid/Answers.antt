@@ -1,5 +1,0 @@
-use Rattle.peephole_programs.proofs.validation.ValidLemmas.{replaced_valid}
-use Rattle.peephole_programs.proofs.validity.replaced_code_stays_valid.Goals as goal
-
-pub returns : goal.returns
-returns c = replaced_valid

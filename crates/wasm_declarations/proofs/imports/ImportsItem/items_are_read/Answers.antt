@@ -1,5 +1,0 @@
-use Rattle.wasm_declarations.proofs.ItemLemmas.{import_exact}
-use Rattle.wasm_declarations.proofs.imports.ImportsItem.items_are_read.Goals as goal
-
-pub returns : goal.returns
-returns c = import_exact

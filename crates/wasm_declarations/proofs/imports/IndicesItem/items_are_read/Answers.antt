@@ -1,5 +1,0 @@
-use Rattle.wasm_code.specs.laws.NumberExact.{unsigned_exact}
-use Rattle.wasm_declarations.proofs.imports.IndicesItem.items_are_read.Goals as goal
-
-pub returns : goal.returns
-returns c = unsigned_exact 32

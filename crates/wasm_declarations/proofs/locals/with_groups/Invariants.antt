@@ -1,9 +1,0 @@
-use Rattle.std.proofs.Common.{◌≤◌, length}
-use Rattle.wasm_declarations.specs.Reader.{ReadsGroups}
-use Rattle.wasm_declarations.proofs.locals.with_groups.Given as goal
-
-abbrev pub invariant-loop : goal.invariant-loop
-invariant-loop l = record {
-  reads : ReadsGroups l.fn.types.items l.counter l.bytes l.types.items l.rest;
-  within : length l.rest ≤ length l.bytes;
-}

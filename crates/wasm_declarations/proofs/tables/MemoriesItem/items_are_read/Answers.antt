@@ -1,5 +1,0 @@
-use Rattle.wasm_declarations.proofs.ItemLemmas.{memory_type_exact}
-use Rattle.wasm_declarations.proofs.tables.MemoriesItem.items_are_read.Goals as goal
-
-pub returns : goal.returns
-returns c = memory_type_exact

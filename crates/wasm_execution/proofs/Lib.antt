@@ -1,0 +1,15 @@
+pub mod AloneLemmas
+pub mod OtherLemmas
+pub mod OperandLemmas
+pub mod EffectLemmas
+pub mod LawLemmas
+pub mod BitLemmas
+pub mod DivisionLemmas
+pub mod OpcodeLemmas
+pub mod OperationLemmas
+pub mod TypeEqualityLemmas
+pub mod Samples
+pub mod LongSamples
+pub mod Examples
+pub mod exact_samples
+pub mod ExactExamples

@@ -1,4 +1,0 @@
-pub mod ReaderLemmas
-pub mod FirstLemmas
-pub mod NameLemmas
-pub mod CustomLemmas
