@@ -296,6 +296,11 @@ class Test:
         self.tally.judge("it goes on", done.returncode == 0 and 0 < before < 30, (done.returncode, before, done.stderr))
         self.tally.judge("each mutant once", sorted(seeds) == list(range(30)), seeds)
 
+    def test_time(self) -> None:
+        done, _ = self.run_mode("slow", "--time", "0.01s")
+        told = "ended early: the time was over before a mutant was tried" in done.stdout
+        self.tally.judge("a time without a mutant", done.returncode == 2 and told, (done.returncode, done.stdout, done.stderr))
+
     def test_two(self) -> None:
         commands = [self.command([self.module], [sys.executable, str(self.engine), "value", "@@"], self.folder / f"two {place}",
                                  "--seeds", "6", "--dose", "20", *RULES) for place in range(2)]
@@ -380,8 +385,8 @@ def main() -> int:
         return 1
     with tempfile.TemporaryDirectory(prefix="diff ") as folder:
         test = Test(Path(folder))
-        for part in (test.test_rows, test.test_finding, test.test_once, test.test_swarm, test.test_json, test.test_stop, test.test_two,
-                     test.test_reduce, test.test_calls, test.test_traps, test.test_wrong_engines):
+        for part in (test.test_rows, test.test_finding, test.test_once, test.test_swarm, test.test_json, test.test_stop, test.test_time,
+                     test.test_two, test.test_reduce, test.test_calls, test.test_traps, test.test_wrong_engines):
             part()
         for engine in ENGINES_ASKED:
             if shutil.which(engine[0]):

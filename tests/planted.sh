@@ -9,7 +9,8 @@
 # `apt-get source wabt binaryen` leaves them, which needs a line `deb-src` for bookworm in the sources of apt; where it isn't named, they
 # are taken by that command. PLANTED_BUILD names the folder of the builds (tests/planted/build), which are made once: half an hour
 # of a core. Needs cmake, ninja, a C++ compiler and Python 3; then some three hours of four cores, an hour of which makes the mutants: 200
-# of each module, of 400 rewrites, each by a tenth of the rules. `--seeds`, `--doses` and `--swarm` ask for others.
+# of each module, of 400 rewrites, each by a tenth of the rules. `--seeds`, `--doses` and `--swarm` ask for others, and `--sample N` for N
+# faults of each engine, spread over its table.
 set -euo pipefail
 program=${TEDDERTEMPO:-}
 if [ -n "$program" ]; then program=$(realpath "$program"); fi
@@ -53,7 +54,7 @@ make_programs() {
 }
 
 wabt=wabt-1.0.32
-binaryen=binaryen-version_108
+binaryen=binaryen-108
 [ -d "$build/$wabt" ] || take wabt $wabt interpreter.patch faults.h src/interp/planted.h
 [ -d "$build/$binaryen" ] || take binaryen $binaryen optimizer.patch wrong_rewrites.h src/passes/planted.h
 make_programs $wabt spectest-interp wat2wasm

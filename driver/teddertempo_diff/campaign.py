@@ -122,6 +122,8 @@ class Campaign:
                 with ThreadPoolExecutor(self.settings.jobs) as pool:
                     for worker in [pool.submit(self.work, tasks) for _ in range(self.settings.jobs)]:
                         worker.result()
+                if self.is_late() and self.subjects and self.mutants == 0:
+                    self.summary.trouble = "the time was over before a mutant was tried"
             except Stopped:
                 pass
         self.summary.stopped = self.runner.stopped.is_set()
@@ -260,9 +262,11 @@ class Campaign:
             self.ended.set()
             raise
 
+    def is_late(self) -> bool:
+        return self.settings.deadline is not None and time.monotonic() >= self.settings.deadline
+
     def is_over(self) -> bool:
-        late = self.settings.deadline is not None and time.monotonic() >= self.settings.deadline
-        return late or self.ended.is_set() or self.runner.stopped.is_set()
+        return self.is_late() or self.ended.is_set() or self.runner.stopped.is_set()
 
     def note(self, subject: Subject, seed: int, outcome: str) -> None:
         self.store.note(subject.digest, str(subject.path), seed, outcome)

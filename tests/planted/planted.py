@@ -63,6 +63,13 @@ def faults_of(table: Path) -> list[Fault]:
     return [Fault(row["name"], row["group"], (row["kind"] or "").lower(), row["sentence"]) for row in rows]
 
 
+def sample_of(faults: list[Fault], count: int | None) -> list[Fault]:
+    """So many of the faults, as far from one another in the table as can be; all of them where none are asked for."""
+    if count is None or count >= len(faults):
+        return faults
+    return [faults[number * len(faults) // count] for number in range(count)]
+
+
 def digest_of(file: Path) -> str:
     return hashlib.sha256(file.read_bytes()).hexdigest()[:20]
 
@@ -216,6 +223,7 @@ def options_of() -> argparse.Namespace:
     parser = argparse.ArgumentParser(description=__doc__, formatter_class=argparse.RawDescriptionHelpFormatter)
     parser.add_argument("--table", type=Path, required=True, help="the table of the faults")
     parser.add_argument("--only", action="append", default=[], help="only this fault")
+    parser.add_argument("--sample", type=int, help="only so many of the faults, spread over the table")
     parser.add_argument("--folder", required=True, help="where mutants are kept")
     parser.add_argument("--teddertempo", required=True)
     parser.add_argument("--optimizer", required=True, help="the optimizer whose pipelines mutate")
@@ -234,7 +242,8 @@ def main() -> int:
     Path(options.folder).mkdir(parents=True, exist_ok=True)
     experiment = Experiment(options)
     experiment.take()
-    faults = [fault for fault in faults_of(options.table) if not options.only or fault.name in options.only]
+    named = [fault for fault in faults_of(options.table) if not options.only or fault.name in options.only]
+    faults = sample_of(named, options.sample)
     print(f"{len(experiment.subjects)} modules, {options.seeds} mutants of each")
     print(f"| Fault | Of | Executed by | {' | '.join(f'At {amount}' for amount in options.doses)} | Pipelines |")
     print("|---|---|---|" + "---|" * (len(options.doses) + 1))
