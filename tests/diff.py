@@ -44,7 +44,7 @@ sys.dont_write_bytecode = True
 from teddertempo_diff.interface import ModuleReader
 mode, file = sys.argv[1:]
 falls = len(ModuleReader(open(file, "rb").read()).spaces["global"]) > {first}
-if mode == "slow": time.sleep(0.1)
+if mode == "slow": time.sleep(float(os.environ.get("SLOW", "0.1")))
 if mode == "unsteady": print(time.time_ns())
 if mode == "child":
     subprocess.Popen(["sleep", "1000.25"])
@@ -275,7 +275,8 @@ class Test:
         output = self.folder / "stopped"
         engine = [sys.executable, str(self.engine), "slow", "@@"]
         command = self.command([self.module], engine, output, "--seeds", "30", "--jobs", "1", "--dose", "5")
-        running = subprocess.Popen(command, stdout=subprocess.PIPE, stderr=subprocess.PIPE, text=True)
+        slower = {**os.environ, "SLOW": "1"}  # so that it isn't at its end before it is stopped, whatever else the machine does
+        running = subprocess.Popen(command, stdout=subprocess.PIPE, stderr=subprocess.PIPE, text=True, env=slower)
         tried = output / "tried.jsonl"
         while running.poll() is None and not (tried.exists() and tried.stat().st_size):
             time.sleep(0.05)
@@ -327,7 +328,7 @@ class Test:
             (folder / f"{own}.wasm").write_bytes(data)
         for known in ("numbers", "mixes", "hashes"):
             shutil.copyfile(TOP / f"tests/modules/{known}.wasm", folder / f"{known}.wasm")
-        done, output = self.run([folder], engine, "--seeds", "4", "--dose", "30%", "--timeout", "8", "--json")
+        done, output = self.run([folder], engine, "--seeds", "4", "--dose", "30%", "--timeout", "30", "--json")
         report = json.loads(done.stdout.splitlines()[-1])["summary"] if done.stdout else {}
         self.tally.judge(f"{name}: no difference", done.returncode == 0, (done.returncode, done.stdout, done.stderr))
         self.tally.judge(f"{name}: every module", report.get("modules") == 6, report)
