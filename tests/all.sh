@@ -18,7 +18,7 @@ cd "$(dirname "$0")/.."
 scripts="reduce JOBS=2 tests/reduce.sh
 planted_interpreter tests/planted.sh interpreter --sample 5 --seeds 20 --jobs 2
 planted_optimizer tests/planted.sh optimizer --sample 5 --seeds 20 --jobs 2
-shrink tests/shrink.sh 1
+shrink tests/shrink.sh 0 300
 modules tests/modules.sh 40
 changes tests/changes.sh 40
 chained tests/chained.sh 2

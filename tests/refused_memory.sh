@@ -63,6 +63,11 @@ if grep "^allocations: at least" "$work/log"; then
     echo "the interpreter's steps ended before a call did"
     exit 1
 fi
+if [ ! -s "$work/requests" ]; then
+    cat "$work/log"
+    echo "the program isn't built"
+    exit 1
+fi
 at=1
 while read -r call end requests said; do
     if [ "$end $said" != "run=ended,status=0 nothing" ]; then
