@@ -201,8 +201,8 @@ pub fn change_of_words(
 ) -> Result<Option<Changed>, AllocError>
     requires { IsBody body.now }
     ensures chosen { IfOk result (λ o. IfSome o (λ c. ChoosesChange (context_in_body body.now)
-        (body_operators_in body.now) (material_in body.now) changes.now words.now c.change c.at c.start
-        c.code.items)) }
+        (body_operators_in body.now) (material_in body.now) changes.now words.now c.change c.at
+        c.start c.code.items)) }
     ensures none { IfOk result (λ o. IfNone o (ChangesNone (context_in_body body.now)
         (body_operators_in body.now) (material_in body.now) changes.now words.now)) }
 {

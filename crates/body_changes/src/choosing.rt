@@ -26,7 +26,8 @@ fn types_on(
     instr: &Instr,
     operands: Operands,
 ) -> Option<Option<PrimitiveTypeInfo>>
-    ensures { result ≡ instruction_types (context_for scope.now) instr.now (operand_types_in operands) }
+    ensures { result
+        ≡ instruction_types (context_for scope.now) instr.now (operand_types_in operands) }
 {
     match operands {
         Operands::Zero => instruction_types(scope.info, scope.locals, instr, &[]),

@@ -155,7 +155,8 @@ pub fn code_of_words(
     // Each single instruction is what its words draw.
     ensures drawn { IfOk result (λ code. (i : Instruction)
         → IsLeaf (context_for scope.now) wanted i
-        → three_words words.now ≡ drawing_words_of (context_for scope.now) wanted i → code.items ≡ i ∷ []) }
+        → three_words words.now ≡ drawing_words_of (context_for scope.now) wanted i
+        → code.items ≡ i ∷ []) }
 {
     let mut goals = Vec::new(alloc);
     goals.push(Goal { wanted, size })?;

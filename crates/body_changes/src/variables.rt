@@ -31,8 +31,8 @@ fn count_of(types: &[PrimitiveTypeInfo], wanted: PrimitiveTypeInfo) -> usize
 // The index of the one with that number among the variables of the type.
 fn place_of(types: &[PrimitiveTypeInfo], wanted: PrimitiveTypeInfo, number: usize) -> Option<usize>
     ensures some { IfSome result (HasVariable types.now wanted) }
-    ensures only { (n : ℕ) → HasVariable types.now wanted n → variable_rank types.now wanted n ≡ number
-        → result ≡ Some n }
+    ensures only { (n : ℕ) → HasVariable types.now wanted n
+        → variable_rank types.now wanted n ≡ number → result ≡ Some n }
 {
     let mut before = 0;
     for i in 0..types.len() {
@@ -109,9 +109,11 @@ fn global_of(scope: &Scope<'_>, wanted: PrimitiveTypeInfo, number: u64) -> Optio
 pub(crate) fn variable(scope: &Scope<'_>, wanted: PrimitiveTypeInfo, choice: u64) -> Option<Instr>
     ensures some { IfSome result (GivesFromNothing (context_for scope.now) wanted) }
     ensures local { (n : ℕ) → n < 2 ^ 32 → HasVariable scope.now.locals.now wanted n
-        → choice ≡ 8 * variable_rank scope.now.locals.now wanted n + 1 → result ≡ Some (indexed 4 n) }
+        → choice ≡ 8 * variable_rank scope.now.locals.now wanted n + 1
+        → result ≡ Some (indexed 4 n) }
     ensures global { (n : ℕ) → n < 2 ^ 32 → HasVariable scope.now.info.now.globals wanted n
-        → choice ≡ 8 * variable_rank scope.now.info.now.globals wanted n + 2 → result ≡ Some (indexed 7 n) }
+        → choice ≡ 8 * variable_rank scope.now.info.now.globals wanted n + 2
+        → result ≡ Some (indexed 7 n) }
     ensures none { choice ≡ 32 → result ≡ None }
 {
     match choice % 4 {

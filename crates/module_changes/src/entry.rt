@@ -167,7 +167,8 @@ fn module_with(
     requires reading { IsReading reading.now }
     requires inside { n < length reading.now.layout.now.entries }
     ensures written { IfOk result (λ o. IfSome o (λ new. IsRewritten reading.now.bytes.now
-        reading.now.layout.now n (contents.entry.locals.now ++ contents.entry.body.now) [] new.items)) }
+        reading.now.layout.now n
+        (contents.entry.locals.now ++ contents.entry.body.now) [] new.items)) }
     ensures fits { IfOk result (λ o. IfSome o (λ new. length new.items ≤ most)) }
     ensures large { IfOk result (λ o. IfNone o (IsLarge reading.now.bytes.now
         reading.now.layout.now n (contents.entry.locals.now ++ contents.entry.body.now) most)) }

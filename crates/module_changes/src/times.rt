@@ -99,8 +99,9 @@ pub fn change_module<R: Rng, W: Watch>(
         bytes.now (R.stream generator.old) m.made.items m.bytes.items (R.stream generator.new)) }
     ensures fails { IfErr result (IsRefusal scope.now bytes.now (R.stream generator.old)) }
     // Each change that is made is seen, once and in order, between the bytes before it and those with it.
-    ensures seen { IfOk result (λ m. SeesAllChanges W.saw scope.now bytes.now (R.stream generator.old)
-        m.made.items m.bytes.items watch.old watch.new) }
+    ensures seen { IfOk result (λ m.
+        SeesAllChanges W.saw scope.now bytes.now (R.stream generator.old) m.made.items m.bytes.items
+        watch.old watch.new) }
     // Nothing is seen where none is made.
     ensures unseen { OnErr result (watch.new ≡ watch.old) }
 {

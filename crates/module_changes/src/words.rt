@@ -21,7 +21,8 @@ pub(crate) fn draw_words<R: Rng>(
     generator: &mut R,
     count: usize,
 ) -> Result<Vec<u64>, AllocError>
-    ensures words { IfOk result (λ words. words.items ≡ next_words_of (R.stream generator.old) count) }
+    ensures words { IfOk result (λ words. words.items
+        ≡ next_words_of (R.stream generator.old) count) }
     ensures after { IfOk result (λ words.
         R.stream generator.new ≡ after_words (R.stream generator.old) count) }
 {

@@ -169,8 +169,8 @@ pub fn list_rewrites<W: Write>(
     options: &Options,
     output: &mut W,
 ) -> Result<(), Failure>
-    ensures lines { OnOk result (WritesList (output_form_of options.now) (scope_of options.now) bytes.now
-        (W.contents output.old) (W.contents output.new)) }
+    ensures lines { OnOk result (WritesList (output_form_of options.now) (scope_of options.now)
+        bytes.now (W.contents output.old) (W.contents output.new)) }
     ensures fails { IfErr result (FailsToList options.now.function bytes.now) }
 {
     let module = module_of(alloc, bytes, options.exact)?;

@@ -183,7 +183,8 @@ fn reach_at(operators: &[OperatorAndByteOffset], marks: &[bool], at: usize, held
 // What the operators count of which some are marked.
 fn reach_of_marked(operators: &[OperatorAndByteOffset], marks: &[bool]) -> Reach
     requires { length marks.now ≡ length operators.now }
-    ensures { ToldReach (AreCounted (OperatorIsMarked marks.now) operators.now (length operators.now)) result }
+    ensures { ToldReach (AreCounted (OperatorIsMarked marks.now) operators.now
+        (length operators.now)) result }
 {
     let mut reach = nothing();
     let mut held = false;

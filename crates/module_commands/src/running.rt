@@ -183,7 +183,8 @@ pub fn run<R: Read, W: Write, E: Write, P: Watch + Drop>(
         → OnOk result (WritesRules form (W.contents output.old) (W.contents output.new)) }
     // The changes have a line each.
     ensures changes { options.now.task ≡ Task.Changes → OnOk result
-        (WritesChanges (output_form_of options.now) (W.contents output.old) (W.contents output.new)) }
+        (WritesChanges (output_form_of options.now) (W.contents output.old)
+        (W.contents output.new)) }
     // No input is read for these two.
     ensures unread { ¬ (TakesModule options.now.task) → input.new ≡ input.old }
     // A list, the blocks, the rules, and the changes, are whole.

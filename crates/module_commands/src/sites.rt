@@ -95,7 +95,8 @@ fn list_function<W: Write>(
     requires inside { n < length wasm.now.layout.entries }
     ensures lines { OnOk result ((text : List ℕ)
         × Appends (W.contents output.old) (W.contents output.new) text
-        × ListsSitesInText (output_form_of options.now) options.now.changes.items bytes.now wasm.now.info
+        × ListsSitesInText (output_form_of options.now) options.now.changes.items bytes.now
+        wasm.now.info
         wasm.now.layout n text) }
     ensures fails { IfErr result FailsToReport }
 {

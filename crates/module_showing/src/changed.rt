@@ -40,7 +40,8 @@ pub fn write_shown_change<W: Write>(
 ) -> Result<(), ShowError>
     // What is written is the first line, and others.
     ensures shown { OnOk result ((more : List ℕ)
-        × Appends (W.contents output.old) (W.contents output.new) (shown_change_line made.now ++ more)) }
+        × Appends (W.contents output.old) (W.contents output.new) (shown_change_line made.now
+        ++ more)) }
     // Nothing is written where no memory was left.
     ensures unwritten { IfErr result (λ e. e ≡ Memory → output.new ≡ output.old) }
 {

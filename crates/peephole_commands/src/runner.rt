@@ -52,7 +52,8 @@ fn answer_input<W: Write>(
     requires short { length input.now ≤ LIMIT }
     requires sound { output.old.failed ≡ false }
     ensures ok { IfOk result
-        (WritesCommandAnswers input.now (W.contents output.old.device) (W.contents output.new.device)) }
+        (WritesCommandAnswers input.now (W.contents output.old.device)
+        (W.contents output.new.device)) }
     ensures err { OnErr result (result ≡ Err RunError.Output) }
     ensures failed { OnErr result (IsTrue output.new.failed) }
 {
@@ -83,7 +84,8 @@ pub fn run<R: Read, W: Write>(
     requires input_sound { input.old.failed ≡ false }
     requires output_sound { output.old.failed ≡ false }
     ensures answer { IfOk result (λ ok. IfSome (R.remaining input.old.device) (λ bytes.
-        WritesCommandAnswers bytes (W.contents output.old.device) (W.contents output.new.device) ok)) }
+        WritesCommandAnswers bytes (W.contents output.old.device)
+        (W.contents output.new.device) ok)) }
     ensures end { OnOk result (IsAtEnd (R.remaining input.new.device)) }
     ensures short { OnOk result
         (IfSome (R.remaining input.old.device) (λ bytes. length bytes ≤ LIMIT)) }

@@ -49,7 +49,8 @@ fn with_verdicts(
 /// colour.
 pub fn show_graph(alloc: Global, graph: &MiniDFG) -> Result<String, Error>
     requires { 0 < length (graph_of graph.now).entries }
-    ensures { MatchResult result (λ text. ShowsGraph graph.now (string_bytes text)) (λ e. e ≡ Memory) }
+    ensures { MatchResult result (λ text. ShowsGraph graph.now (string_bytes text))
+        (λ e. e ≡ Memory) }
 {
     faults_are_found();
     order_is_decided();

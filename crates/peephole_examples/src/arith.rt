@@ -45,7 +45,8 @@ fn behind_num(text: &str) -> Option<&str>
 
 // The node of the number that the digits write.
 fn read_num(digits: &str) -> Result<Arith, TermError>
-    ensures { ReadsInto arithmetic_head arithmetic_ids (λ text count. read_number text) digits.now [] result }
+    ensures { ReadsInto arithmetic_head arithmetic_ids (λ text count. read_number text)
+        digits.now [] result }
 {
     Ok(Arith::Num(read_i32(digits)?))
 }

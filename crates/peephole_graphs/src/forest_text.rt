@@ -65,7 +65,8 @@ fn write_child<F: Fn(&StackEntry) -> Result<String, Error>>(
 ) -> Result<(), Error>
     requires { CanTell F.Fn f.now entry.now }
     ensures { LeavesText (HasEntry (Answers F.Fn f.now) (string_bytes text.old
-        ++ (edges (map (λ ids. ids.now) levels.now) ++ branch (has_some_children later.now))) entry.now)
+        ++ (edges (map (λ ids. ids.now) levels.now)
+        ++ branch (has_some_children later.now))) entry.now)
         result (string_bytes text.new) }
 {
     write_edges(text, levels)?;

@@ -18,7 +18,8 @@ fn ask_tree<'a, L: Language + 'a, F: Fn(Id) -> &'a L>(
     root: Id,
     id_to_lang: F,
 ) -> Result<Vec<&'a L>, Error>
-    requires { (id : Id) → NodeIsReached (CanAnswer L.head L.children (F.post id_to_lang)) root.0 id.0
+    requires { (id : Id)
+        → NodeIsReached (CanAnswer L.head L.children (F.post id_to_lang)) root.0 id.0
         → F.pre id_to_lang id }
     ensures tree { IfOk result (λ nodes. (t : Term _)
         × IsRebuiltTree (CanAnswer L.head L.children (F.post id_to_lang)) root.0 t
@@ -48,7 +49,8 @@ fn lay_asked<L: Language>(alloc: Global, mut asked: Vec<&L>) -> Result<RecExpr<L
     requires tree { (t : Term _) × IsWhole t × AreNodesOfTree L.head L.children asked.items t }
     requires few { length asked.items ≤ 2 ^ 32 }
     ensures laid { IfOk result (λ expr. (t : Term _) → IsWhole t
-        → AreNodesOfTree L.head L.children asked.entry.items t → IsLaidOut L.head L.children t expr) }
+        → AreNodesOfTree L.head L.children asked.entry.items t
+        → IsLaidOut L.head L.children t expr) }
     ensures refused { IfErr result (λ e. e ≡ Error.Memory) }
 {
     let mut expr = RecExpr::new(alloc);

@@ -36,7 +36,8 @@ pub fn held_has_its_text()
 
 /// Each node is of a variant of the table: with that place, that kind of payload, and that many children.
 pub fn is_of_its_variant()
-    ensures { (l : Lang) → IsNode l → variant_fits (place_of l) (payload_of l) (length (ids_of l)) ≡ true }
+    ensures { (l : Lang) → IsNode l → variant_fits (place_of l) (payload_of l) (length (ids_of l))
+        ≡ true }
 {}
 
 /// Each variant of the table is made: where it has that place, that kind of payload and that many children, the makers of nodes

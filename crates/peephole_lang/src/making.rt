@@ -39,7 +39,8 @@ pub fn make_in(
     ensures place { IfOk result (λ made. IfSome made (λ l. place_of l ≡ place)) }
     ensures payload { IfOk result (λ made. IfSome made (λ l. payload_of l ≡ payload)) }
     ensures children { IfOk result (λ made. IfSome made (λ l. ids_of l ≡ children.now)) }
-    ensures count { IfOk result (λ made. IfSome made (λ l. variant_child_count l ≡ length children.now)) }
+    ensures count { IfOk result (λ made.
+        IfSome made (λ l. variant_child_count l ≡ length children.now)) }
     ensures complete { IfOk result (λ made.
         is_some made ≡ is_made place payload (length children.now)) }
 {

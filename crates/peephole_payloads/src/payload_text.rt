@@ -27,7 +27,8 @@ impl<'t> Parts<'t> {
 
     // The first part.
     fn part(&mut self) -> Option<&'t str>
-        ensures { IsFirstPart (remaining_parts self.old.left) result (remaining_parts self.new.left) }
+        ensures { IsFirstPart (remaining_parts self.old.left) result
+            (remaining_parts self.new.left) }
     {
         let text = self.left?;
         match text.split_once('.') {

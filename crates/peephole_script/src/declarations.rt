@@ -103,7 +103,8 @@ fn add_type(alloc: Global, info: &mut ModuleInfo, words: &[&str]) -> Result<(), 
 }
 
 fn add_function(info: &mut ModuleInfo, words: &[&str]) -> Result<(), Fault>
-    ensures { Declares (with_declared_function info.old (texts words.now)) info.old info.new result }
+    ensures { Declares (with_declared_function info.old (texts words.now)) info.old info.new
+        result }
 {
     let [word] = words else {
         return Err(Fault::BadArgument);

@@ -17,7 +17,8 @@ fn between(index: usize) -> &'static str
 
 // Adds the text with that index.
 fn add_cell(text: &mut String, index: usize, line: &str) -> Result<(), AllocError>
-    ensures { OnOk result (string_bytes text.new ≡ string_bytes text.old ++ table_cell_text index line.now) }
+    ensures { OnOk result (string_bytes text.new ≡ string_bytes text.old
+        ++ table_cell_text index line.now) }
 {
     text.push_str(between(index))?;
     text.push_str("`")?;

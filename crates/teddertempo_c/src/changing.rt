@@ -67,8 +67,9 @@ fn changed_by(
     requires changes { changes.now ≡ changes_of options.now }
     ensures changed { IfOk result (λ m. IsChangedBySeed options.now (length bytes.now) room
         bytes.now m.made.items m.bytes.items) }
-    ensures refused { IfErr result (IsRefusal (scope_of_change_options options.now (length bytes.now) room)
-        bytes.now (seeded options.now.seed)) }
+    ensures refused { IfErr result (IsRefusal
+        (scope_of_change_options options.now (length bytes.now) room) bytes.now
+        (seeded options.now.seed)) }
 {
     let scope = Scope {
         changes,

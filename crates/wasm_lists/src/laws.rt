@@ -101,8 +101,8 @@ pub fn lists_are_read()
         (FailsList SpellsMemoryType FailsMemoryType) (list_at memory_type_at) }
     ensures globals { Exact (SpellsList SpellsGlobal) (FailsList SpellsGlobal FailsGlobal)
         (list_at global_at) }
-    ensures entries { Exact (SpellsList SpellsMeasuredSize) (FailsList SpellsMeasuredSize FailsSized)
-        (list_at measured_size_at) }
+    ensures entries { Exact (SpellsList SpellsMeasuredSize)
+        (FailsList SpellsMeasuredSize FailsSized) (list_at measured_size_at) }
     ensures groups { Exact (SpellsList SpellsGroup) (FailsList SpellsGroup FailsGroup)
         (list_at locals_group_at) }
 {

@@ -20,7 +20,8 @@ use wasm_types::PrimitiveTypeInfo;
 /// The type, where it is that of numbers or vectors.
 pub(crate) fn number_type(gives: Option<PrimitiveTypeInfo>) -> Option<PrimitiveTypeInfo>
     ensures some { IfSome result (λ t. (gives ≡ Some t) × IsTrue (is_number_or_vector t)) }
-    ensures none { IfNone result ((t : PrimitiveTypeInfo) → gives ≡ Some t → is_number_or_vector t ≡ false) }
+    ensures none { IfNone result ((t : PrimitiveTypeInfo) → gives ≡ Some t
+        → is_number_or_vector t ≡ false) }
 {
     match gives {
         Some(PrimitiveTypeInfo::FuncRef) => None,

@@ -325,8 +325,9 @@ fn followed(start: usize, kept: Piece, one: Instr, other: Instr) -> NewCode
 
 // What stands from `start` on before `end`, and the number where its value isn't below that.
 fn bounded(start: usize, end: usize, count: u32) -> NewCode
-    ensures { IsNewCode start (Kept start end ∷ New (constant_code integer.I32 count) ∷ Kept start end
-        ∷ new (constant_code integer.I32 count ∷ below_code ∷ select_code ∷ [])) [] result }
+    ensures { IsNewCode start (Kept start end ∷ New (constant_code integer.I32 count)
+        ∷ Kept start end ∷ new (constant_code integer.I32 count ∷ below_code ∷ select_code ∷ []))
+        [] result }
 {
     let limit = constant(IntegerType::I32, count as u64);
     let pieces = [
