@@ -38,7 +38,7 @@ pub(crate) struct Counter {
 }
 
 impl Model for Counter {
-    ghost use Rattle.std.specs.Prelude.{◌≡◌, List, Bool, true, false, length};
+    ghost use Rattle.std.specs.Prelude.{◌≡◌, true, false, length};
     ghost use Rattle.wasm_types.specs.declared.types.PrimitiveTypeInfo.TheVariants.{I32, I64};
     ghost use Rattle.body_rewrites.specs.Listing.{AreRules};
     ghost use Rattle.body_rewrites.specs.Asking.{all_asked, AreLists};

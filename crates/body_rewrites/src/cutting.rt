@@ -1,7 +1,6 @@
 //! Where the parts of a pattern stand in a body.
 ghost use Rattle.std.specs.Option.{option_flatten};
 ghost use Rattle.std.specs.Prelude.{◌≡◌, ◌↔◌, ℕ, List, slice_get, IsTrue, IfSome, IfNone};
-ghost use Rattle.wasm_code.specs.Instruction.{Instruction};
 ghost use Rattle.wasm_code.specs.declared.operator.Operator.{Operator as BodyOperator};
 ghost use Rattle.wasm_execution.specs.Values.{Context};
 ghost use Rattle.rewrite_rules.specs.Instance.{operator_code};

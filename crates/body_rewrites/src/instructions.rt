@@ -1,11 +1,10 @@
 //! Single instructions, in a body and new ones.
 ghost use Rattle.std.specs.Prelude.{◌≡◌, ◌↔◌, ℕ, IsTrue, IfSome, IfNone};
-ghost use Rattle.wasm_code.specs.Instruction.{Instruction, fits_row};
+ghost use Rattle.wasm_code.specs.Instruction.{fits_row};
 ghost use Rattle.wasm_code.specs.Table.{row_at};
 ghost use Rattle.wasm_code.specs.declared.immediate.Imm.TheVariants as imm;
 ghost use Rattle.wasm_execution.specs.declared.integer.IntegerType.{IntegerType as WholeType};
 ghost use Rattle.rewrite_rules.specs.Instance.{constant_code};
-ghost use Rattle.body_rewrites.specs.Open.{HasInstruction};
 ghost use Rattle.body_rewrites.specs.Cutting.{IsConstant};
 ghost use Rattle.body_rewrites.specs.Own.{HasConstant};
 ghost use Rattle.body_rewrites.specs.OwnSites.{HasBare, HasIndexed};

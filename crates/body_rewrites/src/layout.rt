@@ -1,6 +1,5 @@
 //! The lines of the table, laid out by the classes of instructions where they may apply.
 ghost use Rattle.std.specs.Prelude.{◌≡◌, ◌↔◌, ◌&&◌, true, ◌++◌, ◌<◌, ◌≤◌, [], ◌∷◌, ℕ, List, false, length, get_or, IfOk, OnOk};
-ghost use Rattle.rewrite_rules.specs.declared.table.Row.{Row};
 ghost use Rattle.body_rewrites.specs.Alone.{form_of};
 ghost use Rattle.body_rewrites.specs.Asking.{all_asked, asked_as, asked_for, AddsLine, AreLaidOut, AreRootClasses, AreCandidateClasses, AreEmpty, NoneStands, NoneServes, is_alone, form_alone};
 ghost use Rattle.body_rewrites.specs.Rewrites.{asked_widths};

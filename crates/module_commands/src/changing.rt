@@ -1,6 +1,5 @@
 //! The module changed as the options say, and what is told of that.
-ghost use Rattle.std.specs.Prelude.{◌≡◌, ◌≢◌, ◌||◌, ◌++◌, Bool, ℕ, List, [], None, Some, true, false, IfErr, IfOk, OnOk};
-ghost use Rattle.std.specs.Io.KnownBytes.{Appends};
+ghost use Rattle.std.specs.Prelude.{◌≡◌, ◌≢◌, ◌||◌, ◌++◌, ℕ, [], None, Some, true, false, IfErr, IfOk, OnOk};
 ghost use Rattle.module_rewrites.specs.DoesAsBefore.{DoesAsBefore};
 ghost use Rattle.module_commands.specs.Changing.{are_shown, AreShown, IsChangedAs, TellsChanged, TellsModule, WritesChanged, change_ending, failure_by, report_asked};
 ghost use Rattle.module_commands.specs.Failures.{FailsToChange, FailsToInform};

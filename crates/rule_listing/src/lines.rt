@@ -1,5 +1,5 @@
 //! The texts of a rule's rows.
-ghost use Rattle.std.specs.Prelude.{◌≡◌, ℕ, List, length, IfOk, slice_get};
+ghost use Rattle.std.specs.Prelude.{◌≡◌, ℕ, length, IfOk, slice_get};
 ghost use Rattle.rewrite_rules.specs.Names.{rule_of};
 ghost use Rattle.rewrite_rules.specs.Table.{ROWS};
 ghost use Rattle.rule_listing.specs.Listing.{rows_among};

@@ -1,7 +1,7 @@
 //! The list of all rules.
-ghost use Rattle.std.specs.Prelude.{◌≡◌, ◌++◌, ℕ, List, length, map, slice_get, string_bytes, Some, IfErr, IfOk, OnOk};
+ghost use Rattle.std.specs.Prelude.{◌≡◌, ◌++◌, ℕ, List, slice_get, string_bytes, IfErr, IfOk, OnOk};
 ghost use Rattle.std.specs.Io.KnownBytes.{Appends};
-ghost use Rattle.rewrite_rules.specs.Names.{names, rule_of};
+ghost use Rattle.rewrite_rules.specs.Names.{rule_of};
 ghost use Rattle.rule_listing.specs.Listing.{Told, RuleIsTold, AreTold, head_text, rule_text, listing};
 ghost use Rattle.rule_listing.specs.ListedRule.{told_in};
 ghost use Rattle.rule_listing.specs.declared.error.ListError.TheVariants.{Memory, Output};

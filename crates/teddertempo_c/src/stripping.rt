@@ -1,7 +1,6 @@
 //! A buffer's module without its custom sections that name places in its code, written over its front.
 ghost use Rattle.std.specs.Prelude.{◌<◌, ◌≤◌, ℕ, IfErr, IfOk, length};
 ghost use Rattle.wasm_sections.specs.Sections.{IsSectionFault};
-ghost use Rattle.wasm_sections.specs.declared.fault.ModuleFault.{ModuleFault as Fault};
 ghost use Rattle.teddertempo_c.specs.Strips.{IsStripped, Strips};
 
 use crate::mutating::put;

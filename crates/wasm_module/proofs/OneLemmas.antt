@@ -1,5 +1,5 @@
 -- Bytes are one module at most.
-use Rattle.std.proofs.Common.{◌≡◌, inl, inr, ℕ, Bool, false, List, [], length, Option, sym, ap, ap₂, subst, ◌∙◌, true}
+use Rattle.std.proofs.Common.{◌≡◌, inl, inr, ℕ, Bool, false, List, [], length, Option, sym, ap, subst, ◌∙◌, true}
 use Rattle.wasm_code.specs.Number.{SpellsUnsigned}
 use Rattle.wasm_types.specs.Module.{Module}
 use Rattle.wasm_types.specs.declared.types.PrimitiveTypeInfo.{PrimitiveTypeInfo}

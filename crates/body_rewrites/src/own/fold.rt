@@ -1,7 +1,6 @@
 //! An operator on constants → the constant of its value.
 ghost use Rattle.std.specs.Prelude.{◌≡◌, ◌↔◌, ◌<◌, ◌^◌, ℕ, [], ◌∷◌, IsTrue, IfSome, IfNone};
 ghost use mir.Val.{bits};
-ghost use Rattle.wasm_types.specs.declared.types.PrimitiveTypeInfo.{PrimitiveTypeInfo as ValueType};
 ghost use Rattle.wasm_execution.specs.declared.operation.Operation.{Operation as WholeOperation};
 ghost use Rattle.wasm_execution.specs.Values.{Context, type_of, width_of};
 ghost use Rattle.rewrite_rules.specs.declared.pattern.Operator.TheVariants.{Whole};

@@ -1,7 +1,6 @@
 //! What a rule beside the table makes, written.
-ghost use Rattle.std.specs.Prelude.{◌≡◌, ◌+◌, ◌-◌, ◌%◌, ◌<◌, ◌^◌, ℕ, suc, List, [], ◌∷◌, ◌++◌, ◌≤◌, IfSome, IfNone, length, option_to_list};
+ghost use Rattle.std.specs.Prelude.{◌≡◌, ◌+◌, ◌-◌, ◌%◌, ◌<◌, ◌^◌, ℕ, suc, [], ◌∷◌, ◌++◌, ◌≤◌, IfSome, IfNone, length, option_to_list};
 ghost use mir.Val.{bits};
-ghost use Rattle.body_splices.specs.declared.piece.Piece.{Piece as PieceOf};
 ghost use Rattle.body_splices.specs.declared.piece.Piece.TheVariants.{Kept, New};
 ghost use Rattle.wasm_execution.specs.Values.{width_of};
 ghost use Rattle.wasm_execution.specs.declared.integer.IntegerType.TheVariants as integer;
@@ -13,9 +12,8 @@ ghost use Rattle.rewrite_rules.specs.Numbers.{low};
 ghost use Rattle.rewrite_rules.specs.Instance.{constant_code, operator_code};
 ghost use Rattle.rewrite_rules.specs.Beside.{nop_code, drop_code, get_local, set_local, tee_local, get_global, set_global, sum_code};
 ghost use Rattle.rewrite_rules.specs.Flow.{ne_code, eqz_code, below_code, select_code};
-ghost use Rattle.body_rewrites.specs.Changes.{IsWritten};
 ghost use Rattle.rewrite_rules.specs.Wrap.{front_of, back_of};
-ghost use Rattle.body_rewrites.specs.Own.{new, item_piece, item_pieces, made_asks, made_pieces, change_of};
+ghost use Rattle.body_rewrites.specs.Own.{new, item_piece, item_pieces, made_asks, made_pieces};
 ghost use Rattle.body_rewrites.specs.OwnSites.{AreOfRows, IsNewCode, IsWritable, pieces_in_order};
 ghost use Rattle.body_rewrites.specs.declared.own.Made.TheVariants as made;
 

@@ -1,5 +1,5 @@
 -- The unit in the list is that of the operator that the word names.
-use Rattle.std.proofs.Common.{length, arith}
+use Rattle.std.proofs.Common.{arith}
 use Rattle.body_changes.specs.Replacing.{source_context}
 use Rattle.body_changes.proofs.CopyLemmas.{named_made, named_not_made, named_one, none_named, nothing_named, there_named}
 use Rattle.body_changes.proofs.copied.unit_named.Goals as goal
