@@ -1,13 +1,9 @@
 //! Instructions of a body replaced by others that leave the same types: the body stays valid, and computes something else.
 //!
-//! Tests: `tests`, `change_tests`, `access_tests` and `unit_tests`, in this crate; whole modules in `tests/changes.sh`.
+//! Tests: `chosen_changes`, `accesses`, `replaced_code` and `units` of `module_tests`; whole modules in `tests/changes.sh`.
 #![tactic(auto)]
 
-#[cfg(test)]
-mod access_tests;
 mod change;
-#[cfg(test)]
-mod change_tests;
 mod changing;
 mod choosing;
 mod constants;
@@ -23,11 +19,7 @@ mod own;
 mod proposing;
 mod replacing;
 mod source;
-#[cfg(test)]
-mod tests;
 mod typed;
-#[cfg(test)]
-mod unit_tests;
 mod units;
 mod variables;
 

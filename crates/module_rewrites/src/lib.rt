@@ -1,7 +1,7 @@
 //! Modules rewritten by rules: a module in, and out comes one in which an operator of one of its functions, and what stands right
 //! before it, is rewritten in its place, so that what stands round it runs as before; and so several times over, watched.
 //!
-//! Tests: `tests`, in this crate; whole modules in `tests/modules.sh`, `tests/chained.sh` and `tests/files.sh`.
+//! Tests: `module_tests::rewritten_modules`; whole modules in `tests/modules.sh`, `tests/chained.sh` and `tests/files.sh`.
 #![tactic(auto)]
 
 mod attempt;
@@ -13,8 +13,6 @@ mod mutation;
 mod operator_code;
 mod scope;
 mod size;
-#[cfg(test)]
-mod tests;
 mod times;
 mod watch;
 

@@ -1,6 +1,6 @@
 //! Operators drawn as trees: each above its operands, which stand further to the right.
 
-use crate::texts::Text;
+use crate::texts::OperatorText;
 use body_rewrites::{Tree, trees_of};
 use std::alloc::{AllocError, Global};
 use wasm_code::{Operator, OperatorAndByteOffset};
@@ -141,7 +141,7 @@ fn add_operator(
     at: usize,
 ) -> Result<(), AllocError> {
     if let Some((operator, _)) = operators.get(at) {
-        writeln!(text, "{}", Text(*operator))?;
+        writeln!(text, "{}", OperatorText(*operator))?;
     }
     Ok(())
 }

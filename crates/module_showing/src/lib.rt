@@ -1,7 +1,7 @@
 //! Rewrites and changes of modules for people: which operators of which function were rewritten by which rule, or changed how, as they
 //! were and as they are, drawn as trees.
 //!
-//! Tests: `tests` and `text_tests`, in this crate.
+//! Tests: `shown` and `texts` of `module_tests`.
 #![tactic(auto)]
 
 mod changed;
@@ -11,12 +11,9 @@ mod floats;
 mod range;
 mod reading;
 mod shown;
-#[cfg(test)]
-mod tests;
-#[cfg(test)]
-mod text_tests;
 mod texts;
 
 pub use changed::write_shown_change;
 pub use error::ShowError;
 pub use shown::write_shown;
+pub use texts::OperatorText;

@@ -5,10 +5,10 @@ use instruction_names::instruction_name;
 use std::fmt;
 use wasm_code::{AbstractHeapType, BlockType, HeapType, Imm, Instr, MemArg, Operator};
 
-/// The text of an operator: of an instruction as WebAssembly's text format has it, with the alignment of each memory argument, and
-/// numbers of floats in hexadecimal; of any other operator its form here.
+/// The text of an operator: of an instruction as the text format has it (WebAssembly Core Specification 3.0, Text Format,
+/// Instructions), with the alignment of each memory argument, and numbers of floats in hexadecimal; of any other operator its form here.
 #[derive(Clone, Copy)]
-pub(crate) struct Text(pub Operator);
+pub struct OperatorText(pub Operator);
 
 // The text of an instruction.
 #[derive(Clone, Copy)]
@@ -133,7 +133,7 @@ impl fmt::Display for BlockText {
     }
 }
 
-impl fmt::Display for Text {
+impl fmt::Display for OperatorText {
     fn fmt<W: fmt::Write>(&self, f: &mut fmt::Formatter<W>) -> fmt::Result {
         match self.0 {
             Operator::Instr(instr) => write!(f, "{}", InstrText(instr)),

@@ -1,7 +1,7 @@
 //! The rules for people and programs: each with its number, its name, what it does to the number of instructions, whether it needs an engine that
 //! is exact, and its lines.
 //!
-//! Tests: `tests`, in this crate.
+//! Tests: `module_tests::listed_rules`.
 #![tactic(auto)]
 
 mod error;
@@ -13,8 +13,6 @@ mod lines;
 mod listing;
 mod markdown;
 mod rule;
-#[cfg(test)]
-mod tests;
 mod text;
 
 pub use error::ListError;

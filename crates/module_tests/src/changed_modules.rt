@@ -1,11 +1,11 @@
 //! Small modules changed, each written by hand.
 
-use crate::{
+use body_changes::{CHANGES, Change};
+use given_words::Words;
+use module_changes::{
     ChangeAt, ChangedModule, Refusal, Scope, Site, SpliceRefusal, Unwatched, change_at,
     change_module, sites_of, splice_module,
 };
-use body_changes::{CHANGES, Change};
-use given_words::Words;
 use std::test::Fail;
 use wasm_module::{ModuleError, ModuleFault, read_module};
 

@@ -1,10 +1,10 @@
 //! Rewrites and changes of small modules, shown.
 
-use crate::{ShowError, write_shown, write_shown_change};
 use body_changes::Change;
 use body_rewrites::Rewrite;
 use module_changes::MadeChange;
 use module_rewrites::MadeRewrite;
+use module_showing::{ShowError, write_shown, write_shown_change};
 use rewrite_rules::{Rule, row_count};
 use std::alloc::{AllocError, Global};
 use std::str;

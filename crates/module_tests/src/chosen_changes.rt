@@ -1,10 +1,12 @@
 //! Changes that words choose, each written by hand.
 
-use crate::tests::{ADD, COUNT_ZEROS, Code, DROP, FIRST, GLOBAL, ONE, SECOND, instrs, module};
-use crate::{
-    Body, CHANGES, Change, Source, change_last, change_of_words, copied_into, unit_named, units_of,
+use crate::replaced_code::{
+    ADD, COUNT_ZEROS, Code, DROP, FIRST, GLOBAL, ONE, SECOND, instrs, module,
 };
 use PrimitiveTypeInfo::{I32, I64};
+use body_changes::{
+    Body, CHANGES, Change, Source, change_last, change_of_words, copied_into, unit_named, units_of,
+};
 use std::alloc::Global;
 use std::test::Fail;
 use wasm_code::{Imm, read_code};

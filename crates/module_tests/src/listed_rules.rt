@@ -1,6 +1,6 @@
 //! The list of rules.
 
-use crate::{Form, write_rules};
+use rule_listing::{Form, write_rules};
 use std::str;
 use std::test::Fail;
 

@@ -1,6 +1,6 @@
 //! A small module, rewritten by one rule where it makes one thing, under several seeds.
 
-use crate::{Reason, RewrittenModule, Scope, Unwatched, rewrite_module};
+use module_rewrites::{Reason, RewrittenModule, Scope, Unwatched, rewrite_module};
 use rand::rngs::StdRng;
 use rand_core::SeedableRng;
 use rewrite_rules::Rule;

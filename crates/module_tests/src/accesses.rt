@@ -1,8 +1,8 @@
 //! Changes of what an instruction accesses: globals, functions and memories; each written by hand.
 
-use crate::Change;
-use crate::change_tests::{Row, SEVEN, SUM, makes};
-use crate::tests::{FIRST, GLOBAL, SECOND};
+use crate::chosen_changes::{Row, SEVEN, SUM, makes};
+use crate::replaced_code::{FIRST, GLOBAL, SECOND};
+use body_changes::Change;
 use std::test::Fail;
 use wasm_code::{Imm, MemArg};
 

@@ -1,7 +1,7 @@
 //! Texts of operators, as the standard's text format has them.
 
-use crate::texts::Text;
 use instruction_names::instruction_name;
+use module_showing::OperatorText;
 use std::alloc::{AllocError, Global};
 use std::test::Fail;
 use wasm_code::{
@@ -122,7 +122,7 @@ fn text_of(alloc: Global, opcode: Opcode, imm: Imm) -> Result<String, AllocError
         return Ok(String::new(alloc));
     };
     match Instr::new(row, imm) {
-        Some(instr) => format!(in alloc; "{}", Text(Operator::Instr(instr))),
+        Some(instr) => format!(in alloc; "{}", OperatorText(Operator::Instr(instr))),
         None => Ok(String::new(alloc)),
     }
 }

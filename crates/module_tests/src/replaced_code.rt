@@ -2,11 +2,11 @@
 ghost use Rattle.std.specs.Prelude.{IfOk};
 ghost use Rattle.body_splices.specs.OwnBytes.{IsBodyIn};
 
-use crate::{
+use PrimitiveTypeInfo::{Empty, I32, I64};
+use body_changes::{
     Scope, Source, code_of_words, is_drawable, other_operator, replace_code, types_in_place,
     types_of_code,
 };
-use PrimitiveTypeInfo::{Empty, I32, I64};
 use std::alloc::{AllocError, Global};
 use std::test::Fail;
 use wasm_code::{Function, Imm, Instr, OperatorAndByteOffset, read_code};

@@ -1,8 +1,8 @@
 //! Small bodies with their units, each written by hand.
 
-use crate::{Takes, Unit, units_of};
 use PrimitiveTypeInfo::{I32, I64};
 use Takes::{One, Other, Two};
+use body_changes::{Takes, Unit, units_of};
 use std::alloc::{AllocError, Global};
 use std::test::Fail;
 use wasm_code::read_code;
