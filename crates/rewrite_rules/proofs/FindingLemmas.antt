@@ -16,7 +16,7 @@ none_past [] part n l = refl
 none_past (es ∷ lists) zero n l = absurd (omega arith)
 none_past (es ∷ lists) (suc part) n l = none_past lists part n (omega arith)
 
-pub elsewhere : (part n : ℕ) → 83 ≤ part → None ≡ slice_get (part_at part) n
+pub elsewhere : (part n : ℕ) → 84 ≤ part → None ≡ slice_get (part_at part) n
 unfolding parts
 elsewhere part n l = none_past parts part n l
 

@@ -63,7 +63,8 @@ shrinking =
 
 keeping : List (List ℕ)
 keeping =
-    codes "commute" ∷ codes "turn_comparison" ∷ codes "associate_left" ∷ codes "associate_right" ∷ codes "shift_to_product" ∷
+    codes "exchange_in_group" ∷ codes "commute" ∷ codes "turn_comparison" ∷ codes "associate_left" ∷ codes "associate_right" ∷
+    codes "shift_to_product" ∷
     codes "product_to_shift" ∷ codes "difference_to_sum" ∷ codes "sum_to_difference" ∷ codes "quotient_to_shift" ∷
     codes "shift_to_quotient" ∷ codes "remainder_to_mask" ∷ codes "mask_to_remainder" ∷ codes "rotl_to_rotr" ∷ codes "rotr_to_rotl" ∷
     codes "difference_to_tests" ∷ codes "tests_to_difference" ∷ codes "negate_by_difference" ∷ codes "mask_to_wrap" ∷

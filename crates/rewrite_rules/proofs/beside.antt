@@ -9,6 +9,7 @@ pub mod FrameLemmas
 pub mod ConversionLemmas
 pub mod AccessNumbers
 pub mod AccessLemmas
+pub mod StoreLemmas
 pub mod ConstantLemmas
 pub mod AccessParts
 pub mod AccessPairs

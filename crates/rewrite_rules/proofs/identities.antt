@@ -45,4 +45,7 @@ pub mod SignTestIdentities
 pub mod PowerTestIdentities
 pub mod HalfIdentities
 pub mod UndoneRows
+pub mod IntegerRows
+pub mod FloatRows
+pub mod FurtherIdentities
 pub mod TableLemmas

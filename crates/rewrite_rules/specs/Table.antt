@@ -45,6 +45,7 @@ use Rattle.rewrite_rules.specs.declared.table.lane_tests.TheConstants.{FLOAT_LAN
 use Rattle.rewrite_rules.specs.declared.table.lane_moves.TheConstants.{LANE_CONVERSIONS, REPLACED_BITS, MASKED_LANES, UNMASKED_LANES}
 use Rattle.rewrite_rules.specs.declared.table.accesses.TheConstants.{WIDE_ACCESSES, CONSTANT_BITS}
 use Rattle.rewrite_rules.specs.declared.table.control.TheConstants.{CONTROL}
+use Rattle.rewrite_rules.specs.declared.table.further.TheConstants.{FURTHER}
 use Rattle.rewrite_rules.specs.Pattern.{Kind, fixed, any, operands_of, Pattern, Patterns, hole, constant, drawn, apply, none, ◌▹◌}
 use Rattle.rewrite_rules.specs.Instance.{row_number, immediate_of}
 use Rattle.rewrite_rules.specs.Parts.{parts_of}
@@ -205,7 +206,7 @@ parts =
     EXTENSIONS ∷ EXTENSION_MASKS ∷ EXTENSION_MOVES ∷ SIGN_TESTS ∷ POWER_TESTS ∷ ZERO_COUNTS ∷ HALVES ∷ UNDONE ∷
     FLOAT_LANE_ORDERS ∷ FLOAT_LANE_OPPOSITES ∷ FLOAT_LANE_CHOICES ∷ SATURATED_LANES ∷ LANE_COUNTS ∷ NARROWED_LANES ∷
     LANE_CONVERSIONS ∷ CONVERSIONS ∷ REPLACED_BITS ∷ MASKED_LANES ∷ UNMASKED_LANES ∷ SWIZZLES ∷ WIDE_ACCESSES ∷ FLOAT_LANE_BOUNDS ∷
-    CONTROL ∷ CONSTANT_BITS ∷ []
+    CONTROL ∷ CONSTANT_BITS ∷ FURTHER ∷ []
 
 abbrev pub part_at : ℕ → List Entry
 part_at n = get_or parts n []

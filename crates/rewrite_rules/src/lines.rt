@@ -8,6 +8,7 @@ ghost use Rattle.rewrite_rules.specs.Names.{begin_at};
 mod accesses;
 mod control;
 mod floats;
+mod further;
 mod integers;
 mod lane_moves;
 mod lane_tests;
@@ -22,6 +23,7 @@ use crate::lines::floats::{
     in_conversions, in_float_bits, in_float_copies, in_float_orders, in_float_selves,
     in_float_signs, in_float_tests, in_float_turns, in_floats,
 };
+use crate::lines::further::in_further;
 use crate::lines::integers::{
     in_absorbed, in_again, in_alone, in_back, in_counted, in_equals, in_extension_masks,
     in_extension_moves, in_extensions, in_forms, in_front, in_groups, in_halves, in_longer,
@@ -42,6 +44,7 @@ use crate::lines::vectors::{
     in_lane_sums, in_lane_turns, in_lane_zeros, in_saturated_lanes, in_swizzles, in_vector_bits,
     in_vector_decided, in_vector_forms,
 };
+use crate::table::further::FURTHER;
 use crate::table::{Row, TableLine};
 
 // The line with that number among these.
@@ -139,17 +142,18 @@ fn line_of(part: usize, number: usize) -> Option<&'static TableLine>
         80 => in_float_lane_bounds(number),
         81 => in_control(number),
         82 => in_constant_bits(number),
+        83 => in_further(number),
         _ => None,
     }
 }
 
 // Where the lines of each constant begin in the table.
-const STARTS: [usize; 83] = [
+const STARTS: [usize; 84] = [
     0, 15, 25, 35, 46, 62, 70, 77, 83, 95, 105, 120, 126, 137, 148, 165, 181, 196, 212, 216, 230,
     249, 269, 289, 307, 319, 339, 351, 375, 387, 406, 424, 445, 469, 489, 505, 525, 541, 561, 577,
     597, 613, 625, 649, 673, 697, 721, 741, 765, 789, 809, 833, 857, 871, 887, 913, 933, 953, 1001,
     1007, 1032, 1052, 1060, 1070, 1074, 1080, 1084, 1094, 1106, 1114, 1122, 1140, 1164, 1172, 1188,
-    1208, 1232, 1256, 1280, 1282, 1290, 1298, 1330,
+    1208, 1232, 1256, 1280, 1282, 1290, 1298, 1330, 1334,
 ];
 
 // The number of the constant among whose lines one with that number stands; behind them all, the last one.
@@ -201,7 +205,7 @@ pub(crate) fn name_at(number: usize) -> Option<&'static str>
 }
 
 // How many lines there are.
-const LINE_COUNT: usize = 1334;
+const LINE_COUNT: usize = 1334 + FURTHER.len();
 
 /// How many rows there are.
 pub fn row_count() -> usize

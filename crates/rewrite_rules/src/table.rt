@@ -510,6 +510,7 @@ macro_rules! own {
 pub(crate) mod accesses;
 pub(crate) mod control;
 pub(crate) mod floats;
+pub(crate) mod further;
 pub(crate) mod integers;
 pub(crate) mod lane_moves;
 pub(crate) mod lane_tests;

@@ -16,8 +16,8 @@ use Rattle.rewrite_rules.specs.declared.access.Conversion.{Conversion}
 use Rattle.rewrite_rules.specs.declared.access.Conversion.TheVariants.{Nothing, By, With}
 use Rattle.rewrite_rules.specs.declared.pattern.Operator.TheVariants.{Whole, Exact}
 use Rattle.rewrite_rules.specs.Exact.{exact_operator}
-use Rattle.rewrite_rules.proofs.beside.AccessLemmas.{IsLoadRow, IsStoreRow, Follows, nothing_follows, conversion_follows, Stores}
-use Rattle.rewrite_rules.proofs.beside.AccessLemmas.{bare_stores, conversion_stores}
+use Rattle.rewrite_rules.proofs.beside.AccessLemmas.{IsLoadRow, IsStoreRow, Follows, nothing_follows, conversion_follows}
+use Rattle.rewrite_rules.proofs.beside.StoreLemmas.{Stores, bare_stores, conversion_stores}
 use Rattle.rewrite_rules.proofs.beside.AccessNumbers.{wide_enough, low_kept, masked_kept, low_bytes_of, masked_bytes, extended_8}
 use Rattle.rewrite_rules.proofs.beside.AccessNumbers.{extended_16, extended_8_wide, extended_16_wide, extended_32_wide, again_8, again_16}
 use Rattle.rewrite_rules.proofs.beside.AccessNumbers.{upper_cleared}

@@ -12,7 +12,8 @@ use Rattle.rewrite_rules.specs.declared.access.AccessSide.{AccessSide}
 use Rattle.rewrite_rules.specs.Access.{access_at, code_with, side_code, left_code, right_code, written_by, written_imm}
 use Rattle.rewrite_rules.specs.Beside.{StandsWith}
 use Rattle.rewrite_rules.proofs.AccessFormedLemmas.{IsRealigned, realigned_is, align_written}
-use Rattle.rewrite_rules.proofs.beside.AccessLemmas.{loads_stand, stores_stand}
+use Rattle.rewrite_rules.proofs.beside.AccessLemmas.{loads_stand}
+use Rattle.rewrite_rules.proofs.beside.StoreLemmas.{stores_stand}
 use Rattle.rewrite_rules.proofs.beside.AccessRows.{Alike, pair_at}
 
 pub access_stands : MoreGlobalsCheckAlike → (context : Context) (n : ℕ) (a : Access) (i k : Imm) → context.info.exact ≡ true → access_at n ≡ Some a →

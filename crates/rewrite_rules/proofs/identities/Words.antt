@@ -84,6 +84,10 @@ turn f g t = line t (compared t f x y) (compared t g y x)
 abbrev pub group_left : Binary → IntegerType → Line
 group_left f t = line t (two t f x (two t f y z)) (two t f (two t f x y) z)
 
+-- of three operands the first two exchanged, where the last two stand together
+abbrev pub exchanged : Binary → IntegerType → Line
+exchanged f t = line t (two t f x (two t f y z)) (two t f y (two t f x z))
+
 -- over both parts of an operand
 abbrev pub parted : (f g : Binary) → IntegerType → Line
 parted f g t = line t (two t f (two t g x y) (constant t c)) (two t g (two t f x (constant t c)) (two t f y (constant t c)))

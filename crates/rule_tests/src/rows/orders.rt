@@ -86,6 +86,19 @@ associate_right | T.const 1; T.const 2; T.xor; T.const 3; T.xor | 4 | T | T.cons
 associate_right | T.const 1; T.const 2; T.add; T.const 3; T.sub | 4 | T | -
 associate_right | T.const 1; T.const 2; T.sub; T.const 3; T.add | 4 | T | -
 associate_right | T.const 1; T.const 2; T.add | 2 | T | -
+# exchange_in_group: the first two of three operands, where the last two stand together.
+exchange_in_group | T.const 1; T.const 2; T.const 3; T.add; T.add | 4 | T | T.const 2; T.const 1; T.const 3; T.add; T.add
+exchange_in_group | T.const 1; T.const 2; T.const 3; T.mul; T.mul | 4 | T | T.const 2; T.const 1; T.const 3; T.mul; T.mul
+exchange_in_group | T.const 1; T.const 2; T.const 3; T.and; T.and | 4 | T | T.const 2; T.const 1; T.const 3; T.and; T.and
+exchange_in_group | T.const 1; T.const 2; T.const 3; T.or; T.or | 4 | T | T.const 2; T.const 1; T.const 3; T.or; T.or
+exchange_in_group | T.const 1; T.const 2; T.const 3; T.xor; T.xor | 4 | T | T.const 2; T.const 1; T.const 3; T.xor; T.xor
+exchange_in_group | local.get 0; local.get 1; local.get 0; call 0; i32.add; i32.add | 5 | i32 | local.get 1; local.get 0; local.get 0; call 0; i32.add; i32.add
+# One of the two writes what the other one reads, or both may trap; another operator, or the first two together.
+exchange_in_group | local.get 0; i32.const 5; local.tee 0; local.get 1; i32.add; i32.add | 5 | i32 | -
+exchange_in_group | local.get 0; local.get 1; i32.div_u; local.get 0; local.get 1; i32.rem_s; local.get 1; i32.xor; i32.xor | 8 | i32 | -
+exchange_in_group | T.const 1; T.const 2; T.const 3; T.sub; T.add | 4 | T | -
+exchange_in_group | T.const 1; T.const 2; T.const 3; T.and; T.or | 4 | T | -
+exchange_in_group | T.const 1; T.const 2; T.add; T.const 3; T.add | 4 | T | -
 # An operation more that changes nothing.
 add_zero | T.const 7 | 0 | T | T.const 7; T.const 0; T.add
 sub_zero | T.const 7 | 0 | T | T.const 7; T.const 0; T.sub

@@ -336,5 +336,9 @@ pub returns-in-82 : goal.returns-in-82
 unfolding parts
 returns-in-82 c = c.in_constant_bits.ensures ∙ ap (λ part. slice_get (part_at part) c.args.number) (sym c.in-82.is)
 
+pub returns-in-83 : goal.returns-in-83
+unfolding parts
+returns-in-83 c = c.in_further.ensures ∙ ap (λ part. slice_get (part_at part) c.args.number) (sym c.in-83.is)
+
 pub returns-in_default : goal.returns-in_default
 returns-in_default c = elsewhere c.args.part c.args.number (omega arith)
