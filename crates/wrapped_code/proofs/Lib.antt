@@ -6,6 +6,7 @@ mod ControlLemmas
 mod TableLemmas
 mod HandlerLemmas
 mod ReadLemmas
+mod WrapPieceLemmas
 mod WrapLemmas
 mod FrameLemmas
 mod StepLemmas

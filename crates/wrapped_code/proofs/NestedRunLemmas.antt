@@ -22,7 +22,7 @@ use Rattle.wrapped_code.proofs.MovedLemmas.{moved, moved_piece, moved_labels, mo
 use Rattle.wrapped_code.proofs.HandlerLemmas.{NoHandler}
 use Rattle.wrapped_code.proofs.BetweenLemmas.{branch_between, control_between}
 use Rattle.wrapped_code.proofs.UnwrapLemmas.{no_globals, none_more}
-use Rattle.wrapped_code.proofs.WrapLemmas.{further, further_is}
+use Rattle.wrapped_code.proofs.WrapPieceLemmas.{further, further_is}
 use Rattle.wrapped_code.proofs.NestedVisitLemmas.{Spot, usual, behind, seen, visited, visited_behind, Visits, visits_moved}
 
 -- ---- the bodies

@@ -29,6 +29,7 @@ use Rattle.wrapped_code.proofs.RunLemmas.{through}
 use Rattle.wrapped_code.proofs.MovedLemmas.{moved, moved_piece, moved_labels, moved_reached, moved_before, moved_behind, piece_before, piece_behind}
 use Rattle.wrapped_code.proofs.HandlerLemmas.{NoHandler}
 use Rattle.wrapped_code.proofs.OverLemmas.{never_stuck}
+use Rattle.wrapped_code.proofs.WrapPieceLemmas as pieces
 use Rattle.wrapped_code.proofs.WrapLemmas as wrap
 
 -- ---- no further globals
@@ -95,7 +96,7 @@ module _ (context : Context) (sound_law : StandardControlIsSound) (valid : Valid
 
   same_control : (k : ℕ) (labels : List Label) → Same (plain_control k labels) (wrapped_control (moved n m k) (las labels))
   same_control k labels stack s a t =
-      wrap.controls_moved context sound_law [] results beyond front back own c runs_as unhandled k labels stack s
+      pieces.controls_moved context sound_law [] results beyond front back own c runs_as unhandled k labels stack s
 
   same_piece : (k j : ℕ) (labels : List Label) → moved n m k ≡ j → piece wrapped_body j ≡ piece plain_body k →
       Same (λ stack s. pass plain_control plain_body (At k labels stack s)) (λ stack s. pass wrapped_control wrapped_body (At j (las labels) stack s))
@@ -134,11 +135,11 @@ module _ (context : Context) (sound_law : StandardControlIsSound) (valid : Valid
       let free : run own stack s ≢ Stuck = never_stuck valid context own us pushes stack s t in
       let alike = runs_alike stack s a t in
       let there : past c n ≡ moved n m n =
-      wrap.past_is context sound_law [] results beyond front back own c runs_as unhandled ∙ sym (moved_behind n m n (omega arith)) in
+      pieces.past_is context sound_law [] results beyond front back own c runs_as unhandled ∙ sym (moved_behind n m n (omega arith)) in
       let f : List Value → State → Reached = λ stack s. go_on (plain_control n labels) (run last stack s) in
       let g : List Value → State → Reached = λ stack s. go_on (wrapped_control (moved n m n) (las labels)) (run last stack s) in
       through info results (by_asked (structural wrapped_body) beyond) wrapped_body c n back (las labels) stack s
-      (wrap.new_here context sound_law [] results beyond front back own c runs_as unhandled) (λ e. free (sym alike ∙ e)) ∙
+      (pieces.new_here context sound_law [] results beyond front back own c runs_as unhandled) (λ e. free (sym alike ∙ e)) ∙
       (ap (λ i. go_on (λ stack s. go_on (wrapped_control i (las labels)) (run last stack s)) (run_wrapped info c stack s)) there ∙
       (ap (go_on g) alike ∙
       same_code own f g (same_code last (plain_control n labels) (wrapped_control (moved n m n) (las labels)) (same_control n labels)) stack s a t))
@@ -150,8 +151,8 @@ module _ (context : Context) (sound_law : StandardControlIsSound) (valid : Valid
       same_is (λ stack s. go_on (after_own labels) (run first stack s)) (λ stack s. go_on (through_code (las labels)) (run first stack s))
       (λ stack s. pass plain_control plain_body (At n labels stack s))
       (λ stack s. visits_past wrapped_control wrapped_body c n (pass wrapped_control wrapped_body (At n (las labels) stack s)))
-      (wrap.old_here context sound_law [] results beyond front back own c runs_as unhandled labels)
-      (wrap.new_goes context sound_law [] results beyond front back own c runs_as unhandled (las labels))
+      (pieces.old_here context sound_law [] results beyond front back own c runs_as unhandled labels)
+      (pieces.new_goes context sound_law [] results beyond front back own c runs_as unhandled (las labels))
       (same_code first (after_own labels) (through_code (las labels)) (same_through labels))
 
   -- ---- visits
@@ -197,7 +198,7 @@ module _ (context : Context) (sound_law : StandardControlIsSound) (valid : Valid
             (λ stack s. ap (λ i. visit wrapped_control wrapped_body k (At i (las labels) stack s)) (piece_before n m k (omega arith)) ∙
             visit_at wrapped_control wrapped_body k (las labels) stack s)
             (same_piece k k labels (moved_before n m k l)
-            (wrap.pieces_before context sound_law [] results beyond front back own c runs_as unhandled k l));
+            (pieces.pieces_before context sound_law [] results beyond front back own c runs_as unhandled k l));
       }
 
   goes_here : GoesSame n (λ q. visits_past wrapped_control wrapped_body c n (visit wrapped_control wrapped_body n q))
@@ -234,7 +235,7 @@ module _ (context : Context) (sound_law : StandardControlIsSound) (valid : Valid
             (λ stack s. ap (λ i. visit wrapped_control wrapped_body j (At i (las labels) stack s)) (piece_behind n m k l ∙ sym f) ∙
             visit_at wrapped_control wrapped_body j (las labels) stack s)
             (same_piece k j labels (moved_behind n m k (omega arith) ∙ sym f)
-            (ap (piece wrapped_body) f ∙ wrap.pieces_behind context sound_law [] results beyond front back own c runs_as unhandled k l));
+            (ap (piece wrapped_body) f ∙ pieces.pieces_behind context sound_law [] results beyond front back own c runs_as unhandled k l));
       }
 
   -- ---- laps
@@ -253,22 +254,22 @@ module _ (context : Context) (sound_law : StandardControlIsSound) (valid : Valid
       (visits wrapped_control wrapped_body k q) (upto k (omega arith) p q h)
 
   beyond_it : (l : ℕ) (p q : Reached) → Along p q →
-      Along (visits plain_control plain_body (wrap.further n l) p) (visits wrapped_control wrapped_body (wrap.further (past c n) l) q)
+      Along (visits plain_control plain_body (pieces.further n l) p) (visits wrapped_control wrapped_body (pieces.further (past c n) l) q)
   beyond_it zero p q h =
       subst (Along (visits plain_control plain_body n p)) (sym (visits_split wrapped_control wrapped_body c n q))
       (reaching n (visits_past wrapped_control wrapped_body c n) (omega arith) goes_here p q h)
   beyond_it (suc l) p q h =
-      let a = wrap.further_is n l in let b = wrap.further_is (past c n) l in
-      let e = wrap.past_is context sound_law [] results beyond front back own c runs_as unhandled in
-      with_visit (suc (wrap.further n l)) (visit wrapped_control wrapped_body (suc (wrap.further (past c n) l)))
-      (goes_behind (suc (wrap.further n l)) (suc (wrap.further (past c n) l)) (omega arith) (omega arith))
-      (visits plain_control plain_body (wrap.further n l) p) (visits wrapped_control wrapped_body (wrap.further (past c n) l) q) (beyond_it l p q h)
+      let a = pieces.further_is n l in let b = pieces.further_is (past c n) l in
+      let e = pieces.past_is context sound_law [] results beyond front back own c runs_as unhandled in
+      with_visit (suc (pieces.further n l)) (visit wrapped_control wrapped_body (suc (pieces.further (past c n) l)))
+      (goes_behind (suc (pieces.further n l)) (suc (pieces.further (past c n) l)) (omega arith) (omega arith))
+      (visits plain_control plain_body (pieces.further n l) p) (visits wrapped_control wrapped_body (pieces.further (past c n) l) q) (beyond_it l p q h)
 
   lap_along : (p q : Reached) → Along p q → Along (lap plain_control plain_body p) (lap wrapped_control wrapped_body q)
   lap_along p q h =
       subst (λ (x : ℕ × ℕ). Along (visits plain_control plain_body x.0 p) (visits wrapped_control wrapped_body x.1 q))
-      (ap₂ (λ (x y : ℕ). (x, y)) (sym (wrap.old_length context sound_law [] results beyond front back own c runs_as unhandled))
-      (sym (wrap.new_length context sound_law [] results beyond front back own c runs_as unhandled)))
+      (ap₂ (λ (x y : ℕ). (x, y)) (sym (pieces.old_length context sound_law [] results beyond front back own c runs_as unhandled))
+      (sym (pieces.new_length context sound_law [] results beyond front back own c runs_as unhandled)))
       (beyond_it (length (structural back)) p q h)
 
   runs_along : (fuel : ℕ) (p q : Reached) → Along p q → Along (runs plain_control plain_body fuel p) (runs wrapped_control wrapped_body fuel q)
