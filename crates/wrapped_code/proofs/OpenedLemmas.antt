@@ -19,7 +19,7 @@ use Rattle.wasm_equivalence.specs.control.Standard.{Beyond, handler_arity}
 use Rattle.wasm_equivalence.specs.validation.Algorithm.{all_may_be, Frame, can_pop, popped, with_pushed, row_entries, check_row, on_innermost, check}
 use Rattle.wasm_equivalence.specs.validation.StandardSteps.{pop, push, cut_off, opened_by, body_frame, open_frame, types_by, label_types}
 use Rattle.wasm_equivalence.specs.validation.StandardSteps.{can_close, leaves_alike, close_frame, other_of, other_frame, can_jump_all}
-use Rattle.wasm_equivalence.specs.validation.StandardSteps.{can_call, can_branch, left, only_where, is_tried_by, is_tried, is_try_by}
+use Rattle.wasm_equivalence.specs.validation.StandardSteps.{can_call_indirect, can_branch, left, only_where, is_tried_by, is_tried, is_try_by}
 use Rattle.wasm_equivalence.specs.validation.StandardSteps.{is_try, catch_frame, delegate_frame, other_step, by_step, standard_steps}
 use Rattle.wrapped_code.specs.Handlers.{handles_by}
 use Rattle.wrapped_code.specs.Opened.{opens_bare, open_after, open_behind, TakesNothing}
@@ -281,7 +281,7 @@ module _ (info : Module) (results : List PrimitiveTypeInfo) (beyond : Beyond) (k
   step_follows (op.CallIndirect type table) free e =
       let a = call_arity info type table in
       kept (given a.starts a.ends) (given_keeps a.starts a.ends)
-      (only_some (can_call info type table) (on_innermost (given a.starts a.ends) fs) next e)
+      (only_some (can_call_indirect info type table) (on_innermost (given a.starts a.ends) fs) next e)
   step_follows (op.Other x) free e = other_follows x (role_of x) (free x refl) e
   step_follows o free e = absurd cc
 

@@ -12,7 +12,7 @@ use Rattle.wasm_equivalence.specs.control.Function.{Label, At}
 use Rattle.wasm_equivalence.specs.control.Blocks.{function_arity, table_index_type, call_arity}
 use Rattle.wasm_equivalence.specs.control.Standard.{last_of, Target, calls, fails, called, call_target, call_at}
 use Rattle.wasm_equivalence.specs.validation.Algorithm.{Frame, on_innermost}
-use Rattle.wasm_equivalence.specs.validation.StandardSteps.{pop, push, can_call}
+use Rattle.wasm_equivalence.specs.validation.StandardSteps.{pop, push, can_call_indirect}
 use Rattle.wasm_equivalence.specs.validation.Sound.{HasValues}
 use Rattle.wasm_equivalence.proofs.validation.PoppedLemmas.{pop_values, push_values, last_is, front_is, last_value}
 use Rattle.wasm_equivalence.proofs.validation.RunChecks.{if_some}
@@ -66,7 +66,7 @@ module _ (walk : Walk) where
       let f = function_arity (slice_get m.types type) in
       let ar = call_arity m type table in
       let next = trace.frames (suc k) in
-      let (can, b) = if_some (can_call m type table) (on_innermost (λ g. option_map (push ar.ends) (pop ar.starts g)) (g ∷ outer)) next e in
+      let (can, b) = if_some (can_call_indirect m type table) (on_innermost (λ g. option_map (push ar.ends) (pop ar.starts g)) (g ∷ outer)) next e in
       let (h, c, d) = map_some (λ (h : Frame). h ∷ outer) (option_map (push ar.ends) (pop ar.starts g)) next b in
       let (q, u, v) = map_some (push ar.ends) (pop ar.starts g) h c in
       let top = top_of walk g outer labels stack fits in

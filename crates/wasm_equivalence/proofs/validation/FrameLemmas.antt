@@ -19,7 +19,7 @@ use Rattle.wasm_equivalence.specs.control.Standard.{Beyond, handler_arity}
 use Rattle.wasm_equivalence.specs.validation.Algorithm.{all_may_be, row_entries, Frame, can_pop, popped, with_pushed, check_row, check_code, on_innermost}
 use Rattle.wasm_equivalence.specs.validation.StandardSteps.{pop, push, cut_off, opened_by, open_frame, label_types, can_close, close_frame}
 use Rattle.wasm_equivalence.specs.validation.StandardSteps.{other_of, other_frame, can_jump_all, can_branch, left, are_labels, is_tried}
-use Rattle.wasm_equivalence.specs.validation.StandardSteps.{is_try, catch_frame, delegate_frame, other_step, can_call, by_step}
+use Rattle.wasm_equivalence.specs.validation.StandardSteps.{is_try, catch_frame, delegate_frame, other_step, can_call_indirect, by_step}
 use Rattle.wasm_equivalence.proofs.validation.RunChecks.{if_some}
 use Rattle.wasm_equivalence.proofs.validation.TraceLemmas.{check_instructions}
 
@@ -237,7 +237,7 @@ module _ (m : Module) (results : List PrimitiveTypeInfo) where
       like_then (cut_like (pop (label_types f) d) d h (pop_like (label_types f) d) w) (pop_like one g d u)) fs next b
   effect beyond (op.CallIndirect type table) k fs next e =
       let ar = call_arity m type table in
-      let (a, b) = if_some (can_call m type table) (on_innermost (λ g. option_map (push ar.ends) (pop ar.starts g)) fs) next e in
+      let (a, b) = if_some (can_call_indirect m type table) (on_innermost (λ g. option_map (push ar.ends) (pop ar.starts g)) fs) next e in
       flat (λ g. option_map (push ar.ends) (pop ar.starts g)) (λ g h. push_like ar.ends (pop ar.starts g) g h (pop_like ar.starts g)) fs next b
   effect beyond (op.Other o) k fs next e = other_effect_of (role_of o) refl e
     where

@@ -95,19 +95,19 @@ can_jump_all frames default f [] = true
 can_jump_all frames default f (l ∷ ls) = can_jump frames default f l && can_jump_all frames default f ls
 
 -- the elements may be functions
-abbrev pub is_function : ElementType → Bool
-is_function element.Func = true
-is_function element.Extern = false
-is_function element.Other = true
+abbrev pub may_be_function : ElementType → Bool
+may_be_function element.Func = true
+may_be_function element.Extern = false
+may_be_function element.Other = true
 
 -- there is a table, whose elements may be functions
 abbrev pub has_functions : Option TableType → Bool
-has_functions (Some t) = is_function t.element_type
+has_functions (Some t) = may_be_function t.element_type
 has_functions None = false
 
 -- the function's type and a table of functions are there
-abbrev pub can_call : Module → (type table : ℕ) → Bool
-can_call m type table = is_arity (slice_get m.types type) && has_functions (slice_get m.tables table)
+abbrev pub can_call_indirect : Module → (type table : ℕ) → Bool
+can_call_indirect m type table = is_arity (slice_get m.types type) && has_functions (slice_get m.tables table)
 
 -- the label that another operator may branch to is there, and the frame with what is then left has values of its types
 abbrev pub can_branch : List Frame → (f : Frame) → Option (ℕ × List PrimitiveTypeInfo) → Bool
@@ -192,7 +192,7 @@ module _ (m : Module) (results : List PrimitiveTypeInfo) where
   by_step beyond (Some op.Unreachable) k frames = on_innermost (λ g. Some (cut_off g)) frames
   by_step beyond (Some (op.CallIndirect type table)) k frames =
       let a = call_arity m type table in
-      only_where (can_call m type table) (on_innermost (λ g. option_map (push a.ends) (pop a.starts g)) frames)
+      only_where (can_call_indirect m type table) (on_innermost (λ g. option_map (push a.ends) (pop a.starts g)) frames)
   by_step beyond (Some (op.Other o)) k frames = other_step o (role_of o) beyond k frames
   by_step beyond o k frames = None
 
