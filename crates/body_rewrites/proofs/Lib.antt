@@ -1,5 +1,6 @@
 pub mod StandsLemmas
 pub mod OpenLemmas
+pub mod OpenTreeLemmas
 pub mod PassLemmas
 pub mod BlockLemmas
 pub mod AloneLemmas
@@ -30,6 +31,7 @@ pub mod WrapFindLemmas
 pub mod FlowLemmas
 pub mod IndexLemmas
 pub mod FlowStandLemmas
+pub mod SelectStandLemmas
 pub mod IndexStandLemmas
 pub mod BranchStandLemmas
 pub mod FlowFindLemmas

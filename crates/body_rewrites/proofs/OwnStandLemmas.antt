@@ -41,8 +41,8 @@ use Rattle.body_rewrites.proofs.StandsLemmas.{Operators, stands_nothing, stands_
 use Rattle.body_rewrites.proofs.LeavesLemmas.{trees_leave}
 use Rattle.body_rewrites.proofs.ChangedLemmas.{keeps_may_stand}
 use Rattle.body_rewrites.proofs.WrapStandLemmas.{wrap_stands, unwrap_stands}
-use Rattle.body_rewrites.proofs.FlowStandLemmas.{FlowLaws, select_stands, choice_stands, test_stands, double_stands, untest_stands}
-use Rattle.body_rewrites.proofs.FlowStandLemmas.{undouble_stands, put_stands, gone_stands}
+use Rattle.body_rewrites.proofs.FlowStandLemmas.{FlowLaws, test_stands, double_stands, untest_stands, undouble_stands, put_stands, gone_stands}
+use Rattle.body_rewrites.proofs.SelectStandLemmas.{select_stands, choice_stands}
 use Rattle.body_rewrites.proofs.IndexStandLemmas.{bound_stands, unbound_stands}
 use Rattle.body_rewrites.proofs.BranchStandLemmas.{nest_stands, unnest_stands}
 

@@ -2,6 +2,7 @@
 use Rattle.std.proofs.Common.{[], ◌∷◌, ◌++◌, take, ◌∙◌, ap}
 use Rattle.wasm_execution.specs.Values.{context_in}
 use Rattle.body_rewrites.proofs.OpenLemmas as lemmas
+use Rattle.body_rewrites.proofs.OpenTreeLemmas as tree_lemmas
 use Rattle.body_rewrites.proofs.trees.Open.next.Goals as goal
 
 pub returns-in_default-clause-open : goal.returns-in_default-clause-open
@@ -44,7 +45,7 @@ returns-clause-open c =
     let told = rw c.in-Some-tree.is at c.tree.ensures in
     let starts = ap (λ v. v.items) c.note.ensures.starts in
     let types = ap (λ v. v.items) c.note.ensures.types in
-    lemmas.open_next context c.args.operators.now c.args.at c.args.self.now c.requires.open c.in-Some.instr has c.note.new.self c.note.ensures
+    tree_lemmas.open_next context c.args.operators.now c.args.at c.args.self.now c.requires.open c.in-Some.instr has c.note.new.self c.note.ensures
     c.in-Some-tree.below c.in-Some-tree.tree told c.put.new.self
     (c.in_ok-put.ensures.starts ∙ ap (λ l. take c.in-Some-tree.below l ++ c.in-Some-tree.tree.start ∷ []) starts)
     (c.in_ok-put.ensures.types ∙ ap (λ l. take c.in-Some-tree.below l ++ c.in-Some-tree.tree.gives ∷ []) types) c.in_ok-put.ensures.rest
@@ -54,5 +55,5 @@ returns-clause-found c =
     let context = context_in c.args.info.now c.args.locals.now in
     let has = rw c.in-Some.is at c.instr_at.ensures.some in
     let told = rw c.in-Some-tree.is at c.tree.ensures in
-    lemmas.has_tree context c.args.operators.now c.args.at c.args.self.now c.requires.open c.in-Some.instr has c.note.new.self c.note.ensures
+    tree_lemmas.has_tree context c.args.operators.now c.args.at c.args.self.now c.requires.open c.in-Some.instr has c.note.new.self c.note.ensures
     c.in-Some-tree.below c.in-Some-tree.tree told c.requires.inside
