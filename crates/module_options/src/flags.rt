@@ -74,6 +74,10 @@ pub fn flags_of(matches: &ArgMatches<'_>) -> Flags
     }
 }
 
+/// What is told where flags exclude each other.
+pub const EXCLUDED: &str =
+    "--change, --list, --blocks, --list-rules and --list-changes exclude each other; the lists exclude --stats, --reach, --show and --strip-debug, and --change excludes --reach; --from and --to go with --change alone, and exclude --show";
+
 /// Whether the flags ask for two tasks, for something of a module that is written where none is, or for the rules' reach where it is
 /// changed, or name operators where none are changed.
 pub fn exclude(flags: Flags) -> bool
@@ -89,6 +93,10 @@ pub fn exclude(flags: Flags) -> bool
         || (flags.placed && (!flags.change || flags.list || flags.show))
         || (of_module && (lists || unread))
 }
+
+/// What is told where JSON is asked for, and nothing that is written in it.
+pub const NOTHING_TO_TELL: &str =
+    "--json goes with --list, --blocks, --list-changes, --stats or --reach";
 
 /// Whether the flags ask for JSON, and for nothing that is written in it.
 pub fn tell_nothing(flags: Flags) -> bool
@@ -144,6 +152,10 @@ fn choose_module(matches: &ArgMatches<'_>) -> bool
     let function = is_given(matches, "function");
     input || function
 }
+
+/// What is told where an option is given that the task ignores.
+pub const IGNORED: &str =
+    "lists ignore --seed, --count and --max-size; all but --list, and --change, ignore --rule, --not-rule, --shrink and --exact; --list-rules and --list-changes ignore a module and --function, and --list-rules --json; --from and --to ignore --seed and --count: leave them out";
 
 /// Whether an option is given that the task ignores.
 pub fn ignore(flags: Flags, matches: &ArgMatches<'_>) -> bool

@@ -3,6 +3,7 @@ ghost use Rattle.std.specs.Prelude.{◌≡◌};
 ghost use Rattle.module_options.specs.Misuse.{kind_for};
 ghost use Rattle.module_options.specs.declared.misuse.Misuse.TheVariants.{Memory};
 
+use crate::flags::{EXCLUDED, IGNORED, NOTHING_TO_TELL};
 use clap::error::ErrorKind;
 use std::alloc::{AllocError, AllocFailed};
 
@@ -71,14 +72,9 @@ pub fn kind_for(misuse: Misuse) -> ErrorKind
 /// What the user is told.
 pub fn text_for(misuse: Misuse) -> &'static str {
     match misuse {
-        Misuse::Conflict => {
-            "--change, --list, --blocks, --list-rules and --list-changes exclude each other; the lists exclude --stats, --reach, --show and --strip-debug, and --change excludes --reach; --from and --to go with --change alone, and exclude --show"
-        }
-        Misuse::Ignored => {
-            "lists ignore --seed, --count and --max-size; all but --list, and --change, ignore --rule, --not-rule, --shrink and --exact; --list-rules and --list-changes ignore a module and --function, and --list-rules --json; --from and --to ignore --seed and --count: leave them out"
-        }
-        Misuse::NothingToTell =>
-            "--json goes with --list, --blocks, --list-changes, --stats or --reach",
+        Misuse::Conflict => EXCLUDED,
+        Misuse::Ignored => IGNORED,
+        Misuse::NothingToTell => NOTHING_TO_TELL,
         Misuse::Plus => "a plus stands before a number: leave it out",
         Misuse::NoSeed =>
             "--seed is no number below 2^64 in decimal digits, or behind 0x in hexadecimal ones",
