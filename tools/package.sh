@@ -26,6 +26,7 @@ fail() {
 need() { command -v "$1" > /dev/null || fail "needs $1 on the path (package $2)"; }
 
 need tar tar
+need awk mawk
 need gzip gzip
 need strip binutils
 need objdump binutils
@@ -90,15 +91,22 @@ lay_out_pages() {
     fill teddertempo-reduce.1.in "DATE=$date" > "$pages/teddertempo-reduce.1"
 }
 
+# The completions for a shell, by its template and the table of options.
+completions_for() {
+    local shell=$1 template=$2 folder=tools/package/completions
+    awk -v "shell=$shell" -f $folder/options.awk $folder/teddertempo.options "$folder/$template"
+}
+
 # The completions of three shells, of which zsh has a folder of its own for a distribution's.
 lay_out_completions() {
-    local share=$1/share zsh=$2 completions=tools/package/completions
+    local share=$1/share zsh=$2
     mkdir -p "$share"/{bash-completion/completions,fish/vendor_completions.d} "$share/zsh/$zsh"
-    cp $completions/teddertempo.bash "$share/bash-completion/completions/teddertempo"
+    completions_for bash teddertempo.bash.in > "$share/bash-completion/completions/teddertempo"
     ln -s teddertempo "$share/bash-completion/completions/teddertempo-diff"
     ln -s teddertempo "$share/bash-completion/completions/teddertempo-reduce"
-    cp $completions/*.fish "$share/fish/vendor_completions.d/"
-    cp $completions/_teddertempo "$share/zsh/$zsh/"
+    completions_for fish teddertempo.fish.in > "$share/fish/vendor_completions.d/teddertempo.fish"
+    cp tools/package/completions/teddertempo-{diff,reduce}.fish "$share/fish/vendor_completions.d/"
+    completions_for zsh _teddertempo.in > "$share/zsh/$zsh/_teddertempo"
 }
 
 # The archive, the shared library, and the mutator for AFL++, whose source is an example.

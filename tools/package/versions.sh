@@ -9,7 +9,7 @@ version_of_number() {
 
 # What a command makes of each place: it gets the place's name, and the version that stands there.
 for_each_version() {
-    local header=include/teddertempo.h library=crates/teddertempo_c/src/lib.rt program=crates/module_commands/src/arguments.rt
+    local header=include/teddertempo.h library=crates/teddertempo_c/src/lib.rt program=crates/module_options/src/arguments.rt
     "$@" "TEDDERTEMPO_VERSION of $header" "$(sed -n 's/^#define TEDDERTEMPO_VERSION "\(.*\)"$/\1/p' $header)"
     "$@" "TEDDERTEMPO_VERSION_NUMBER of $header" \
         "$(version_of_number "$(sed -n 's/^#define TEDDERTEMPO_VERSION_NUMBER \(0x[0-9a-f]*\)u$/\1/p' $header)")"

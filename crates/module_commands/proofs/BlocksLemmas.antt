@@ -6,7 +6,7 @@ use Rattle.std.proofs.lemmas.Option.{slice_get_cases}
 use Rattle.wasm_code.specs.declared.operator.Operator.{Operator}
 use Rattle.module_commands.specs.Blocks.{HasNoDelimiter, IsBlock, TellsBlock, delimits, is_delimiter_of}
 use Rattle.module_commands.specs.Lines.{block_line_in_form}
-use Rattle.module_commands.specs.declared.form.Form.{Form}
+use Rattle.module_options.specs.declared.form.Form.{Form}
 
 abbrev Operators : Type 0
 Operators = List (Operator × ℕ)

@@ -9,7 +9,7 @@ use Rattle.module_changes.specs.declared.entry.MadeChange.{MadeChange}
 use Rattle.module_changes.specs.declared.placed.ChangeAt.{ChangeAt}
 use Rattle.module_changes.specs.declared.refusal.Refusal.{Refusal}
 use Rattle.module_commands.specs.Changing.{AreShown, GrowsByChange, ShowsChanges, ShowsOneChange, report_asked}
-use Rattle.module_commands.specs.declared.form.Form.{Form}
+use Rattle.module_options.specs.declared.form.Form.{Form}
 use Rattle.module_commands.proofs.TurnLemmas.{appends_nothing}
 use Rattle.module_commands.specs.declared.changing.ChangeShower.{ChangeShower}
 

@@ -23,7 +23,7 @@ use Rattle.module_rewrites.specs.declared.times.MadeRewrite.{MadeRewrite}
 use Rattle.module_commands.specs.Blocks.{TellsBlock, TellsBlocks, TellsFault}
 use Rattle.module_rewrites.specs.Seeded.{seeded}
 use Rattle.module_commands.specs.Changing.{failure_by}
-use Rattle.module_commands.specs.Scope.{change_scope_of}
+use Rattle.module_options.specs.Scope.{change_scope_of}
 use Rattle.module_commands.specs.Failures.{FailsAtTask, FailsToChange, FailsToDo, FailsToInform, FailsToList, FailsToRead, FailsToReport}
 use Rattle.module_commands.specs.Failures.{IsNoOther, IsReasonToListNone, IsWhyUnchanged}
 use Rattle.module_commands.specs.Lines.{rewrite_line}
@@ -31,10 +31,10 @@ use Rattle.module_commands.specs.Lists.{InTurn}
 use Rattle.module_commands.specs.Reports.{TellsIfUnread, TellsUnreadable, made_lines}
 use Rattle.module_commands.specs.declared.failure.Failure.{Failure}
 use Rattle.module_commands.specs.declared.failure.Failure.TheVariants.{Nothing, Unchanged, Input, TooLong, Component, TextFormat, SharedMemory, Output, Memory}
-use Rattle.module_commands.specs.declared.form.Form.{Form}
-use Rattle.module_commands.specs.declared.options.Options.{Options}
-use Rattle.module_commands.specs.declared.options.Task.{Task}
-use Rattle.module_commands.specs.declared.options.Task.TheVariants.{Rewrite, Change, List as Lists, Sites, Blocks, Rules, Changes}
+use Rattle.module_options.specs.declared.form.Form.{Form}
+use Rattle.module_options.specs.declared.options.Options.{Options}
+use Rattle.module_options.specs.declared.task.Task.{Task}
+use Rattle.module_options.specs.declared.task.Task.TheVariants.{Rewrite, Change, List as Lists, Sites, Blocks, Rules, Changes}
 use Rattle.module_commands.proofs.TurnLemmas.{appends_more}
 
 abbrev Types : Type 0

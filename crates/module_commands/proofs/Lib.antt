@@ -5,8 +5,6 @@ pub mod ColumnsLemmas
 pub mod ListingLemmas
 pub mod BlocksLemmas
 pub mod FaultsLemmas
-pub mod ArgumentsLemmas
-pub mod OptionsLemmas
 pub mod FamiliesLemmas
 pub mod ReachLemmas
 pub mod ShownLemmas

@@ -13,7 +13,7 @@ use Rattle.module_rewrites.specs.Function.{IsFunction}
 use Rattle.module_rewrites.specs.Scope.{Scope, IsMarked}
 use Rattle.module_commands.specs.Lines.{rewrite_line, rewrite_lines}
 use Rattle.module_commands.specs.Lists.{AreTheRewrites, ListsFunction}
-use Rattle.module_commands.specs.declared.form.Form.{Form}
+use Rattle.module_options.specs.declared.form.Form.{Form}
 use Rattle.module_commands.proofs.TurnLemmas.{appends_more}
 
 -- one line more

@@ -14,10 +14,10 @@ use Rattle.module_rewrites.specs.declared.mutation.MutationError.{MutationError}
 use Rattle.module_rewrites.specs.declared.mutation.MutationError.TheVariants as mutations
 use Rattle.module_rewrites.specs.declared.times.MadeRewrite.{MadeRewrite}
 use Rattle.module_commands.specs.Failures.{IsReasonFor, leaves_by}
-use Rattle.module_commands.specs.Scope.{scope_of}
+use Rattle.module_options.specs.Scope.{scope_of}
 use Rattle.module_commands.specs.Shown.{IsShown}
 use Rattle.module_commands.specs.Writes.{IsCommandOutcome, IsWrittenAs, stopped_by}
-use Rattle.module_commands.specs.declared.options.Options.{Options}
+use Rattle.module_options.specs.declared.options.Options.{Options}
 
 -- of a module that was rewritten
 pub rewritten_outcome : (options : Options) (scope : Scope) (count : ℕ) (bytes module_bytes written : List ℕ) (made given : List MadeRewrite)

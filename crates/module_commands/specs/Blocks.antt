@@ -11,7 +11,7 @@ use Rattle.module_rewrites.specs.Function.{IsFunction}
 use Rattle.module_rewrites.specs.declared.function.FunctionError.{FunctionError}
 use Rattle.module_commands.specs.Lines.{block_line_in_form, entry_line, function_line}
 use Rattle.module_commands.specs.Lists.{InTurn, WritesOfFunctions}
-use Rattle.module_commands.specs.declared.form.Form.{Form}
+use Rattle.module_options.specs.declared.form.Form.{Form}
 
 -- ---- delimiters
 

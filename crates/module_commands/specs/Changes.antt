@@ -7,8 +7,8 @@ use Rattle.body_changes.specs.declared.change.Change.{Change}
 use Rattle.body_changes.specs.declared.change.Change.TheVariants as change
 use Rattle.body_changes.specs.declared.change.TheConstants.{CHANGES}
 use Rattle.module_commands.specs.Lines.{json_line, with_text}
-use Rattle.module_commands.specs.declared.form.Form.{Form}
-use Rattle.module_commands.specs.declared.form.Form.TheVariants.{Json, Text}
+use Rattle.module_options.specs.declared.form.Form.{Form}
+use Rattle.module_options.specs.declared.form.Form.TheVariants.{Json, Text}
 
 -- what it makes, in words
 abbrev pub summary : Change → List ℕ

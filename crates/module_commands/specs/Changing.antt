@@ -15,10 +15,10 @@ use Rattle.module_rewrites.specs.Dose.{IsDoseOf}
 use Rattle.module_rewrites.specs.Seeded.{seeded}
 use Rattle.module_showing.specs.Changed.{shown_change_line as first_line}
 use Rattle.module_commands.specs.Ending.{is_memory_fault}
-use Rattle.module_commands.specs.Form.{output_form_of}
+use Rattle.module_options.specs.Form.{output_form_of}
 use Rattle.module_commands.specs.Lines.{sizes_line, stopped_part}
 use Rattle.module_commands.specs.Reports.{ReportsModule}
-use Rattle.module_commands.specs.Scope.{change_scope_of}
+use Rattle.module_options.specs.Scope.{change_scope_of}
 use Rattle.module_commands.specs.Sites.{site_line}
 use Rattle.module_commands.specs.Writes.{IsWrittenAs}
 use Rattle.module_commands.specs.declared.changing.ChangeShower.{ChangeShower}
@@ -26,8 +26,8 @@ use Rattle.module_commands.specs.declared.ending.Ending.{Ending}
 use Rattle.module_commands.specs.declared.ending.Ending.TheVariants.{OutOfMemory, Whole}
 use Rattle.module_commands.specs.declared.failure.Failure.{Failure}
 use Rattle.module_commands.specs.declared.failure.Failure.TheVariants.{Unchanged, Memory as NoMemory}
-use Rattle.module_commands.specs.declared.form.Form.{Form}
-use Rattle.module_commands.specs.declared.options.Options.{Options}
+use Rattle.module_options.specs.declared.form.Form.{Form}
+use Rattle.module_options.specs.declared.options.Options.{Options}
 
 -- ---- what is written
 

@@ -18,12 +18,12 @@ use Rattle.module_rewrites.specs.declared.attempt.Reason.{Reason}
 use Rattle.module_rewrites.specs.declared.attempt.Reason.TheVariants.{NoRule, NoOwnFunction, Unreadable, NoFunction, UnknownImport, Refused}
 use Rattle.module_rewrites.specs.declared.mutation.MutationError.TheVariants.{Read, NotSmaller}
 use Rattle.module_commands.specs.Front.{is_component, is_text}
-use Rattle.module_commands.specs.Scope.{change_scope_of, scope_of}
+use Rattle.module_options.specs.Scope.{change_scope_of, scope_of}
 use Rattle.module_commands.specs.declared.failure.Failure.{Failure}
 use Rattle.module_commands.specs.declared.failure.Failure.TheVariants.{Nothing, Unchanged, Input, TooLong, Component, TextFormat, SharedMemory, Output, Memory}
-use Rattle.module_commands.specs.declared.options.Options.{Options}
-use Rattle.module_commands.specs.declared.options.Task.{Task}
-use Rattle.module_commands.specs.declared.options.Task.TheVariants.{Rewrite, Change, List as Lists, Sites, Blocks, Rules, Changes}
+use Rattle.module_options.specs.declared.options.Options.{Options}
+use Rattle.module_options.specs.declared.task.Task.{Task}
+use Rattle.module_options.specs.declared.task.Task.TheVariants.{Rewrite, Change, List as Lists, Sites, Blocks, Rules, Changes}
 
 -- threads share one of the memories
 abbrev pub is_any_shared : List MemoryType → Bool
@@ -161,12 +161,6 @@ abbrev pub TakesModule : Task → Type 0
 TakesModule (Rules form) = ⊥
 TakesModule Changes = ⊥
 TakesModule task = Unit {0}
-
--- it writes a module
-abbrev pub WritesModule : Task → Type 0
-WritesModule Rewrite = Unit {0}
-WritesModule Change = Unit {0}
-WritesModule task = ⊥
 
 -- A run fails: as the input isn't read, since it is a component or a text, as what runs it is to be exact and threads share a memory of it,
 -- or as its task fails;

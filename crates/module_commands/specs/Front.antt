@@ -1,11 +1,7 @@
 -- What the front of an input tells of it (WebAssembly Core Specification 3.0, Text Format, Modules; Component Model, Binary Format, Preamble).
-use Rattle.std.specs.Prelude.{ℕ, Bool, List, [], ◌∷◌, ◌&&◌, ◌||◌, nat_eq, drop, codes}
-use Rattle.std.specs.List.{starts_with}
+use Rattle.std.specs.Prelude.{ℕ, Bool, List, [], ◌∷◌, ◌&&◌, ◌||◌, drop, codes}
 use Rattle.wasm_sections.specs.Section.{magic}
-
--- the bytes begin with these
-abbrev pub begins_with : (bytes front : List ℕ) → Bool
-begins_with bytes front = starts_with nat_eq bytes front
+use Rattle.module_options.specs.Front.{begins_with}
 
 -- a component: the magic number of a module, a version of two bytes, and the layer 1 (a module has the layer 0)
 abbrev pub is_component : (bytes : List ℕ) → Bool

@@ -14,10 +14,10 @@ use Rattle.module_rewrites.specs.declared.mutation.MutationError.{MutationError}
 use Rattle.module_rewrites.specs.declared.mutation.MutationError.TheVariants.{Read, Memory, Write, TooLong, NotSmaller}
 use Rattle.module_showing.specs.Shown.{row_name}
 use Rattle.module_commands.specs.declared.blocks.BlockLine.{BlockLine}
-use Rattle.module_commands.specs.declared.form.Form.{Form}
+use Rattle.module_options.specs.declared.form.Form.{Form}
 use Rattle.module_commands.specs.declared.reach.Part.{Part}
 use Rattle.module_commands.specs.declared.reach.Reach.{Reach}
-use Rattle.module_commands.specs.declared.form.Form.TheVariants.{Text, Json}
+use Rattle.module_options.specs.declared.form.Form.TheVariants.{Text, Json}
 
 -- ---- columns of text
 

@@ -14,7 +14,7 @@ use Rattle.module_rewrites.specs.Function.{IsFunction}
 use Rattle.module_rewrites.specs.Mutated.{IsChosen}
 use Rattle.module_rewrites.specs.Scope.{Scope, IsMarked, wanted_of}
 use Rattle.module_commands.specs.Lines.{rewrite_lines}
-use Rattle.module_commands.specs.declared.form.Form.{Form}
+use Rattle.module_options.specs.declared.form.Form.{Form}
 
 -- The text is that of each of so many things from the one with the number `from` on, one behind another.
 abbrev pub InTurn : (Tells : ℕ → List ℕ → Type 0) → (from count : ℕ) → (text : List ℕ) → Type 0

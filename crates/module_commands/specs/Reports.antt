@@ -8,15 +8,15 @@ use Rattle.module_rewrites.specs.Scope.{Scope, IsMarked}
 use Rattle.module_rewrites.specs.declared.mutation.MutationError.{MutationError}
 use Rattle.module_rewrites.specs.declared.times.MadeRewrite.{MadeRewrite}
 use Rattle.module_commands.specs.Blocks.{TellsUnread}
-use Rattle.module_commands.specs.Form.{output_form_of}
+use Rattle.module_options.specs.Form.{output_form_of}
 use Rattle.module_commands.specs.Lines.{functions_line, reach_lines, rewrite_line, sizes_line, stopped_name, stopped_part}
 use Rattle.module_commands.specs.Reach.{IsReach}
-use Rattle.module_commands.specs.Scope.{scope_of}
+use Rattle.module_options.specs.Scope.{scope_of}
 use Rattle.module_commands.specs.Shown.{IsShown}
 use Rattle.module_commands.specs.Writes.{WritesMutated}
 use Rattle.module_commands.specs.declared.ending.Ending.{Ending}
-use Rattle.module_commands.specs.declared.form.Form.{Form}
-use Rattle.module_commands.specs.declared.options.Options.{Options}
+use Rattle.module_options.specs.declared.form.Form.{Form}
+use Rattle.module_options.specs.declared.options.Options.{Options}
 use Rattle.module_commands.specs.declared.reach.Reach.{Reach}
 
 -- ---- functions that can't be read

@@ -5,7 +5,7 @@ use Rattle.module_showing.specs.Shown.{first_line}
 use Rattle.module_rewrites.specs.declared.times.MadeRewrite.{MadeRewrite}
 use Rattle.module_commands.specs.Writes.{WritesMutated}
 use Rattle.module_commands.specs.declared.ending.Ending.{Ending}
-use Rattle.module_commands.specs.declared.options.Options.{Options}
+use Rattle.module_options.specs.declared.options.Options.{Options}
 use Rattle.module_commands.specs.declared.showing.Shower.{Shower}
 
 -- The text shows these rewrites, one behind another: of each the line that names it, and what is drawn behind that.

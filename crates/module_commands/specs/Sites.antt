@@ -9,8 +9,8 @@ use Rattle.module_changes.specs.Sites.{AreSitesOf}
 use Rattle.module_changes.specs.declared.sites.Site.{Site}
 use Rattle.module_commands.specs.Lines.{json_line, left_aligned, with_number, with_text}
 use Rattle.module_commands.specs.Lists.{WritesOfFunctions}
-use Rattle.module_commands.specs.declared.form.Form.{Form}
-use Rattle.module_commands.specs.declared.form.Form.TheVariants.{Json, Text}
+use Rattle.module_options.specs.declared.form.Form.{Form}
+use Rattle.module_options.specs.declared.form.Form.TheVariants.{Json, Text}
 
 -- ---- the line of a site of the function with the index
 

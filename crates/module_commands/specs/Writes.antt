@@ -17,9 +17,9 @@ use Rattle.module_rewrites.specs.declared.mutation.MutationError.{MutationError}
 use Rattle.module_rewrites.specs.declared.times.MadeRewrite.{MadeRewrite}
 use Rattle.module_commands.specs.Ending.{ending_of}
 use Rattle.module_commands.specs.Failures.{leaves_by}
-use Rattle.module_commands.specs.Scope.{scope_of}
+use Rattle.module_options.specs.Scope.{scope_of}
 use Rattle.module_commands.specs.declared.ending.Ending.{Ending}
-use Rattle.module_commands.specs.declared.options.Options.{Options}
+use Rattle.module_options.specs.declared.options.Options.{Options}
 
 -- The bytes are the module's, or where its custom sections that name places in the code are dropped, the module's without these.
 abbrev pub IsWrittenAs : (strip : Bool) → (module_bytes written : List ℕ) → Type 0

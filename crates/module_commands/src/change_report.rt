@@ -6,10 +6,10 @@ ghost use Rattle.module_commands.specs.Failures.{FailsToReport};
 ghost use Rattle.module_commands.specs.declared.failure.Failure.TheVariants.{Memory};
 
 use crate::failure::Failure;
-use crate::form::Form;
 use crate::sites::write_site;
 use crate::stats::{write_sizes, write_stopped};
 use module_changes::{ChangedModule, MadeChange, Refusal};
+use module_options::Form;
 use std::alloc::Global;
 use std::io::Write;
 

@@ -9,9 +9,9 @@ ghost use Rattle.module_commands.specs.declared.failure.Failure.TheVariants.{Mem
 
 use crate::ending::Ending;
 use crate::failure::Failure;
-use crate::form::Form;
 use crate::objects::write_value;
 use body_changes::{CHANGES, Change};
+use module_options::Form;
 use serde_json::{Value, json};
 use std::alloc::{AllocError, Global};
 use std::io::Write;

@@ -3,7 +3,7 @@ ghost use Rattle.std.specs.Prelude.{◌≡◌, ◌≢◌, ◌||◌, ◌++◌, �
 ghost use Rattle.module_rewrites.specs.DoesAsBefore.{DoesAsBefore};
 ghost use Rattle.module_commands.specs.Changing.{are_shown, AreShown, IsChangedAs, TellsChanged, TellsModule, WritesChanged, change_ending, failure_by, report_asked};
 ghost use Rattle.module_commands.specs.Failures.{FailsToChange, FailsToInform};
-ghost use Rattle.module_commands.specs.Form.{output_form_of};
+ghost use Rattle.module_options.specs.Form.{output_form_of};
 ghost use Rattle.module_commands.specs.Writes.{IsWrittenAs};
 ghost use Rattle.module_commands.specs.declared.failure.Failure.TheVariants.{Memory, Output};
 
@@ -11,12 +11,12 @@ use crate::change_report::changes_report;
 use crate::ending::Ending;
 use crate::failure::Failure;
 use crate::mutating::stripped;
-use crate::options::Options;
 use crate::reporting::report_module;
 use crate::writing::{show, write_bytes};
 use module_changes::{
     ChangeAt, ChangedModule, MadeChange, Refusal, Watch, change_at, change_module,
 };
+use module_options::Options;
 use module_rewrites::count_of_dose;
 use module_rewrites::laws::rewritten_modules_do_as_before;
 use module_showing::write_shown_change;

@@ -7,8 +7,8 @@ ghost use Rattle.module_commands.specs.Failures.{FailsToReport};
 ghost use Rattle.module_commands.specs.Lines.{entry_line, entry_object, fault_offset, fault_operator, fault_text, fault_words, function_line, function_object, operator_words_of};
 
 use crate::failure::Failure;
-use crate::form::Form;
 use crate::objects::write_value;
+use module_options::Form;
 use module_rewrites::{FunctionError, OperatorCode, index_of};
 use serde_json::{Value, json};
 use std::alloc::{AllocError, Global};

@@ -1,13 +1,8 @@
 //! What the front of an input tells of it.
 ghost use Rattle.std.specs.Prelude.{◌≡◌, drop};
-ghost use Rattle.module_commands.specs.Front.{begins_with, is_component, is_text};
+ghost use Rattle.module_commands.specs.Front.{is_component, is_text};
 
-/// Whether the bytes begin with these.
-pub fn begins_with(bytes: &[u8], front: &[u8]) -> bool
-    ensures { result ≡ begins_with bytes.now front.now }
-{
-    bytes.starts_with(front)
-}
+use module_options::begins_with;
 
 // What stands behind so many bytes; nothing where there are fewer.
 fn behind(bytes: &[u8], count: usize) -> &[u8]

@@ -3,21 +3,20 @@ ghost use Rattle.std.specs.Prelude.{◌≡◌, ◌<◌, ℕ, List, length, IfOk,
 ghost use Rattle.std.specs.Io.KnownBytes.{Appends};
 ghost use Rattle.serde_json.specs.View.{view};
 ghost use Rattle.module_commands.specs.Failures.{FailsToList, FailsToReport};
-ghost use Rattle.module_commands.specs.Form.{output_form_of};
+ghost use Rattle.module_options.specs.Form.{output_form_of};
 ghost use Rattle.module_commands.specs.Lines.{rewrite_line, rewrite_lines, rewrite_object, rewrite_text};
 ghost use Rattle.module_commands.specs.Lists.{AreTheRewrites, ListsFunction, WritesList};
-ghost use Rattle.module_commands.specs.Scope.{scope_of};
+ghost use Rattle.module_options.specs.Scope.{scope_of};
 ghost use Rattle.wasm_execution.specs.Values.{context_in};
 ghost use Rattle.module_rewrites.specs.Scope.{IsMarked};
 ghost use Rattle.wasm_module.specs.Module.{IsModule};
 
 use crate::failure::Failure;
-use crate::form::Form;
 use crate::functions::module_of;
 use crate::names::RowNames;
 use crate::objects::write_value;
-use crate::options::Options;
 use body_rewrites::{Body, Rewrite, blocks_of, rewrites_of_body, trees_of};
+use module_options::{Form, Options};
 use module_rewrites::{FunctionBody, Scope, chosen_entries, index_of, read_function};
 use serde_json::{Value, json};
 use std::alloc::{AllocError, Global};

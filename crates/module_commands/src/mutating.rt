@@ -6,14 +6,14 @@ ghost use Rattle.module_rewrites.specs.DoesAsBefore.{DoesAsBefore};
 ghost use Rattle.module_rewrites.specs.Dose.{IsDoseOf};
 ghost use Rattle.module_rewrites.specs.Seeded.{seeded};
 ghost use Rattle.module_commands.specs.Failures.{FailsToMake, leaves};
-ghost use Rattle.module_commands.specs.Scope.{scope_of};
+ghost use Rattle.module_options.specs.Scope.{scope_of};
 ghost use Rattle.module_commands.specs.Shown.{IsShown};
 ghost use Rattle.module_commands.specs.Writes.{IsCommandOutcome, IsWrittenAs, stopped_by};
 ghost use Rattle.module_commands.specs.declared.failure.Failure.TheVariants.{Memory};
 
 use crate::failure::Failure;
-use crate::options::Options;
 use crate::showing::Shower;
+use module_options::Options;
 use module_rewrites::laws::rewritten_modules_do_as_before;
 use module_rewrites::{
     MutationError, Reason, RewrittenModule, Watch, count_of_dose, rewrite_module,

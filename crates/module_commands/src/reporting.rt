@@ -2,16 +2,16 @@
 ghost use Rattle.std.specs.Prelude.{◌≡◌, ℕ, List, OnOk, IfErr};
 ghost use Rattle.std.specs.Io.KnownBytes.{Appends};
 ghost use Rattle.module_commands.specs.Failures.{FailsToInform, FailsToReport};
-ghost use Rattle.module_commands.specs.Form.{output_form_of};
+ghost use Rattle.module_options.specs.Form.{output_form_of};
 ghost use Rattle.module_commands.specs.Reports.{ReportsModule, TellsReach};
-ghost use Rattle.module_commands.specs.Scope.{scope_of};
+ghost use Rattle.module_options.specs.Scope.{scope_of};
 ghost use Rattle.wasm_module.specs.Module.{IsModule};
 
 use crate::failure::Failure;
 use crate::functions::module_of;
-use crate::options::Options;
 use crate::reach::reach_of;
 use crate::stats::{report_functions, report_reach};
+use module_options::Options;
 use std::alloc::Global;
 use std::io::Write;
 use wasm_module::Module;

@@ -3,16 +3,15 @@ ghost use Rattle.std.specs.Prelude.{◌≡◌, ◌<◌, ℕ, List, length, IfOk,
 ghost use Rattle.std.specs.Io.KnownBytes.{Appends};
 ghost use Rattle.serde_json.specs.View.{view};
 ghost use Rattle.module_commands.specs.Failures.{FailsToList, FailsToReport};
-ghost use Rattle.module_commands.specs.Form.{output_form_of};
+ghost use Rattle.module_options.specs.Form.{output_form_of};
 ghost use Rattle.module_commands.specs.Sites.{ListsSitesInText, WritesSites, site_line, site_lines, site_object, site_text};
 ghost use Rattle.wasm_module.specs.Module.{IsModule};
 
 use crate::failure::Failure;
-use crate::form::Form;
 use crate::functions::module_of;
 use crate::objects::write_value;
-use crate::options::Options;
 use module_changes::{Site, sites_of};
+use module_options::{Form, Options};
 use module_rewrites::{chosen_entries, index_of};
 use serde_json::{Value, json};
 use std::alloc::{AllocError, Global};

@@ -10,11 +10,11 @@ ghost use Rattle.wasm_module.specs.Module.{IsModule};
 
 use crate::failure::Failure;
 use crate::faults::write_fault;
-use crate::form::Form;
 use crate::listing::write_rewrite;
 use crate::names::RowNames;
 use crate::objects::write_value;
 use crate::reach::{Part, Reach};
+use module_options::Form;
 use module_rewrites::{MadeRewrite, MutationError, RewrittenModule, read_function};
 use serde_json::{Value, json};
 use std::alloc::{AllocError, Global};

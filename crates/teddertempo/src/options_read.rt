@@ -2,7 +2,7 @@
 
 use body_changes::Change;
 use clap::error::ErrorKind;
-use module_commands::{Options, options_of};
+use module_options::{Options, options_of};
 use module_rewrites::Dose;
 use rewrite_rules::{Rule, all_rules, rule_names};
 use std::alloc::{AllocError, Global};

@@ -85,16 +85,21 @@ pub fn rule_of(rt: &impl Abort, name: &str) -> Rule {
     }
 }
 
+/// A scope by these rules, in the function alone where there is one.
+pub fn scope_of<'a>(rules: &'a [Rule], function: Option<usize>, max_size: usize) -> Scope<'a> {
+    Scope {
+        rules,
+        function,
+        max_size,
+        shrinking: false,
+        exact: false,
+    }
+}
+
 /// The sum rewritten once by the rule.
 fn rewrite(alloc: Global, rule: Rule) -> Result<RewrittenModule, Reason> {
     let rules = [rule];
-    let scope = Scope {
-        rules: &rules,
-        function: None,
-        max_size: SUM.len(),
-        shrinking: false,
-        exact: false,
-    };
+    let scope = scope_of(&rules, None, SUM.len());
     let mut generator = StdRng::seed_from_u64(0);
     let mut unwatched = Unwatched;
     rewrite_module(alloc, &SUM, &mut generator, &scope, 1, &mut unwatched)

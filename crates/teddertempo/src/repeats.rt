@@ -1,29 +1,18 @@
 //! Rewrites of small modules, one after another, and the functions that are drawn.
 ghost use Rattle.std.specs.Prelude.{◌<◌};
 
-use crate::refused_modules::{SUM, TURNED, rule_of};
+use crate::refused_modules::{SUM, TURNED, rule_of, scope_of};
 use given_words::Words;
 use module_rewrites::{MutationError, Reason, RewrittenModule, Scope, Unwatched, rewrite_module};
 use rand::rngs::StdRng;
 use rand_core::{Rng, SeedableRng};
-use rewrite_rules::{Rule, all_rules};
+use rewrite_rules::all_rules;
 use std::alloc::Global;
 use std::test::Fail;
 
 /// Functions whose entries contain 7, 10 and 4 bytes. The first two add their parameters, the last one answers its first one.
 const THREE: &[u8] = b"\0asm\x01\0\0\0\x01\x07\x01\x60\x02\x7f\x7f\x01\x7f\x03\x04\x03\0\0\0\
     \x0a\x19\x03\x07\0\x20\0\x20\x01\x6a\x0b\x0a\0\x20\0\x20\x01\x6a\x1a\x20\0\x0b\x04\0\x20\0\x0b";
-
-/// A scope of any function.
-fn any<'a>(rules: &'a [Rule], max_size: usize) -> Scope<'a> {
-    Scope {
-        rules,
-        function: None,
-        max_size,
-        shrinking: false,
-        exact: false,
-    }
-}
 
 /// The module rewritten so many times, and not watched.
 fn rewritten<R: Rng>(
@@ -73,22 +62,16 @@ const DRAWS: &str = "
 fn turns_operands(rt: HostRuntime) -> Result<(), Fail> {
     let alloc = rt.alloc();
     let rules = [rule_of(&rt, "commute")];
-    let scope = any(&rules, 32);
+    let scope = scope_of(&rules, None, 32);
     let once = rewritten_by_seed(alloc, &SUM, 0, &scope, 1)?;
     assert_eq!(rt; once.bytes.as_slice(), TURNED.as_slice());
-    let named = Scope {
-        rules: &rules,
-        function: Some(0),
-        max_size: 32,
-        shrinking: false,
-        exact: false,
-    };
+    let named = scope_of(&rules, Some(0), 32);
     let thrice = rewritten_by_seed(alloc, &SUM, 0, &named, 3)?;
     assert_eq!(rt; thrice.bytes.as_slice(), TURNED.as_slice());
     assert_eq!(rt; thrice.made.len(), 3);
     assert!(rt; thrice.stopped.is_none());
     let folding = [rule_of(&rt, "fold")];
-    match rewritten_by_seed(alloc, &SUM, 0, &any(&folding, 32), 3) {
+    match rewritten_by_seed(alloc, &SUM, 0, &scope_of(&folding, None, 32), 3) {
         Ok(_) => assert!(rt; false, "a sum of constants"),
         Err(reason) => assert!(rt; reason == Reason::NoRule),
     }
@@ -100,7 +83,7 @@ fn turns_operands(rt: HostRuntime) -> Result<(), Fail> {
 fn rewrites_twice(rt: HostRuntime) -> Result<(), Fail> {
     let alloc = rt.alloc();
     let rules = all_rules(alloc)?;
-    let all = any(&rules, usize::MAX);
+    let all = scope_of(&rules, None, usize::MAX);
     for seed in 0..4u64 {
         let mut generator = StdRng::seed_from_u64(seed);
         let once = rewritten(alloc, &SUM, &mut generator, &all, 1)?;
@@ -116,7 +99,7 @@ fn rewrites_twice(rt: HostRuntime) -> Result<(), Fail> {
 fn draws_functions_by_their_sizes(rt: HostRuntime) -> Result<(), Fail> {
     let alloc = rt.alloc();
     let rules = [rule_of(&rt, "commute")];
-    let scope = any(&rules, 1000);
+    let scope = scope_of(&rules, None, 1000);
     for case in DRAWS.trim().lines() {
         let (words, function) = case.split_once('|').ok_or("no function")?;
         let mut list = Vec::new(alloc);
@@ -145,13 +128,7 @@ fn draws_another_that_fits(rt: HostRuntime) -> Result<(), Fail> {
                 list.push(0u64)?;
             }
             list.push(1)?;
-            let scope = Scope {
-                rules: &rules,
-                function: only,
-                max_size,
-                shrinking: false,
-                exact: false,
-            };
+            let scope = scope_of(&rules, only, max_size);
             let mut generator = Words::new(list);
             let new = rewritten(alloc, &SUM, &mut generator, &scope, 1)?;
             let turned = new.bytes.as_slice() == TURNED.as_slice();
@@ -169,7 +146,7 @@ fn keeps_what_was_made(rt: HostRuntime) -> Result<(), Fail> {
     let alloc = rt.alloc();
     let rules = [rule_of(&rt, "add_zero")];
     for made in 0..4usize {
-        let scope = any(&rules, 32 + 3 * made);
+        let scope = scope_of(&rules, None, 32 + 3 * made);
         match rewritten_by_seed(alloc, &SUM, 0, &scope, 3) {
             Err(reason) => {
                 assert!(rt; made == 0 && reason == Reason::Refused(MutationError::TooLong));

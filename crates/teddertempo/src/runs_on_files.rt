@@ -2,7 +2,7 @@
 
 use crate::files::run_on_files;
 use crate::refused_modules::{SUM, TURNED};
-use module_commands::options_of;
+use module_options::options_of;
 use rewrite_rules::rule_names;
 use std::test::Fail;
 use std::{env, fs};

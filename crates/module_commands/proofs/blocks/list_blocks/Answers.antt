@@ -2,7 +2,7 @@
 use Rattle.std.proofs.Common.{◌≡◌, ◌+◌, ◌-◌, ◌≤◌, ℕ, [], ◌++◌, refl, sym, subst, arith}
 use Rattle.module_commands.specs.Blocks.{TellsBlocks}
 use Rattle.module_commands.specs.Lists.{InTurn}
-use Rattle.module_commands.specs.declared.form.Form.{Form}
+use Rattle.module_options.specs.declared.form.Form.{Form}
 use Rattle.module_commands.proofs.TurnLemmas.{appends_more, appends_nothing, turn_more}
 use Rattle.module_commands.proofs.blocks.list_blocks.Goals as goal
 

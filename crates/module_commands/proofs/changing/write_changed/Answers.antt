@@ -1,7 +1,7 @@
 -- What is told is of the module that was written.
 use Rattle.std.proofs.Common.{◌∙◌, ℕ, List, ap, subst}
 use Rattle.std.specs.Io.KnownBytes.{Appends}
-use Rattle.module_commands.specs.Form.{output_form_of}
+use Rattle.module_options.specs.Form.{output_form_of}
 use Rattle.module_commands.proofs.ChangeShownLemmas.{told_text}
 use Rattle.module_commands.proofs.changing.write_changed.Goals as goal
 

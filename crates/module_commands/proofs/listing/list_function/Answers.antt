@@ -1,9 +1,9 @@
 -- The lines of a function, or none where it can't be read.
 use Rattle.std.proofs.Common.{[], ◌∙◌, ap}
-use Rattle.module_commands.specs.Form.{output_form_of}
+use Rattle.module_options.specs.Form.{output_form_of}
 use Rattle.module_commands.specs.Lines.{rewrite_lines}
-use Rattle.module_commands.specs.Scope.{scope_of}
-use Rattle.module_commands.specs.declared.form.Form.{Form}
+use Rattle.module_options.specs.Scope.{scope_of}
+use Rattle.module_options.specs.declared.form.Form.{Form}
 use Rattle.module_commands.proofs.ListingLemmas.{lists_function, lists_nothing}
 use Rattle.module_commands.proofs.TurnLemmas.{appends_nothing, ok_map}
 use Rattle.module_commands.proofs.listing.list_function.Goals as goal

@@ -1,8 +1,8 @@
 -- The lines of each function, one behind another.
 use Rattle.std.proofs.Common.{◌≡◌, ◌+◌, ◌-◌, ◌≤◌, ℕ, [], ◌++◌, refl, sym, subst, arith}
-use Rattle.module_commands.specs.Form.{output_form_of}
+use Rattle.module_options.specs.Form.{output_form_of}
 use Rattle.module_commands.specs.Lists.{InTurn, ListsFunction}
-use Rattle.module_commands.specs.Scope.{scope_of}
+use Rattle.module_options.specs.Scope.{scope_of}
 use Rattle.module_commands.proofs.TurnLemmas.{appends_more, appends_nothing, turn_more}
 use Rattle.module_commands.proofs.listing.list_rewrites.Goals as goal
 

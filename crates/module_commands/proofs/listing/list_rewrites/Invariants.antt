@@ -1,8 +1,8 @@
 use Rattle.std.proofs.Common.{ℕ, ◌-◌, List}
 use Rattle.std.specs.Io.KnownBytes.{Appends}
-use Rattle.module_commands.specs.Form.{output_form_of}
+use Rattle.module_options.specs.Form.{output_form_of}
 use Rattle.module_commands.specs.Lists.{InTurn, ListsFunction}
-use Rattle.module_commands.specs.Scope.{scope_of}
+use Rattle.module_options.specs.Scope.{scope_of}
 use Rattle.module_commands.proofs.listing.list_rewrites.Given as goal
 
 abbrev pub invariant-loop-n : goal.invariant-loop-n

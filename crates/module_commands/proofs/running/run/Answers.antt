@@ -2,7 +2,7 @@
 use Rattle.std.proofs.Common.{refl, subst, sym}
 use Rattle.std.proofs.lemmas.Result.{err_from_is_err_and}
 use Rattle.module_commands.specs.Failures.{FailsAtTask, FailsToDo, IsNoOther, SharesMemory, TakesModule}
-use Rattle.module_commands.specs.declared.options.Task.{Task}
+use Rattle.module_options.specs.declared.task.Task.{Task}
 use Rattle.module_commands.proofs.FaultsLemmas.{task_fails}
 use Rattle.module_commands.proofs.WritesLemmas.{err_map, of_all, on_ok_of}
 use Rattle.module_commands.proofs.running.run.Goals as goal

@@ -2,8 +2,8 @@
 use Rattle.std.proofs.Common.{◌∙◌, ℕ, List, ap, subst}
 use Rattle.std.specs.Io.KnownBytes.{Appends}
 use Rattle.module_commands.specs.Reports.{rewrites_report}
-use Rattle.module_commands.specs.Form.{output_form_of}
-use Rattle.module_commands.specs.declared.form.Form.{Form}
+use Rattle.module_options.specs.Form.{output_form_of}
+use Rattle.module_options.specs.declared.form.Form.{Form}
 use Rattle.module_commands.proofs.TurnLemmas.{appends_more}
 use Rattle.module_commands.proofs.running.write_reported.Goals as goal
 

@@ -2,9 +2,9 @@
 use Rattle.std.proofs.Common.{◌∙◌, List, ap, subst}
 use Rattle.body_changes.specs.declared.change.Change.{Change}
 use Rattle.module_changes.specs.Sites.{AreSitesOf}
-use Rattle.module_commands.specs.Form.{output_form_of}
+use Rattle.module_options.specs.Form.{output_form_of}
 use Rattle.module_commands.specs.Sites.{site_lines}
-use Rattle.module_commands.specs.declared.form.Form.{Form}
+use Rattle.module_options.specs.declared.form.Form.{Form}
 use Rattle.module_commands.proofs.TurnLemmas.{ok_map}
 use Rattle.module_commands.proofs.sites.list_function.Goals as goal
 

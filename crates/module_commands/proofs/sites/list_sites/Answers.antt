@@ -1,6 +1,6 @@
 -- The lines of each function, one behind another.
 use Rattle.std.proofs.Common.{◌≡◌, ◌+◌, ◌-◌, ◌≤◌, ℕ, [], ◌++◌, refl, sym, subst, arith}
-use Rattle.module_commands.specs.Form.{output_form_of}
+use Rattle.module_options.specs.Form.{output_form_of}
 use Rattle.module_commands.specs.Lists.{InTurn}
 use Rattle.module_commands.specs.Sites.{ListsSitesInText}
 use Rattle.module_commands.proofs.TurnLemmas.{appends_more, appends_nothing, turn_more}

@@ -1,6 +1,6 @@
 use Rattle.std.proofs.Common.{ℕ, ◌-◌, List}
 use Rattle.std.specs.Io.KnownBytes.{Appends}
-use Rattle.module_commands.specs.Form.{output_form_of}
+use Rattle.module_options.specs.Form.{output_form_of}
 use Rattle.module_commands.specs.Lists.{InTurn}
 use Rattle.module_commands.specs.Sites.{ListsSitesInText}
 use Rattle.module_commands.proofs.sites.list_sites.Given as goal

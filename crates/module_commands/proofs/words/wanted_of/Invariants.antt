@@ -1,9 +1,0 @@
--- Those of the rules so far that are wanted.
-use Rattle.std.proofs.Common.{take}
-use Rattle.clap.specs.Walk.{texts}
-use Rattle.body_rewrites.specs.Listing.{AreThose}
-use Rattle.module_commands.specs.Options.{IsWanted}
-use Rattle.module_commands.proofs.words.wanted_of.Given as goal
-
-abbrev pub invariant-loop-rule : goal.invariant-loop-rule
-invariant-loop-rule l = AreThose (IsWanted (texts l.others)) (take l.rule-index l.rules) l.wanted.items

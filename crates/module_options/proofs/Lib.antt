@@ -1,0 +1,2 @@
+pub mod ArgumentsLemmas
+pub mod OptionsLemmas

@@ -1,0 +1,10 @@
+pub mod Arguments
+pub mod Flags
+pub mod Form
+pub mod Front
+pub mod Misuse
+pub mod Named
+pub mod Options
+pub mod Scope
+pub mod Task
+pub mod Values
