@@ -49,7 +49,8 @@ module _ (context : Context) (exact : context.info.exact ≡ true) where
         run (side_code Store side (imm.Mem m)) ((below ++ a ∷ []) ++ v ∷ []) s ≡ Stuck
     pub runs : (m : MemArg) (below : List Value) (a v : Value) (s : State) (h : HasTypes context s) → IsValue a → IsValue v →
         accept (address context.info m ∷ typed (Some t) ∷ []) (a.type ∷ v.type ∷ []) ≡ true →
-        run (side_code Store side (imm.Mem m)) ((below ++ a ∷ []) ++ v ∷ []) s ≡ stored_by (exact_world context exact s h).memories m count below a.number (f v.number) s
+        run (side_code Store side (imm.Mem m)) ((below ++ a ∷ []) ++ v ∷ []) s
+        ≡ stored_by (exact_world context exact s h).memories m count below a.number (f v.number) s
 
   module _ (row count : ℕ) (u : PrimitiveTypeInfo) (is : IsStoreRow row count u) where
     abbrev bare : AccessSide
@@ -171,7 +172,8 @@ module _ (context : Context) (exact : context.info.exact ≡ true) where
           both : (m : MemArg) (below : List Value) (a v : Value) (s : State) (h : HasTypes context s) → IsValue a → IsValue v → (b : Bool) →
               same_type t v.type ≡ b →
               accept (address context.info m ∷ typed (Some t) ∷ []) (a.type ∷ v.type ∷ []) ≡ true →
-              run (code ++ store m ∷ []) ((below ++ a ∷ []) ++ v ∷ []) s ≡ stored_by (exact_world context exact s h).memories m count below a.number (f v.number) s
+              run (code ++ store m ∷ []) ((below ++ a ∷ []) ++ v ∷ []) s
+              ≡ stored_by (exact_world context exact s h).memories m count below a.number (f v.number) s
           both m below a v s h i j true k e =
               on_value m (below ++ a ∷ []) v s h j k
               ∙ store_runs m below a (made v) s h i (fits_now v j k)
