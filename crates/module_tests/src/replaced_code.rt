@@ -7,35 +7,15 @@ use body_changes::{
     Scope, Source, code_of_words, is_drawable, other_operator, replace_code, types_in_place,
     types_of_code,
 };
+use body_notation::{code_of, instr_of};
+use instruction_names::instruction_name;
 use std::alloc::{AllocError, Global};
+use std::process::Abort;
 use std::test::Fail;
-use wasm_code::{Function, Imm, Instr, OperatorAndByteOffset, read_code};
+use wasm_code::{Function, Instr, OperatorAndByteOffset, read_code};
 use wasm_types::{FuncInfo, MemoryType, ModuleInfo, PrimitiveTypeInfo, TypeInfo};
 
-/// Instructions: their rows and immediates.
-pub(crate) type Code = &'static [(u16, Imm)];
-
 const LOCALS: &[PrimitiveTypeInfo] = &[I32, I64, Empty];
-
-pub(crate) const FIRST: (u16, Imm) = (4, Imm::Index(0));
-
-pub(crate) const SECOND: (u16, Imm) = (4, Imm::Index(1));
-
-const REFERENCE: (u16, Imm) = (4, Imm::Index(2));
-
-pub(crate) const GLOBAL: (u16, Imm) = (7, Imm::Index(0));
-
-pub(crate) const ONE: (u16, Imm) = (36, Imm::I32(1));
-
-pub(crate) const DROP: (u16, Imm) = (2, Imm::Nothing);
-
-pub(crate) const ADD: (u16, Imm) = (77, Imm::Nothing);
-
-pub(crate) const COUNT_ZEROS: (u16, Imm) = (92, Imm::Nothing);
-
-const EXTEND: (u16, Imm) = (143, Imm::Nothing);
-
-const IS_NULL: (u16, Imm) = (169, Imm::Nothing);
 
 /// Behind a byte that isn't the body's: `local.get 0` with a number that is longer than it needs to be, `i32.const 5`, `i32.add`,
 /// `drop`, `end`.
@@ -45,63 +25,61 @@ const BODY: &[u8] = b"\xff\x20\x80\0\x41\x05\x6a\x1a\x0b";
 #[derive(Clone, Copy)]
 enum Case {
     /// The types that code leaves.
-    Types(Code, Option<&'static [PrimitiveTypeInfo]>),
+    Types(&'static str, Option<&'static [PrimitiveTypeInfo]>),
     /// The types that some operators of the body leave.
     InPlace(usize, usize, Option<&'static [PrimitiveTypeInfo]>),
     /// The body with code in the place of some operators, behind the byte that the sink holds.
-    Replaced(usize, usize, Code, &'static [u8]),
+    Replaced(usize, usize, &'static str, &'static [u8]),
     /// The code that words draw for a type, of so many instructions at most.
-    Drawn(PrimitiveTypeInfo, usize, &'static [u64], Code),
-    /// The row of another operator on operands of these types, by a word.
-    Other((u16, Imm), &'static [PrimitiveTypeInfo], u64, Option<u16>),
+    Drawn(PrimitiveTypeInfo, usize, &'static [u64], &'static str),
+    /// The name of another operator on operands of these types, by a word.
+    Other(&'static str, &'static [PrimitiveTypeInfo], u64, Option<&'static str>),
 }
 
 use Case::{Drawn, InPlace, Other, Replaced, Types};
 
 const CASES: [Case; 22] = [
-    Types(&[], Some(&[])),
-    Types(&[FIRST, ONE, ADD, SECOND], Some(&[I32, I64])),
+    Types("", Some(&[])),
+    Types(
+        "local.get 0; i32.const 1; i32.add; local.get 1",
+        Some(&[I32, I64]),
+    ),
     // It needs an operand from before it.
-    Types(&[ONE, ADD], None),
+    Types("i32.const 1; i32.add", None),
     // A reference that isn't told apart from others.
-    Types(&[REFERENCE, IS_NULL], None),
+    Types("local.get 2; ref.is_null", None),
     InPlace(0, 2, Some(&[I32, I32])),
     InPlace(0, 4, Some(&[])),
     InPlace(1, 3, None),
     // None of them.
     InPlace(1, 1, None),
-    Replaced(0, 3, &[ONE], b"\x07\x41\x01\x1a\x0b"),
+    Replaced(0, 3, "i32.const 1", b"\x07\x41\x01\x1a\x0b"),
     // What leaves nothing may go.
-    Replaced(0, 4, &[], b"\x07\x0b"),
+    Replaced(0, 4, "", b"\x07\x0b"),
     // Another number of values.
-    Replaced(0, 2, &[ONE], b"\x07"),
+    Replaced(0, 2, "i32.const 1", b"\x07"),
     // Another type.
-    Replaced(1, 2, &[SECOND], b"\x07"),
+    Replaced(1, 2, "local.get 1", b"\x07"),
     // Without words the constant 0.
-    Drawn(I32, 9, &[], &[(36, Imm::I32(0))]),
-    Drawn(I32, 1, &[32, 0xffff_fffb, 0], &[(36, Imm::I32(-5))]),
-    Drawn(I32, 1, &[1, 0, 0], &[FIRST]),
-    Drawn(I32, 1, &[2, 0, 0], &[GLOBAL]),
+    Drawn(I32, 9, &[], "i32.const 0"),
+    Drawn(I32, 1, &[32, 0xffff_fffb, 0], "i32.const -5"),
+    Drawn(I32, 1, &[1, 0, 0], "local.get 0"),
+    Drawn(I32, 1, &[2, 0, 0], "global.get 0"),
     // An operator and its operand.
-    Drawn(I64, 2, &[4, 0, 0, 1, 0, 0], &[SECOND, COUNT_ZEROS]),
-    Drawn(I64, 2, &[28, 0, 0, 1, 0, 0], &[FIRST, EXTEND]),
-    // `i32.eq`, then `i32.sub` behind the comparisons.
-    Other(ADD, &[I32, I32], 24, Some(41)),
-    Other(ADD, &[I32, I32], 10, Some(78)),
+    Drawn(I64, 2, &[4, 0, 0, 1, 0, 0], "local.get 1; i64.clz"),
+    Drawn(
+        I64,
+        2,
+        &[28, 0, 0, 1, 0, 0],
+        "local.get 0; i64.extend_i32_s",
+    ),
+    // Behind the comparisons, the other ones.
+    Other("i32.add", &[I32, I32], 24, Some("i32.eq")),
+    Other("i32.add", &[I32, I32], 10, Some("i32.sub")),
     // Nothing else without an immediate gives an i32 on no operand.
-    Other(ONE, &[], 5, None),
-    Other(IS_NULL, &[Empty], 0, None),
+    Other("i32.const 1", &[], 5, None),
+    Other("ref.is_null", &[Empty], 0, None),
 ];
-
-/// The instructions, which all stand in the table.
-pub(crate) fn instrs(alloc: Global, code: Code) -> Result<Vec<Instr>, Fail> {
-    let mut instrs = Vec::new(alloc);
-    for i in 0..code.len() {
-        let (row, imm) = code[i];
-        instrs.push(Instr::new(row, imm).ok_or("no such instruction")?)?;
-    }
-    Ok(instrs)
-}
 
 /// The type of a function.
 fn function_type(
@@ -153,10 +131,9 @@ fn are(found: &Option<Vec<PrimitiveTypeInfo>>, wanted: Option<&[PrimitiveTypeInf
 }
 
 /// What the sink holds behind its byte and the body with the code.
-fn replaced(alloc: Global, start: usize, end: usize, code: Code) -> Result<Function, Fail> {
+fn replaced(alloc: Global, start: usize, end: usize, code: &[Instr]) -> Result<Function, Fail> {
     let info = module(alloc)?;
     let operators = operators_of(alloc, BODY)?;
-    let code = instrs(alloc, code)?;
     let mut sink = Function::new(alloc);
     sink.raw(b"\x07")?;
     let source = Source {
@@ -166,7 +143,7 @@ fn replaced(alloc: Global, start: usize, end: usize, code: Code) -> Result<Funct
         input: BODY,
     };
     if end < operators.len() {
-        replace_code(alloc, &source, start..end, &code, &mut sink)?;
+        replace_code(alloc, &source, start..end, code, &mut sink)?;
     }
     Ok(sink)
 }
@@ -210,7 +187,7 @@ fn drawn(
 }
 
 /// Whether the call answers so.
-fn holds(alloc: Global, case: Case) -> Result<bool, Fail> {
+fn holds(rt: &impl Abort, alloc: Global, case: Case) -> Result<bool, Fail> {
     let info = module(alloc)?;
     let scope = Scope {
         info: &info,
@@ -218,20 +195,21 @@ fn holds(alloc: Global, case: Case) -> Result<bool, Fail> {
     };
     match case {
         Types(code, wanted) => {
-            let found = types_of_code(alloc, LOCALS, &info, &instrs(alloc, code)?)?;
+            let found = types_of_code(alloc, LOCALS, &info, &code_of(rt, alloc, code)?)?;
             Ok(are(&found, wanted))
         }
         InPlace(start, end, wanted) => Ok(are(&in_place(alloc, start, end)?, wanted)),
         Replaced(start, end, code, wanted) => {
-            Ok(replaced(alloc, start, end, code)?.bytes() == wanted)
+            let code = code_of(rt, alloc, code)?;
+            Ok(replaced(alloc, start, end, &code)?.bytes() == wanted)
         }
         Drawn(t, size, words, wanted) => {
-            Ok(drawn(alloc, t, size, words)? == instrs(alloc, wanted)?)
+            Ok(drawn(alloc, t, size, words)? == code_of(rt, alloc, wanted)?)
         }
-        Other((row, imm), operands, word, wanted) => {
-            let instr = Instr::new(row, imm).ok_or("no such instruction")?;
+        Other(text, operands, word, wanted) => {
+            let instr = instr_of(text).ok_or("no such instruction")?;
             let other = other_operator(&scope, &instr, operands, word);
-            Ok(other.map(|found| found.row()) == wanted)
+            Ok(other.map(|found| instruction_name(found.row())) == wanted)
         }
     }
 }
@@ -239,7 +217,7 @@ fn holds(alloc: Global, case: Case) -> Result<bool, Fail> {
 #[test]
 fn answers_as_written_by_hand(rt: HostRuntime) -> Result<(), Fail> {
     for case in CASES {
-        assert!(rt; holds(rt.alloc(), case)?);
+        assert!(rt; holds(&rt, rt.alloc(), case)?);
     }
     Ok(())
 }

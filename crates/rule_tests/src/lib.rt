@@ -9,8 +9,6 @@ mod lists;
 #[cfg(test)]
 mod memory;
 #[cfg(test)]
-mod notation;
-#[cfg(test)]
 mod own;
 #[cfg(test)]
 mod refused_bodies;
@@ -18,6 +16,8 @@ mod refused_bodies;
 mod rows;
 #[cfg(test)]
 mod rules;
+#[cfg(test)]
+mod scope;
 #[cfg(test)]
 mod table;
 #[cfg(test)]

@@ -128,7 +128,7 @@ absorb | T.const 1; T.const 1; T.const 2; T.and; T.xor | 4 | T | -
 # difference_of_difference: the first operand is left out, and may do nothing; the other one may do anything.
 difference_of_difference | T.const 1; T.const 1; T.const 2; T.sub; T.sub | 4 | T | T.const 2
 difference_of_difference | local.get 0; local.get 0; i32.const 5; local.tee 0; i32.sub; i32.sub | 5 | i32 | i32.const 5; local.tee 0
-difference_of_difference | local.get 2; local.get 2; local.get 0; i64.load; i64.sub; i64.sub | 5 | i64 | local.get 0; i64.load
+difference_of_difference | local.get 2; local.get 2; local.get 0; i64.load align=4; i64.sub; i64.sub | 5 | i64 | local.get 0; i64.load align=4
 difference_of_difference | T.const 1; T.const 3; T.const 2; T.sub; T.sub | 4 | T | -
 difference_of_difference | T.const 1; T.const 2; T.const 1; T.sub; T.sub | 4 | T | -
 difference_of_difference | T.const 1; T.const 1; T.sub; T.const 2; T.sub | 4 | T | -
@@ -205,7 +205,7 @@ drop_popcnt_of_test | T.const 1; T.const 2; T.le_u; i32.popcnt | 3 | T | T.const
 drop_popcnt_of_test | T.const 1; T.const 2; T.gt_u; i32.popcnt | 3 | T | T.const 1; T.const 2; T.gt_u
 drop_popcnt_of_test | T.const 1; T.const 2; T.ge_u; i32.popcnt | 3 | T | T.const 1; T.const 2; T.ge_u
 drop_popcnt_of_test | local.get 0; local.get 1; i32.div_u; i32.const 5; local.tee 0; i32.lt_u; i32.popcnt | 6 | i32 | local.get 0; local.get 1; i32.div_u; i32.const 5; local.tee 0; i32.lt_u
-drop_popcnt_of_test | local.get 0; i64.load; i64.eqz; i32.popcnt; local.set 0 | 3 | i64 | local.get 0; i64.load; i64.eqz; local.set 0
+drop_popcnt_of_test | local.get 0; i64.load align=4; i64.eqz; i32.popcnt; local.set 0 | 3 | i64 | local.get 0; i64.load align=4; i64.eqz; local.set 0
 drop_popcnt_of_test | T.const 7; T.popcnt | 1 | T | -
 drop_popcnt_of_test | T.const 7; T.eqz; i32.clz | 2 | T | -
 drop_popcnt_of_test | T.const 7; T.eqz; i32.ctz | 2 | T | -

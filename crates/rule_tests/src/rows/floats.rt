@@ -12,7 +12,7 @@ drop_double_float_negation | local.get 4; f32.neg; f64.promote_f32; f64.neg | 3 
 drop_double_float_negation | local.get 5; f64.neg; f32.demote_f64; f32.neg | 3 | i32 | -
 # double_float_negation
 double_float_negation | F.const 7 | 0 | T | F.const 7; F.neg; F.neg
-double_float_negation | local.get 0; F.load | 1 | T | local.get 0; F.load; F.neg; F.neg
+double_float_negation | local.get 0; F.load align=4 | 1 | T | local.get 0; F.load align=4; F.neg; F.neg
 double_float_negation | F.const 7; local.tee X; F.sqrt | 1 | T | F.const 7; local.tee X; F.neg; F.neg; F.sqrt
 double_float_negation | T.const 7 | 0 | T | -
 double_float_negation | local.get 6 | 0 | i32 | -
@@ -27,7 +27,7 @@ drop_neg_in_abs | F.const 7; F.neg; F.neg | 2 | T | -
 drop_neg_in_abs | F.const 7; F.neg; F.sqrt; F.abs | 3 | T | -
 drop_neg_in_abs | local.get 4; f32.neg; f64.promote_f32; f64.abs | 3 | i64 | -
 neg_in_abs | F.const 7; F.abs | 1 | T | F.const 7; F.neg; F.abs
-neg_in_abs | local.get 0; F.load; F.abs; local.get X; F.sub | 2 | T | local.get 0; F.load; F.neg; F.abs; local.get X; F.sub
+neg_in_abs | local.get 0; F.load align=4; F.abs; local.get X; F.sub | 2 | T | local.get 0; F.load align=4; F.neg; F.abs; local.get X; F.sub
 neg_in_abs | F.const 7; F.neg | 1 | T | -
 neg_in_abs | F.const 7; F.sqrt | 1 | T | -
 neg_in_abs | F.const 7 | 0 | T | -

@@ -34,7 +34,7 @@ double_to_product | local.get 2; local.get 3; i64.add | 2 | i64 | -
 double_to_shift | local.get 0; local.get 0; local.tee 0; i32.add | 3 | i32 | -
 # What may trap and is left out; what isn't told; what writes; floats; other operators.
 cancel_sub | local.get 0; local.get 1; i32.div_u; local.get 0; local.get 1; i32.div_u; i32.sub | 6 | i32 | -
-cancel_xor | local.get 0; i64.load; local.get 0; i64.load; i64.xor | 4 | i64 | -
+cancel_xor | local.get 0; i64.load align=4; local.get 0; i64.load align=4; i64.xor | 4 | i64 | -
 cancel_sub | memory.size 0; memory.size 0; i32.sub | 2 | i32 | -
 drop_or_self | memory.size 0; memory.size 0; i32.or | 2 | i32 | -
 drop_and_self | local.get 0; call 0; local.get 0; call 0; i32.and | 4 | i32 | -
@@ -123,7 +123,7 @@ difference_to_tests | T.const 7; T.const 1; T.ne | 2 | T | -
 difference_to_tests | T.const 7; T.const 0; T.eq | 2 | T | -
 difference_to_tests | i32.const 0; local.get 0; i32.ne | 2 | i32 | -
 tests_to_difference | T.const 7; T.eqz; i32.eqz | 2 | T | T.const 7; T.const 0; T.ne
-tests_to_difference | local.get 0; i64.load; i64.eqz; i32.eqz | 3 | i64 | local.get 0; i64.load; i64.const 0; i64.ne
+tests_to_difference | local.get 0; i64.load align=4; i64.eqz; i32.eqz | 3 | i64 | local.get 0; i64.load align=4; i64.const 0; i64.ne
 tests_to_difference | T.const 7; T.eqz | 1 | T | -
 tests_to_difference | local.get 0; i32.clz; i32.eqz | 2 | i32 | -
 tests_to_difference | T.const 7; T.eqz; i32.clz | 2 | T | -
@@ -156,7 +156,7 @@ complement_of_and | local.get 2; local.get 3; i64.and; i64.const 4294967295; i64
 complement_of_or | T.const 1; T.const 2; T.and; T.const -1; T.xor | 4 | T | -
 # And back.
 gather_product | T.const 1; T.const 5; T.mul; T.const 2; T.const 5; T.mul; T.add | 6 | T | T.const 1; T.const 2; T.add; T.const 5; T.mul
-gather_product | local.get 2; i64.const -1; i64.mul; local.get 0; i64.load; i64.const -1; i64.mul; i64.add | 7 | i64 | local.get 2; local.get 0; i64.load; i64.add; i64.const -1; i64.mul
+gather_product | local.get 2; i64.const -1; i64.mul; local.get 0; i64.load align=4; i64.const -1; i64.mul; i64.add | 7 | i64 | local.get 2; local.get 0; i64.load align=4; i64.add; i64.const -1; i64.mul
 gather_mask | T.const 1; T.const 6; T.and; T.const 2; T.const 6; T.and; T.or | 6 | T | T.const 1; T.const 2; T.or; T.const 6; T.and
 or_of_complements | T.const 1; T.const -1; T.xor; T.const 2; T.const -1; T.xor; T.or | 6 | T | T.const 1; T.const 2; T.and; T.const -1; T.xor
 and_of_complements | T.const 1; T.const -1; T.xor; T.const 2; T.const -1; T.xor; T.and | 6 | T | T.const 1; T.const 2; T.or; T.const -1; T.xor

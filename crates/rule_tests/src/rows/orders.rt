@@ -120,7 +120,7 @@ or_zero | local.get 2; i64.eqz | 1 | i32 | local.get 2; i64.eqz; i32.const 0; i3
 xor_zero | local.get 2; i64.const 5; local.get 1; select | 3 | i64 | local.get 2; i64.const 5; local.get 1; select; i64.const 0; i64.xor
 sub_zero | local.get 0; local.get 2; i32.wrap_i64; i32.mul; local.set 1 | 2 | i32 | local.get 0; local.get 2; i32.wrap_i64; i32.const 0; i32.sub; i32.mul; local.set 1
 mul_one | i32.const 5; local.tee 0 | 1 | i32 | i32.const 5; local.tee 0; i32.const 1; i32.mul
-and_ones | local.get 0; i64.load | 1 | i64 | local.get 0; i64.load; i64.const -1; i64.and
+and_ones | local.get 0; i64.load align=4 | 1 | i64 | local.get 0; i64.load align=4; i64.const -1; i64.and
 rotl_by_zero | local.get 0; call 0 | 1 | i32 | local.get 0; call 0; i32.const 0; i32.rotl
 double_complement | local.get 4; i32.reinterpret_f32 | 1 | i32 | local.get 4; i32.reinterpret_f32; i32.const -1; i32.xor; i32.const -1; i32.xor
 # What may trap, twice.
@@ -143,7 +143,7 @@ double_complement | local.get 2; i32.eqz | 1 | i32 | -
 or_self | i32.const 5; local.tee 0 | 1 | i32 | -
 and_self | i32.const 5; local.tee 0; i64.extend_i32_s | 2 | i64 | -
 or_self | local.get 0; i32.load | 1 | i32 | -
-and_self | local.get 0; i64.load; i64.eqz | 2 | i32 | -
+and_self | local.get 0; i64.load align=4; i64.eqz | 2 | i32 | -
 or_self | memory.size 0 | 0 | i32 | -
 and_self | local.get 4; i32.reinterpret_f32 | 1 | i32 | -
 or_self | local.get 0; call 0 | 1 | i32 | -
