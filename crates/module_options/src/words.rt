@@ -20,7 +20,8 @@ use clap::{ArgMatches, Command, Error};
 use std::alloc::{AllocError, Global};
 use std::convert::AsStr;
 
-/// The options that the matches of a command line are.
+/// The options that the matches of a command line are, or why they are none: no memory is left, flags exclude each other, an option is
+/// ignored, nothing is there to be told as JSON, or a value can't be read.
 pub fn options_from(alloc: Global, matches: &ArgMatches<'_>) -> Result<Options, Misuse>
     ensures options { IfOk result (options.AreOptions (rows_of (found_of matches.now))) }
     ensures misuse { IfErr result (AreMisused (rows_of (found_of matches.now))) }
