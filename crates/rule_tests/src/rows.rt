@@ -34,8 +34,7 @@ mod vectors;
 /// - A are the lanes of i8x16, B those of i16x8, C those of four, and D those of two.
 ///
 /// Locals 0 and 1 are of i32, 2 and 3 of i64, 4 and 7 of f32, 5 and 8 of f64, and 6 and 9 of v128; globals 0 and 1 are of i32 and of i64.
-/// Constants of floats are written by their bits. Behind a load or a store stand the exponent of its alignment, which is 2 where none
-/// stands there, and the offset, which is 0 where none stands there.
+/// Bodies are texts of `body_notation`, without their `end`.
 pub(crate) const ROWS: [&str; 7] = [
     orders::ROWS,
     forms::ROWS,
