@@ -6,7 +6,7 @@ use Rattle.peephole_nodes.specs.contracts.id.Id as id
 use Rattle.peephole_nodes.specs.contracts.numeric.Numeric.{the_row}
 use Rattle.peephole_nodes.specs.declared.id.Id.{Id}
 use Rattle.peephole_nodes.specs.declared.numeric.Numeric.{Numeric}
-use Rattle.peephole_nodes.specs.NumericWithIds.{numeric_with_ids}
+use Rattle.peephole_nodes.specs.Numeric.{numeric_with_ids}
 
 abbrev pub LendsNumericIds : MutBor Numeric → MutBor (List Id) → Fml
 LendsNumericIds s r = Lends the_row (Array id.the_row 0) s r (numeric_with_ids s.now)

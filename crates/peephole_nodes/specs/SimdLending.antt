@@ -6,7 +6,7 @@ use Rattle.peephole_nodes.specs.contracts.id.Id as id
 use Rattle.peephole_nodes.specs.contracts.simd.Simd.{the_row}
 use Rattle.peephole_nodes.specs.declared.id.Id.{Id}
 use Rattle.peephole_nodes.specs.declared.simd.Simd.{Simd}
-use Rattle.peephole_nodes.specs.SimdWithIds.{simd_with_ids}
+use Rattle.peephole_nodes.specs.Simd.{simd_with_ids}
 
 abbrev pub LendsSimdIds : MutBor Simd → MutBor (List Id) → Fml
 LendsSimdIds s r = Lends the_row (Array id.the_row 0) s r (simd_with_ids s.now)

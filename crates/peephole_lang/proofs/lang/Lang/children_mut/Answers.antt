@@ -1,7 +1,7 @@
--- What is lent in each arm, said outright, so that no search is needed: the variant is what was matched, and so are its ids and what it becomes.
+-- What is lent in each arm but those of arrays, said outright, so that no search is needed: the variant is what was matched,
+-- and so are its ids and what it becomes.
 use Rattle.std.proofs.Common.{refl, sym, ap, ◌∙◌, rules}
-use Rattle.peephole_lang.specs.Lang.{ids_of}
-use Rattle.peephole_lang.specs.WithIds.{with_ids}
+use Rattle.peephole_lang.specs.Lang.{ids_of, with_ids}
 use Rattle.peephole_lang.proofs.lang.Lang.children_mut.Goals as goal
 
 pub returns-in-RandI32 : goal.returns-in-RandI32
@@ -82,14 +82,6 @@ pub returns-in-Call : goal.returns-in-Call
 unfolding with_ids ids_of
 returns-in-Call c = ((refl, λ w. rw c.in-Call.is refl), record { lends = tt; value = search rules })
 
-pub returns-in-Drop : goal.returns-in-Drop
-unfolding with_ids ids_of
-returns-in-Drop c = ((refl, λ w. rw c.in-Drop.is refl), record { lends = tt; value = search rules })
-
-pub returns-in-Select : goal.returns-in-Select
-unfolding with_ids ids_of
-returns-in-Select c = ((refl, λ w. rw c.in-Select.is refl), record { lends = tt; value = search rules })
-
 pub returns-in-LocalGet : goal.returns-in-LocalGet
 unfolding with_ids ids_of
 returns-in-LocalGet c = (
@@ -119,10 +111,6 @@ returns-in-GlobalSet c = ((refl, λ w. rw c.in-GlobalSet.is refl), record { lend
 pub returns-in-TableGet : goal.returns-in-TableGet
 unfolding with_ids ids_of
 returns-in-TableGet c = ((refl, λ w. rw c.in-TableGet.is refl), record { lends = tt; value = search rules })
-
-pub returns-in-TableSet : goal.returns-in-TableSet
-unfolding with_ids ids_of
-returns-in-TableSet c = ((refl, λ w. rw c.in-TableSet.is refl), record { lends = tt; value = search rules })
 
 pub returns-in-I32Load : goal.returns-in-I32Load
 unfolding with_ids ids_of
@@ -179,42 +167,6 @@ returns-in-I64Load32S c = ((refl, λ w. rw c.in-I64Load32S.is refl), record { le
 pub returns-in-I64Load32U : goal.returns-in-I64Load32U
 unfolding with_ids ids_of
 returns-in-I64Load32U c = ((refl, λ w. rw c.in-I64Load32U.is refl), record { lends = tt; value = search rules })
-
-pub returns-in-I32Store : goal.returns-in-I32Store
-unfolding with_ids ids_of
-returns-in-I32Store c = ((refl, λ w. rw c.in-I32Store.is refl), record { lends = tt; value = search rules })
-
-pub returns-in-I64Store : goal.returns-in-I64Store
-unfolding with_ids ids_of
-returns-in-I64Store c = ((refl, λ w. rw c.in-I64Store.is refl), record { lends = tt; value = search rules })
-
-pub returns-in-F32Store : goal.returns-in-F32Store
-unfolding with_ids ids_of
-returns-in-F32Store c = ((refl, λ w. rw c.in-F32Store.is refl), record { lends = tt; value = search rules })
-
-pub returns-in-F64Store : goal.returns-in-F64Store
-unfolding with_ids ids_of
-returns-in-F64Store c = ((refl, λ w. rw c.in-F64Store.is refl), record { lends = tt; value = search rules })
-
-pub returns-in-I32Store8 : goal.returns-in-I32Store8
-unfolding with_ids ids_of
-returns-in-I32Store8 c = ((refl, λ w. rw c.in-I32Store8.is refl), record { lends = tt; value = search rules })
-
-pub returns-in-I32Store16 : goal.returns-in-I32Store16
-unfolding with_ids ids_of
-returns-in-I32Store16 c = ((refl, λ w. rw c.in-I32Store16.is refl), record { lends = tt; value = search rules })
-
-pub returns-in-I64Store8 : goal.returns-in-I64Store8
-unfolding with_ids ids_of
-returns-in-I64Store8 c = ((refl, λ w. rw c.in-I64Store8.is refl), record { lends = tt; value = search rules })
-
-pub returns-in-I64Store16 : goal.returns-in-I64Store16
-unfolding with_ids ids_of
-returns-in-I64Store16 c = ((refl, λ w. rw c.in-I64Store16.is refl), record { lends = tt; value = search rules })
-
-pub returns-in-I64Store32 : goal.returns-in-I64Store32
-unfolding with_ids ids_of
-returns-in-I64Store32 c = ((refl, λ w. rw c.in-I64Store32.is refl), record { lends = tt; value = search rules })
 
 pub returns-in-MemorySize : goal.returns-in-MemorySize
 unfolding with_ids ids_of
@@ -289,28 +241,12 @@ returns-in-RefFunc c = (
   record { lends = tt; value = c.lend_none-in-RefFunc.ensures.value ∙ sym (ap ids_of c.in-RefFunc.is) },
 )
 
-pub returns-in-MemoryInit : goal.returns-in-MemoryInit
-unfolding with_ids ids_of
-returns-in-MemoryInit c = ((refl, λ w. rw c.in-MemoryInit.is refl), record { lends = tt; value = search rules })
-
 pub returns-in-DataDrop : goal.returns-in-DataDrop
 unfolding with_ids ids_of
 returns-in-DataDrop c = (
   (refl, λ w. c.in-DataDrop.is ∙ sym (ap (λ l. with_ids l w) c.in-DataDrop.is)),
   record { lends = tt; value = c.lend_none-in-DataDrop.ensures.value ∙ sym (ap ids_of c.in-DataDrop.is) },
 )
-
-pub returns-in-MemoryCopy : goal.returns-in-MemoryCopy
-unfolding with_ids ids_of
-returns-in-MemoryCopy c = ((refl, λ w. rw c.in-MemoryCopy.is refl), record { lends = tt; value = search rules })
-
-pub returns-in-MemoryFill : goal.returns-in-MemoryFill
-unfolding with_ids ids_of
-returns-in-MemoryFill c = ((refl, λ w. rw c.in-MemoryFill.is refl), record { lends = tt; value = search rules })
-
-pub returns-in-TableInit : goal.returns-in-TableInit
-unfolding with_ids ids_of
-returns-in-TableInit c = ((refl, λ w. rw c.in-TableInit.is refl), record { lends = tt; value = search rules })
 
 pub returns-in-ElemDrop : goal.returns-in-ElemDrop
 unfolding with_ids ids_of
@@ -319,28 +255,12 @@ returns-in-ElemDrop c = (
   record { lends = tt; value = c.lend_none-in-ElemDrop.ensures.value ∙ sym (ap ids_of c.in-ElemDrop.is) },
 )
 
-pub returns-in-TableCopy : goal.returns-in-TableCopy
-unfolding with_ids ids_of
-returns-in-TableCopy c = ((refl, λ w. rw c.in-TableCopy.is refl), record { lends = tt; value = search rules })
-
-pub returns-in-TableGrow : goal.returns-in-TableGrow
-unfolding with_ids ids_of
-returns-in-TableGrow c = ((refl, λ w. rw c.in-TableGrow.is refl), record { lends = tt; value = search rules })
-
 pub returns-in-TableSize : goal.returns-in-TableSize
 unfolding with_ids ids_of
 returns-in-TableSize c = (
   (refl, λ w. c.in-TableSize.is ∙ sym (ap (λ l. with_ids l w) c.in-TableSize.is)),
   record { lends = tt; value = c.lend_none-in-TableSize.ensures.value ∙ sym (ap ids_of c.in-TableSize.is) },
 )
-
-pub returns-in-TableFill : goal.returns-in-TableFill
-unfolding with_ids ids_of
-returns-in-TableFill c = ((refl, λ w. rw c.in-TableFill.is refl), record { lends = tt; value = search rules })
-
-pub returns-in-TypedSelect : goal.returns-in-TypedSelect
-unfolding with_ids ids_of
-returns-in-TypedSelect c = ((refl, λ w. rw c.in-TypedSelect.is refl), record { lends = tt; value = search rules })
 
 pub returns-in-Numeric : goal.returns-in-Numeric
 unfolding with_ids ids_of
