@@ -7,7 +7,8 @@ macro_rules! copies {
     (($node:expr)
         [$($bare:ident $bare_place:literal,)*]
         [$({ $payload:ident $said:expr } [$($leaf:ident $leaf_place:literal,)*])*]
-        [$({ $told:tt $given:expr } { $held:tt $children:expr, $lent:expr } { $whole:tt $copied:tt } [$($name:ident $place:literal,)*])*]
+        [$({ $told:tt $given:expr } { $held:tt $children:expr, $lent:expr } { $whole:tt $copied:tt }
+            [$($name:ident $place:literal,)*])*]
     ) => {
         match $node {
             $(Lang::$bare => Ok(Lang::$bare),)*
@@ -26,6 +27,6 @@ impl Clone for Lang {
 
     #[tactic(auto, unfolding(crate::specs::Lang::place_of, crate::specs::Lang::payload_of, crate::specs::Lang::ids_of))]
     fn clone(&self) -> Result<Lang, AllocError> {
-        lang_variants!(copies (self))
+        lang_variants!(copies(self))
     }
 }

@@ -10,12 +10,27 @@ pub struct VariantRow {
     pub children: Arity,
 }
 
+macro_rules! arity {
+    (none) => {
+        Arity::Zero
+    };
+    (id) => {
+        Arity::One
+    };
+    (any) => {
+        Arity::Any
+    };
+    ($count:literal) => {
+        Arity::Several($count)
+    };
+}
+
 macro_rules! rows {
-    ($($place:literal $name:literal $payload:ident $arity:ident $(($count:literal))?,)*) => {
+    ($($place:literal $name:literal $payload:ident $children:tt,)*) => {
         [$(VariantRow {
             place: $place,
             payload: PayloadKind::$payload,
-            children: Arity::$arity $(($count))?,
+            children: arity!($children),
         },)*]
     };
 }

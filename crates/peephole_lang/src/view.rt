@@ -15,7 +15,8 @@ macro_rules! places {
     (($node:expr)
         [$($bare:ident $bare_place:literal,)*]
         [$({ $payload:ident $said:expr } [$($leaf:ident $leaf_place:literal,)*])*]
-        [$({ $told:tt $given:expr } { $held:tt $children:expr, $lent:expr } { $whole:tt $copied:tt } [$($name:ident $place:literal,)*])*]
+        [$({ $told:tt $given:expr } { $held:tt $children:expr, $lent:expr } { $whole:tt $copied:tt }
+            [$($name:ident $place:literal,)*])*]
     ) => {
         match $node {
             $(Lang::$bare => $bare_place,)*
@@ -31,7 +32,8 @@ macro_rules! payloads {
     (($node:expr)
         [$($bare:ident $bare_place:literal,)*]
         [$({ $payload:ident $said:expr } [$($leaf:ident $leaf_place:literal,)*])*]
-        [$({ $told:tt $given:expr } { $held:tt $children:expr, $lent:expr } { $whole:tt $copied:tt } [$($name:ident $place:literal,)*])*]
+        [$({ $told:tt $given:expr } { $held:tt $children:expr, $lent:expr } { $whole:tt $copied:tt }
+            [$($name:ident $place:literal,)*])*]
     ) => {
         match $node {
             $(Lang::$bare => Payload::Nothing,)*
@@ -47,7 +49,8 @@ macro_rules! children {
     (($node:expr)
         [$($bare:ident $bare_place:literal,)*]
         [$({ $payload:ident $said:expr } [$($leaf:ident $leaf_place:literal,)*])*]
-        [$({ $told:tt $given:expr } { $held:tt $children:expr, $lent:expr } { $whole:tt $copied:tt } [$($name:ident $place:literal,)*])*]
+        [$({ $told:tt $given:expr } { $held:tt $children:expr, $lent:expr } { $whole:tt $copied:tt }
+            [$($name:ident $place:literal,)*])*]
     ) => {
         match $node {
             $(Lang::$bare)|* => &[],
@@ -63,7 +66,8 @@ macro_rules! lent_children {
     (($node:expr)
         [$($bare:ident $bare_place:literal,)*]
         [$({ $payload:ident $said:expr } [$($leaf:ident $leaf_place:literal,)*])*]
-        [$({ $told:tt $given:expr } { $held:tt $children:expr, $lent:expr } { $whole:tt $copied:tt } [$($name:ident $place:literal,)*])*]
+        [$({ $told:tt $given:expr } { $held:tt $children:expr, $lent:expr } { $whole:tt $copied:tt }
+            [$($name:ident $place:literal,)*])*]
     ) => {
         match $node {
             $(Lang::$bare => lend_none($node),)*
@@ -90,7 +94,7 @@ impl Lang {
     pub fn place(&self) -> u16
         ensures { result ≡ place_of self.now }
     {
-        lang_variants!(places (self))
+        lang_variants!(places(self))
     }
 
     /// What it says besides its variant and its children.
@@ -98,7 +102,7 @@ impl Lang {
     pub fn payload(&self) -> Payload
         ensures { result ≡ payload_of self.now }
     {
-        lang_variants!(payloads (self))
+        lang_variants!(payloads(self))
     }
 
     /// The ids of the children, the first operand first.
@@ -107,7 +111,7 @@ impl Lang {
         ensures value { result.now ≡ ids_of self.now }
         ensures count { length result.now ≡ variant_child_count self.now }
     {
-        lang_variants!(children (self))
+        lang_variants!(children(self))
     }
 
     /// The ids of the children, the first operand first, to be written.
@@ -116,6 +120,6 @@ impl Lang {
         ensures* lends { sem 𝓛 (LendsIds self.entry result) }
         ensures value { result.now ≡ ids_of self.old }
     {
-        lang_variants!(lent_children (self))
+        lang_variants!(lent_children(self))
     }
 }

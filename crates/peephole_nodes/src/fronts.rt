@@ -15,7 +15,7 @@ macro_rules! front {
 }
 
 macro_rules! fronts {
-    ($($place:literal $name:literal $payload:ident $arity:ident $(($count:literal))?,)*) => {
+    ($($place:literal $name:literal $payload:ident $children:tt,)*) => {
         [$(front!($payload $name),)*]
     };
 }

@@ -1,43 +1,37 @@
 -- What is lent in each arm but those of arrays, said outright, so that no search is needed: the variant is what was matched,
 -- and so are its ids and what it becomes.
-use Rattle.std.proofs.Common.{refl, sym, ap, ◌∙◌, rules}
+use Rattle.std.proofs.Common.{◌≡◌, List, [], refl, sym, ap, ◌∙◌, rules}
+use Rattle.peephole_nodes.specs.declared.id.Id.{Id}
+use Rattle.peephole_lang.specs.declared.lang.Lang.{Lang}
 use Rattle.peephole_lang.specs.Lang.{ids_of, with_ids}
 use Rattle.peephole_lang.proofs.lang.Lang.children_mut.Goals as goal
 
+-- a node without children stays, whatever is written, and lends no ids
+stays : {G : Type 0} {g : G} {l m : Lang} → l ≡ m → ((w : List Id) → with_ids m w ≡ m) → (g ≡ g) × ((w : List Id) → l ≡ with_ids l w)
+stays e same = (refl, λ w. e ∙ sym (same w) ∙ sym (ap (λ k. with_ids k w) e))
+
+none : {l m : Lang} → l ≡ m → ids_of m ≡ [] → [] ≡ ids_of l
+none e p = sym p ∙ sym (ap ids_of e)
+
 pub returns-in-RandI32 : goal.returns-in-RandI32
 unfolding with_ids ids_of
-returns-in-RandI32 c = (
-  (refl, λ w. c.in-RandI32.is ∙ sym (ap (λ l. with_ids l w) c.in-RandI32.is)),
-  record { lends = tt; value = c.lend_none.ensures.value ∙ sym (ap ids_of c.in-RandI32.is) },
-)
+returns-in-RandI32 c = (stays c.in-RandI32.is (λ w. refl), record { lends = tt; value = c.lend_none.ensures.value ∙ none c.in-RandI32.is refl })
 
 pub returns-in-RandI64 : goal.returns-in-RandI64
 unfolding with_ids ids_of
-returns-in-RandI64 c = (
-  (refl, λ w. c.in-RandI64.is ∙ sym (ap (λ l. with_ids l w) c.in-RandI64.is)),
-  record { lends = tt; value = c.lend_none-in-RandI64.ensures.value ∙ sym (ap ids_of c.in-RandI64.is) },
-)
+returns-in-RandI64 c = (stays c.in-RandI64.is (λ w. refl), record { lends = tt; value = c.lend_none-in-RandI64.ensures.value ∙ none c.in-RandI64.is refl })
 
 pub returns-in-RandF32 : goal.returns-in-RandF32
 unfolding with_ids ids_of
-returns-in-RandF32 c = (
-  (refl, λ w. c.in-RandF32.is ∙ sym (ap (λ l. with_ids l w) c.in-RandF32.is)),
-  record { lends = tt; value = c.lend_none-in-RandF32.ensures.value ∙ sym (ap ids_of c.in-RandF32.is) },
-)
+returns-in-RandF32 c = (stays c.in-RandF32.is (λ w. refl), record { lends = tt; value = c.lend_none-in-RandF32.ensures.value ∙ none c.in-RandF32.is refl })
 
 pub returns-in-RandF64 : goal.returns-in-RandF64
 unfolding with_ids ids_of
-returns-in-RandF64 c = (
-  (refl, λ w. c.in-RandF64.is ∙ sym (ap (λ l. with_ids l w) c.in-RandF64.is)),
-  record { lends = tt; value = c.lend_none-in-RandF64.ensures.value ∙ sym (ap ids_of c.in-RandF64.is) },
-)
+returns-in-RandF64 c = (stays c.in-RandF64.is (λ w. refl), record { lends = tt; value = c.lend_none-in-RandF64.ensures.value ∙ none c.in-RandF64.is refl })
 
 pub returns-in-Undef : goal.returns-in-Undef
 unfolding with_ids ids_of
-returns-in-Undef c = (
-  (refl, λ w. c.in-Undef.is ∙ sym (ap (λ l. with_ids l w) c.in-Undef.is)),
-  record { lends = tt; value = c.lend_none-in-Undef.ensures.value ∙ sym (ap ids_of c.in-Undef.is) },
-)
+returns-in-Undef c = (stays c.in-Undef.is (λ w. refl), record { lends = tt; value = c.lend_none-in-Undef.ensures.value ∙ none c.in-Undef.is refl })
 
 pub returns-in-UnfoldI32 : goal.returns-in-UnfoldI32
 unfolding with_ids ids_of
@@ -69,14 +63,7 @@ returns-in-Container c = ((refl, λ w. rw c.in-Container.is refl), record { lend
 
 pub returns-in-Nop : goal.returns-in-Nop
 unfolding with_ids ids_of
-returns-in-Nop c = (
-  (refl, λ w. c.in-Nop.is ∙ sym (ap (λ l. with_ids l w) c.in-Nop.is)),
-  record {
-    lends = tt;
-    value = c.lend_none-in-Nop.ensures.value
-        ∙ sym (ap ids_of c.in-Nop.is);
-  },
-)
+returns-in-Nop c = (stays c.in-Nop.is (λ w. refl), record { lends = tt; value = c.lend_none-in-Nop.ensures.value ∙ none c.in-Nop.is refl })
 
 pub returns-in-Call : goal.returns-in-Call
 unfolding with_ids ids_of
@@ -84,10 +71,7 @@ returns-in-Call c = ((refl, λ w. rw c.in-Call.is refl), record { lends = tt; va
 
 pub returns-in-LocalGet : goal.returns-in-LocalGet
 unfolding with_ids ids_of
-returns-in-LocalGet c = (
-  (refl, λ w. c.in-LocalGet.is ∙ sym (ap (λ l. with_ids l w) c.in-LocalGet.is)),
-  record { lends = tt; value = c.lend_none-in-LocalGet.ensures.value ∙ sym (ap ids_of c.in-LocalGet.is) },
-)
+returns-in-LocalGet c = (stays c.in-LocalGet.is (λ w. refl), record { lends = tt; value = c.lend_none-in-LocalGet.ensures.value ∙ none c.in-LocalGet.is refl })
 
 pub returns-in-LocalSet : goal.returns-in-LocalSet
 unfolding with_ids ids_of
@@ -100,8 +84,8 @@ returns-in-LocalTee c = ((refl, λ w. rw c.in-LocalTee.is refl), record { lends 
 pub returns-in-GlobalGet : goal.returns-in-GlobalGet
 unfolding with_ids ids_of
 returns-in-GlobalGet c = (
-  (refl, λ w. c.in-GlobalGet.is ∙ sym (ap (λ l. with_ids l w) c.in-GlobalGet.is)),
-  record { lends = tt; value = c.lend_none-in-GlobalGet.ensures.value ∙ sym (ap ids_of c.in-GlobalGet.is) },
+  stays c.in-GlobalGet.is (λ w. refl),
+  record { lends = tt; value = c.lend_none-in-GlobalGet.ensures.value ∙ none c.in-GlobalGet.is refl },
 )
 
 pub returns-in-GlobalSet : goal.returns-in-GlobalSet
@@ -171,8 +155,8 @@ returns-in-I64Load32U c = ((refl, λ w. rw c.in-I64Load32U.is refl), record { le
 pub returns-in-MemorySize : goal.returns-in-MemorySize
 unfolding with_ids ids_of
 returns-in-MemorySize c = (
-  (refl, λ w. c.in-MemorySize.is ∙ sym (ap (λ l. with_ids l w) c.in-MemorySize.is)),
-  record { lends = tt; value = c.lend_none-in-MemorySize.ensures.value ∙ sym (ap ids_of c.in-MemorySize.is) },
+  stays c.in-MemorySize.is (λ w. refl),
+  record { lends = tt; value = c.lend_none-in-MemorySize.ensures.value ∙ none c.in-MemorySize.is refl },
 )
 
 pub returns-in-MemoryGrow : goal.returns-in-MemoryGrow
@@ -181,54 +165,23 @@ returns-in-MemoryGrow c = ((refl, λ w. rw c.in-MemoryGrow.is refl), record { le
 
 pub returns-in-I32 : goal.returns-in-I32
 unfolding with_ids ids_of
-returns-in-I32 c = (
-  (refl, λ w. c.in-I32.is ∙ sym (ap (λ l. with_ids l w) c.in-I32.is)),
-  record {
-    lends = tt;
-    value = c.lend_none-in-I32.ensures.value
-        ∙ sym (ap ids_of c.in-I32.is);
-  },
-)
+returns-in-I32 c = (stays c.in-I32.is (λ w. refl), record { lends = tt; value = c.lend_none-in-I32.ensures.value ∙ none c.in-I32.is refl })
 
 pub returns-in-I64 : goal.returns-in-I64
 unfolding with_ids ids_of
-returns-in-I64 c = (
-  (refl, λ w. c.in-I64.is ∙ sym (ap (λ l. with_ids l w) c.in-I64.is)),
-  record {
-    lends = tt;
-    value = c.lend_none-in-I64.ensures.value
-        ∙ sym (ap ids_of c.in-I64.is);
-  },
-)
+returns-in-I64 c = (stays c.in-I64.is (λ w. refl), record { lends = tt; value = c.lend_none-in-I64.ensures.value ∙ none c.in-I64.is refl })
 
 pub returns-in-F32 : goal.returns-in-F32
 unfolding with_ids ids_of
-returns-in-F32 c = (
-  (refl, λ w. c.in-F32.is ∙ sym (ap (λ l. with_ids l w) c.in-F32.is)),
-  record {
-    lends = tt;
-    value = c.lend_none-in-F32.ensures.value
-        ∙ sym (ap ids_of c.in-F32.is);
-  },
-)
+returns-in-F32 c = (stays c.in-F32.is (λ w. refl), record { lends = tt; value = c.lend_none-in-F32.ensures.value ∙ none c.in-F32.is refl })
 
 pub returns-in-F64 : goal.returns-in-F64
 unfolding with_ids ids_of
-returns-in-F64 c = (
-  (refl, λ w. c.in-F64.is ∙ sym (ap (λ l. with_ids l w) c.in-F64.is)),
-  record {
-    lends = tt;
-    value = c.lend_none-in-F64.ensures.value
-        ∙ sym (ap ids_of c.in-F64.is);
-  },
-)
+returns-in-F64 c = (stays c.in-F64.is (λ w. refl), record { lends = tt; value = c.lend_none-in-F64.ensures.value ∙ none c.in-F64.is refl })
 
 pub returns-in-RefNull : goal.returns-in-RefNull
 unfolding with_ids ids_of
-returns-in-RefNull c = (
-  (refl, λ w. c.in-RefNull.is ∙ sym (ap (λ l. with_ids l w) c.in-RefNull.is)),
-  record { lends = tt; value = c.lend_none-in-RefNull.ensures.value ∙ sym (ap ids_of c.in-RefNull.is) },
-)
+returns-in-RefNull c = (stays c.in-RefNull.is (λ w. refl), record { lends = tt; value = c.lend_none-in-RefNull.ensures.value ∙ none c.in-RefNull.is refl })
 
 pub returns-in-RefIsNull : goal.returns-in-RefIsNull
 unfolding with_ids ids_of
@@ -236,30 +189,21 @@ returns-in-RefIsNull c = ((refl, λ w. rw c.in-RefIsNull.is refl), record { lend
 
 pub returns-in-RefFunc : goal.returns-in-RefFunc
 unfolding with_ids ids_of
-returns-in-RefFunc c = (
-  (refl, λ w. c.in-RefFunc.is ∙ sym (ap (λ l. with_ids l w) c.in-RefFunc.is)),
-  record { lends = tt; value = c.lend_none-in-RefFunc.ensures.value ∙ sym (ap ids_of c.in-RefFunc.is) },
-)
+returns-in-RefFunc c = (stays c.in-RefFunc.is (λ w. refl), record { lends = tt; value = c.lend_none-in-RefFunc.ensures.value ∙ none c.in-RefFunc.is refl })
 
 pub returns-in-DataDrop : goal.returns-in-DataDrop
 unfolding with_ids ids_of
-returns-in-DataDrop c = (
-  (refl, λ w. c.in-DataDrop.is ∙ sym (ap (λ l. with_ids l w) c.in-DataDrop.is)),
-  record { lends = tt; value = c.lend_none-in-DataDrop.ensures.value ∙ sym (ap ids_of c.in-DataDrop.is) },
-)
+returns-in-DataDrop c = (stays c.in-DataDrop.is (λ w. refl), record { lends = tt; value = c.lend_none-in-DataDrop.ensures.value ∙ none c.in-DataDrop.is refl })
 
 pub returns-in-ElemDrop : goal.returns-in-ElemDrop
 unfolding with_ids ids_of
-returns-in-ElemDrop c = (
-  (refl, λ w. c.in-ElemDrop.is ∙ sym (ap (λ l. with_ids l w) c.in-ElemDrop.is)),
-  record { lends = tt; value = c.lend_none-in-ElemDrop.ensures.value ∙ sym (ap ids_of c.in-ElemDrop.is) },
-)
+returns-in-ElemDrop c = (stays c.in-ElemDrop.is (λ w. refl), record { lends = tt; value = c.lend_none-in-ElemDrop.ensures.value ∙ none c.in-ElemDrop.is refl })
 
 pub returns-in-TableSize : goal.returns-in-TableSize
 unfolding with_ids ids_of
 returns-in-TableSize c = (
-  (refl, λ w. c.in-TableSize.is ∙ sym (ap (λ l. with_ids l w) c.in-TableSize.is)),
-  record { lends = tt; value = c.lend_none-in-TableSize.ensures.value ∙ sym (ap ids_of c.in-TableSize.is) },
+  stays c.in-TableSize.is (λ w. refl),
+  record { lends = tt; value = c.lend_none-in-TableSize.ensures.value ∙ none c.in-TableSize.is refl },
 )
 
 pub returns-in-Numeric : goal.returns-in-Numeric
