@@ -280,28 +280,13 @@ fn make_three(place: u16, payload: Payload, first: Id, second: Id, third: Id) ->
     ensures count { IfSome result (λ l. variant_child_count l ≡ 3) }
     ensures complete { is_some result ≡ is_single place payload 3 }
 {
+    let ids = [first, second, third];
     match payload {
-        Payload::Value(ty) => node_at!(place, 457, Lang::TypedSelect(ty, [first, second, third])),
-        Payload::MemoryInit(init) => node_at!(
-            place,
-            191,
-            Lang::MemoryInit(init, [first, second, third])
-        ),
-        Payload::MemoryCopy(copy) => node_at!(
-            place,
-            193,
-            Lang::MemoryCopy(copy, [first, second, third])
-        ),
-        Payload::TableInit(init) => node_at!(
-            place,
-            195,
-            Lang::TableInit(init, [first, second, third])
-        ),
-        Payload::TableCopy(copy) => node_at!(
-            place,
-            197,
-            Lang::TableCopy(copy, [first, second, third])
-        ),
+        Payload::Value(ty) => node_at!(place, 457, Lang::TypedSelect(ty, ids)),
+        Payload::MemoryInit(init) => node_at!(place, 191, Lang::MemoryInit(init, ids)),
+        Payload::MemoryCopy(copy) => node_at!(place, 193, Lang::MemoryCopy(copy, ids)),
+        Payload::TableInit(init) => node_at!(place, 195, Lang::TableInit(init, ids)),
+        Payload::TableCopy(copy) => node_at!(place, 197, Lang::TableCopy(copy, ids)),
         _ => None,
     }
 }

@@ -6,8 +6,7 @@ pub mod View
 pub mod Simd
 pub mod Numeric
 pub mod Written
-pub mod SimdLending
-pub mod NumericLending
+pub mod Lending
 pub mod NumericShapes
 pub mod SimdShapes
 pub mod Made

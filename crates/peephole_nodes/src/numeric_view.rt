@@ -2,7 +2,7 @@
 ghost use Rattle.std.specs.Prelude.{◌≡◌, length};
 ghost use Rattle.std.specs.Borrow.{sem};
 ghost use Rattle.peephole_nodes.specs.Numeric.{numeric_place_of, numeric_ids_of, numeric_count_of};
-ghost use Rattle.peephole_nodes.specs.NumericLending.{LendsNumericIds};
+ghost use Rattle.peephole_nodes.specs.Lending.{LendsNumericIds};
 
 use crate::id::Id;
 use crate::numeric::Numeric;

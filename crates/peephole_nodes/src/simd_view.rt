@@ -2,7 +2,7 @@
 ghost use Rattle.std.specs.Prelude.{◌≡◌, length};
 ghost use Rattle.std.specs.Borrow.{sem};
 ghost use Rattle.peephole_nodes.specs.Simd.{simd_place_of, simd_payload_of, simd_ids_of, simd_count_of};
-ghost use Rattle.peephole_nodes.specs.SimdLending.{LendsSimdIds};
+ghost use Rattle.peephole_nodes.specs.Lending.{LendsSimdIds};
 ghost use Rattle.peephole_nodes.specs.declared.payload.Payload.TheVariants as P;
 
 use crate::id::Id;
