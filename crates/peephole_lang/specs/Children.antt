@@ -2,7 +2,8 @@
 use Rattle.std.specs.Prelude.{◌≡◌, ℕ, List, [], ◌∷◌, length, slice_index_or, Option, Some, None, Result, Ok, Err}
 use Rattle.peephole_payloads.specs.declared.term_error.TermError.{TermError}
 use Rattle.peephole_nodes.specs.declared.id.Id.{Id}
-use Rattle.peephole_nodes.specs.Written.{one_written}
+use Rattle.peephole_nodes.specs.View.{lone_child}
+use Rattle.peephole_nodes.specs.Written.{ids_written}
 
 -- the value of these ids, or what is wrong with their number
 abbrev pub IsMadeOfIds : {C : Type 0} → (C → List Id) → (ℕ → Option TermError) → List Id → Result C TermError → Type 0
@@ -22,4 +23,4 @@ pub only_same : (c d : Id) → c ≡ d → only c ≡ only d
 only_same c d e = λ i. only (e i)
 
 pub only_written : (c : Id) (w : List Id) → length w ≡ length (only c) → only (with_only c w) ≡ w
-only_written c w e = one_written w c e
+only_written c w e = ids_written (lone_child c) w e

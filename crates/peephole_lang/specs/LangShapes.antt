@@ -7,9 +7,6 @@ is_plain_leaf place = place == 0 || place == 1 || place == 2 || place == 3 || pl
 unfoldable pub is_plain_one : ℕ → Bool
 is_plain_one place = place == 5 || place == 6 || place == 7 || place == 8 || place == 9 || place == 10 || place == 14 || place == 181
 
-unfoldable pub is_plain_three : ℕ → Bool
-is_plain_three place = place == 15
-
 unfoldable pub is_index_leaf : ℕ → Bool
 is_index_leaf place = place == 16 || place == 19 || place == 46 || place == 182 || place == 192 || place == 196 || place == 199
 
@@ -28,33 +25,3 @@ is_memory_one place = place == 23 || place == 24 || place == 25 || place == 26 |
 
 unfoldable pub is_memory_two : ℕ → Bool
 is_memory_two place = place == 37 || place == 38 || place == 39 || place == 40 || place == 41 || place == 42 || place == 43 || place == 44 || place == 45
-
-unfoldable pub is_i32_leaf : ℕ → Bool
-is_i32_leaf place = place == 48
-
-unfoldable pub is_i64_leaf : ℕ → Bool
-is_i64_leaf place = place == 49
-
-unfoldable pub is_f32_leaf : ℕ → Bool
-is_f32_leaf place = place == 50
-
-unfoldable pub is_f64_leaf : ℕ → Bool
-is_f64_leaf place = place == 51
-
-unfoldable pub is_ref_leaf : ℕ → Bool
-is_ref_leaf place = place == 180
-
-unfoldable pub is_memory_init_three : ℕ → Bool
-is_memory_init_three place = place == 191
-
-unfoldable pub is_memory_copy_three : ℕ → Bool
-is_memory_copy_three place = place == 193
-
-unfoldable pub is_table_init_three : ℕ → Bool
-is_table_init_three place = place == 195
-
-unfoldable pub is_table_copy_three : ℕ → Bool
-is_table_copy_three place = place == 197
-
-unfoldable pub is_value_three : ℕ → Bool
-is_value_three place = place == 457

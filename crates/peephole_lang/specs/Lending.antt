@@ -6,7 +6,7 @@ use Rattle.peephole_nodes.specs.contracts.id.Id as id
 use Rattle.peephole_lang.specs.contracts.lang.Lang.{the_row}
 use Rattle.peephole_nodes.specs.declared.id.Id.{Id}
 use Rattle.peephole_lang.specs.declared.lang.Lang.{Lang}
-use Rattle.peephole_lang.specs.WithIds.{with_ids}
+use Rattle.peephole_lang.specs.Lang.{with_ids}
 
 abbrev pub LendsIds : MutBor Lang → MutBor (List Id) → Fml
 LendsIds s r = Lends the_row (Array id.the_row 0) s r (with_ids s.now)

@@ -7,7 +7,6 @@ pub mod Node
 pub mod Text
 pub mod Compared
 pub mod Language
-pub mod WithIds
 pub mod Lending
 pub mod LangShapes
 pub mod Making

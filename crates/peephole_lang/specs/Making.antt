@@ -14,7 +14,7 @@ has_list _ _ = false
 
 abbrev pub is_few : ℕ → ℕ → Bool
 is_few place count =
-    if count == 3 then lang.is_plain_three place else
+    if count == 3 then place == 15 else
     if count == 1 then lang.is_plain_one place else
     if count == 0 then lang.is_plain_leaf place else false
 
@@ -34,16 +34,16 @@ is_memory_node place count = if count == 2 then lang.is_memory_two place else if
 
 -- with a payload that only a node without children has, or only one with three
 abbrev pub is_single : ℕ → Payload → ℕ → Bool
-is_single place (payload.I32 _) count = if count == 0 then lang.is_i32_leaf place else false
-is_single place (payload.I64 _) count = if count == 0 then lang.is_i64_leaf place else false
-is_single place (payload.F32 _) count = if count == 0 then lang.is_f32_leaf place else false
-is_single place (payload.F64 _) count = if count == 0 then lang.is_f64_leaf place else false
-is_single place (payload.Ref _) count = if count == 0 then lang.is_ref_leaf place else false
-is_single place (payload.Value _) count = if count == 3 then lang.is_value_three place else false
-is_single place (payload.MemoryInit _) count = if count == 3 then lang.is_memory_init_three place else false
-is_single place (payload.MemoryCopy _) count = if count == 3 then lang.is_memory_copy_three place else false
-is_single place (payload.TableInit _) count = if count == 3 then lang.is_table_init_three place else false
-is_single place (payload.TableCopy _) count = if count == 3 then lang.is_table_copy_three place else false
+is_single place (payload.I32 _) count = if count == 0 then place == 48 else false
+is_single place (payload.I64 _) count = if count == 0 then place == 49 else false
+is_single place (payload.F32 _) count = if count == 0 then place == 50 else false
+is_single place (payload.F64 _) count = if count == 0 then place == 51 else false
+is_single place (payload.Ref _) count = if count == 0 then place == 180 else false
+is_single place (payload.Value _) count = if count == 3 then place == 457 else false
+is_single place (payload.MemoryInit _) count = if count == 3 then place == 191 else false
+is_single place (payload.MemoryCopy _) count = if count == 3 then place == 193 else false
+is_single place (payload.TableInit _) count = if count == 3 then place == 195 else false
+is_single place (payload.TableCopy _) count = if count == 3 then place == 197 else false
 is_single _ _ _ = false
 
 -- a node is made of that place, that payload and that many children

@@ -1,6 +1,24 @@
 //! Copies of nodes.
 use crate::lang::Lang;
+use crate::lang_variants::lang_variants;
 use std::alloc::AllocError;
+
+macro_rules! copies {
+    (($node:expr)
+        [$($bare:ident $bare_place:literal,)*]
+        [$({ $payload:ident $said:expr } [$($leaf:ident $leaf_place:literal,)*])*]
+        [$({ $told:tt $given:expr } { $held:tt $children:expr, $lent:expr } { $whole:tt $copied:tt }
+            [$($name:ident $place:literal,)*])*]
+    ) => {
+        match $node {
+            $(Lang::$bare => Ok(Lang::$bare),)*
+            $($(Lang::$leaf(payload) => Ok(Lang::$leaf(*payload)),)*)*
+            $($(Lang::$name $whole => Ok(Lang::$name $copied),)*)*
+            Lang::Numeric(node) => Ok(Lang::Numeric(*node)),
+            Lang::Simd(node) => Ok(Lang::Simd(*node)),
+        }
+    };
+}
 
 impl Clone for Lang {
     ghost use Rattle.peephole_lang.specs.Node.{SameNode};
@@ -9,75 +27,6 @@ impl Clone for Lang {
 
     #[tactic(auto, unfolding(crate::specs::Lang::place_of, crate::specs::Lang::payload_of, crate::specs::Lang::ids_of))]
     fn clone(&self) -> Result<Lang, AllocError> {
-        match self {
-            Lang::RandI32 => Ok(Lang::RandI32),
-            Lang::RandI64 => Ok(Lang::RandI64),
-            Lang::RandF32 => Ok(Lang::RandF32),
-            Lang::RandF64 => Ok(Lang::RandF64),
-            Lang::Undef => Ok(Lang::Undef),
-            Lang::UnfoldI32(child) => Ok(Lang::UnfoldI32(*child)),
-            Lang::UnfoldI64(child) => Ok(Lang::UnfoldI64(*child)),
-            Lang::I32UseGlobal(child) => Ok(Lang::I32UseGlobal(*child)),
-            Lang::I64UseGlobal(child) => Ok(Lang::I64UseGlobal(*child)),
-            Lang::F32UseGlobal(child) => Ok(Lang::F32UseGlobal(*child)),
-            Lang::F64UseGlobal(child) => Ok(Lang::F64UseGlobal(*child)),
-            Lang::Container(children) => Ok(Lang::Container(children.clone()?)),
-            Lang::Nop => Ok(Lang::Nop),
-            Lang::Call(payload, children) => Ok(Lang::Call(*payload, children.clone()?)),
-            Lang::Drop(children) => Ok(Lang::Drop(*children)),
-            Lang::Select(children) => Ok(Lang::Select(*children)),
-            Lang::LocalGet(payload) => Ok(Lang::LocalGet(*payload)),
-            Lang::LocalSet(payload, child) => Ok(Lang::LocalSet(*payload, *child)),
-            Lang::LocalTee(payload, child) => Ok(Lang::LocalTee(*payload, *child)),
-            Lang::GlobalGet(payload) => Ok(Lang::GlobalGet(*payload)),
-            Lang::GlobalSet(payload, child) => Ok(Lang::GlobalSet(*payload, *child)),
-            Lang::TableGet(payload, child) => Ok(Lang::TableGet(*payload, *child)),
-            Lang::TableSet(payload, children) => Ok(Lang::TableSet(*payload, *children)),
-            Lang::I32Load(payload, child) => Ok(Lang::I32Load(*payload, *child)),
-            Lang::I64Load(payload, child) => Ok(Lang::I64Load(*payload, *child)),
-            Lang::F32Load(payload, child) => Ok(Lang::F32Load(*payload, *child)),
-            Lang::F64Load(payload, child) => Ok(Lang::F64Load(*payload, *child)),
-            Lang::I32Load8S(payload, child) => Ok(Lang::I32Load8S(*payload, *child)),
-            Lang::I32Load8U(payload, child) => Ok(Lang::I32Load8U(*payload, *child)),
-            Lang::I32Load16S(payload, child) => Ok(Lang::I32Load16S(*payload, *child)),
-            Lang::I32Load16U(payload, child) => Ok(Lang::I32Load16U(*payload, *child)),
-            Lang::I64Load8S(payload, child) => Ok(Lang::I64Load8S(*payload, *child)),
-            Lang::I64Load8U(payload, child) => Ok(Lang::I64Load8U(*payload, *child)),
-            Lang::I64Load16S(payload, child) => Ok(Lang::I64Load16S(*payload, *child)),
-            Lang::I64Load16U(payload, child) => Ok(Lang::I64Load16U(*payload, *child)),
-            Lang::I64Load32S(payload, child) => Ok(Lang::I64Load32S(*payload, *child)),
-            Lang::I64Load32U(payload, child) => Ok(Lang::I64Load32U(*payload, *child)),
-            Lang::I32Store(payload, children) => Ok(Lang::I32Store(*payload, *children)),
-            Lang::I64Store(payload, children) => Ok(Lang::I64Store(*payload, *children)),
-            Lang::F32Store(payload, children) => Ok(Lang::F32Store(*payload, *children)),
-            Lang::F64Store(payload, children) => Ok(Lang::F64Store(*payload, *children)),
-            Lang::I32Store8(payload, children) => Ok(Lang::I32Store8(*payload, *children)),
-            Lang::I32Store16(payload, children) => Ok(Lang::I32Store16(*payload, *children)),
-            Lang::I64Store8(payload, children) => Ok(Lang::I64Store8(*payload, *children)),
-            Lang::I64Store16(payload, children) => Ok(Lang::I64Store16(*payload, *children)),
-            Lang::I64Store32(payload, children) => Ok(Lang::I64Store32(*payload, *children)),
-            Lang::MemorySize(payload) => Ok(Lang::MemorySize(*payload)),
-            Lang::MemoryGrow(payload, child) => Ok(Lang::MemoryGrow(*payload, *child)),
-            Lang::I32(payload) => Ok(Lang::I32(*payload)),
-            Lang::I64(payload) => Ok(Lang::I64(*payload)),
-            Lang::F32(payload) => Ok(Lang::F32(*payload)),
-            Lang::F64(payload) => Ok(Lang::F64(*payload)),
-            Lang::RefNull(payload) => Ok(Lang::RefNull(*payload)),
-            Lang::RefIsNull(child) => Ok(Lang::RefIsNull(*child)),
-            Lang::RefFunc(payload) => Ok(Lang::RefFunc(*payload)),
-            Lang::MemoryInit(payload, children) => Ok(Lang::MemoryInit(*payload, *children)),
-            Lang::DataDrop(payload) => Ok(Lang::DataDrop(*payload)),
-            Lang::MemoryCopy(payload, children) => Ok(Lang::MemoryCopy(*payload, *children)),
-            Lang::MemoryFill(payload, children) => Ok(Lang::MemoryFill(*payload, *children)),
-            Lang::TableInit(payload, children) => Ok(Lang::TableInit(*payload, *children)),
-            Lang::ElemDrop(payload) => Ok(Lang::ElemDrop(*payload)),
-            Lang::TableCopy(payload, children) => Ok(Lang::TableCopy(*payload, *children)),
-            Lang::TableGrow(payload, children) => Ok(Lang::TableGrow(*payload, *children)),
-            Lang::TableSize(payload) => Ok(Lang::TableSize(*payload)),
-            Lang::TableFill(payload, children) => Ok(Lang::TableFill(*payload, *children)),
-            Lang::TypedSelect(payload, children) => Ok(Lang::TypedSelect(*payload, *children)),
-            Lang::Numeric(node) => Ok(Lang::Numeric(*node)),
-            Lang::Simd(node) => Ok(Lang::Simd(*node)),
-        }
+        lang_variants!(copies(self))
     }
 }

@@ -43,112 +43,59 @@ pub enum Lang {
     F64UseGlobal(Id),
     /// Its children, one after another.
     Container(Vec<Id>),
-    /// `nop`
-    Nop,
-    /// `call`
-    Call(u32, Vec<Id>),
-    /// `drop`
-    Drop([Id; 1]),
-    /// `select`
-    Select([Id; 3]),
-    /// `local.get`
-    LocalGet(u32),
-    /// `local.set`
-    LocalSet(u32, Id),
-    /// `local.tee`
-    LocalTee(u32, Id),
-    /// `global.get`
-    GlobalGet(u32),
-    /// `global.set`
-    GlobalSet(u32, Id),
-    /// `table.get`
-    TableGet(u32, Id),
-    /// `table.set`
-    TableSet(u32, [Id; 2]),
-    /// `i32.load`
-    I32Load(MemArg, Id),
-    /// `i64.load`
-    I64Load(MemArg, Id),
-    /// `f32.load`
-    F32Load(MemArg, Id),
-    /// `f64.load`
-    F64Load(MemArg, Id),
-    /// `i32.load8_s`
-    I32Load8S(MemArg, Id),
-    /// `i32.load8_u`
-    I32Load8U(MemArg, Id),
-    /// `i32.load16_s`
-    I32Load16S(MemArg, Id),
-    /// `i32.load16_u`
-    I32Load16U(MemArg, Id),
-    /// `i64.load8_s`
-    I64Load8S(MemArg, Id),
-    /// `i64.load8_u`
-    I64Load8U(MemArg, Id),
-    /// `i64.load16_s`
-    I64Load16S(MemArg, Id),
-    /// `i64.load16_u`
-    I64Load16U(MemArg, Id),
-    /// `i64.load32_s`
-    I64Load32S(MemArg, Id),
-    /// `i64.load32_u`
-    I64Load32U(MemArg, Id),
-    /// `i32.store`
-    I32Store(MemArg, [Id; 2]),
-    /// `i64.store`
-    I64Store(MemArg, [Id; 2]),
-    /// `f32.store`
-    F32Store(MemArg, [Id; 2]),
-    /// `f64.store`
-    F64Store(MemArg, [Id; 2]),
-    /// `i32.store8`
-    I32Store8(MemArg, [Id; 2]),
-    /// `i32.store16`
-    I32Store16(MemArg, [Id; 2]),
-    /// `i64.store8`
-    I64Store8(MemArg, [Id; 2]),
-    /// `i64.store16`
-    I64Store16(MemArg, [Id; 2]),
-    /// `i64.store32`
-    I64Store32(MemArg, [Id; 2]),
-    /// `memory.size`
-    MemorySize(u32),
-    /// `memory.grow`
-    MemoryGrow(u32, Id),
-    /// `i32.const`
-    I32(i32),
-    /// `i64.const`
-    I64(i64),
-    /// `f32.const`
-    F32(F32),
-    /// `f64.const`
-    F64(F64),
-    /// `ref.null`
-    RefNull(RefType),
-    /// `ref.is_null`
-    RefIsNull(Id),
-    /// `ref.func`
-    RefFunc(u32),
-    /// `memory.init`
-    MemoryInit(MemoryInit, [Id; 3]),
-    /// `data.drop`
-    DataDrop(u32),
-    /// `memory.copy`
-    MemoryCopy(MemoryCopy, [Id; 3]),
-    /// `memory.fill`
-    MemoryFill(u32, [Id; 3]),
-    /// `table.init`
-    TableInit(TableInit, [Id; 3]),
-    /// `elem.drop`
-    ElemDrop(u32),
-    /// `table.copy`
-    TableCopy(TableCopy, [Id; 3]),
-    /// `table.grow`
-    TableGrow(u32, [Id; 2]),
-    /// `table.size`
-    TableSize(u32),
-    /// `table.fill`
-    TableFill(u32, [Id; 3]),
+    Nop, // nop
+    Call(u32, Vec<Id>), // call
+    Drop([Id; 1]), // drop
+    Select([Id; 3]), // select
+    LocalGet(u32), // local.get
+    LocalSet(u32, Id), // local.set
+    LocalTee(u32, Id), // local.tee
+    GlobalGet(u32), // global.get
+    GlobalSet(u32, Id), // global.set
+    TableGet(u32, Id), // table.get
+    TableSet(u32, [Id; 2]), // table.set
+    I32Load(MemArg, Id), // i32.load
+    I64Load(MemArg, Id), // i64.load
+    F32Load(MemArg, Id), // f32.load
+    F64Load(MemArg, Id), // f64.load
+    I32Load8S(MemArg, Id), // i32.load8_s
+    I32Load8U(MemArg, Id), // i32.load8_u
+    I32Load16S(MemArg, Id), // i32.load16_s
+    I32Load16U(MemArg, Id), // i32.load16_u
+    I64Load8S(MemArg, Id), // i64.load8_s
+    I64Load8U(MemArg, Id), // i64.load8_u
+    I64Load16S(MemArg, Id), // i64.load16_s
+    I64Load16U(MemArg, Id), // i64.load16_u
+    I64Load32S(MemArg, Id), // i64.load32_s
+    I64Load32U(MemArg, Id), // i64.load32_u
+    I32Store(MemArg, [Id; 2]), // i32.store
+    I64Store(MemArg, [Id; 2]), // i64.store
+    F32Store(MemArg, [Id; 2]), // f32.store
+    F64Store(MemArg, [Id; 2]), // f64.store
+    I32Store8(MemArg, [Id; 2]), // i32.store8
+    I32Store16(MemArg, [Id; 2]), // i32.store16
+    I64Store8(MemArg, [Id; 2]), // i64.store8
+    I64Store16(MemArg, [Id; 2]), // i64.store16
+    I64Store32(MemArg, [Id; 2]), // i64.store32
+    MemorySize(u32), // memory.size
+    MemoryGrow(u32, Id), // memory.grow
+    I32(i32), // i32.const
+    I64(i64), // i64.const
+    F32(F32), // f32.const
+    F64(F64), // f64.const
+    RefNull(RefType), // ref.null
+    RefIsNull(Id), // ref.is_null
+    RefFunc(u32), // ref.func
+    MemoryInit(MemoryInit, [Id; 3]), // memory.init
+    DataDrop(u32), // data.drop
+    MemoryCopy(MemoryCopy, [Id; 3]), // memory.copy
+    MemoryFill(u32, [Id; 3]), // memory.fill
+    TableInit(TableInit, [Id; 3]), // table.init
+    ElemDrop(u32), // elem.drop
+    TableCopy(TableCopy, [Id; 3]), // table.copy
+    TableGrow(u32, [Id; 2]), // table.grow
+    TableSize(u32), // table.size
+    TableFill(u32, [Id; 3]), // table.fill
     /// `select` with the type of its value
     TypedSelect(ValType, [Id; 3]),
     /// A numeric instruction with operands.

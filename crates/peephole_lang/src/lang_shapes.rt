@@ -1,13 +1,12 @@
 //! Nodes by place, one function for each kind of payload and number of children.
 ghost use Rattle.std.specs.Prelude.{◌≡◌, IfSome, is_some, [], ◌∷◌};
 ghost use Rattle.peephole_lang.specs.Lang.{place_of, payload_of, ids_of, variant_child_count};
-ghost use Rattle.peephole_lang.specs.LangShapes.{is_plain_leaf, is_plain_one, is_plain_three, is_index_leaf, is_index_one, is_index_two, is_index_three, is_memory_one, is_memory_two, is_i32_leaf, is_i64_leaf, is_f32_leaf, is_f64_leaf, is_ref_leaf, is_memory_init_three, is_memory_copy_three, is_table_init_three, is_table_copy_three, is_value_three};
+ghost use Rattle.peephole_lang.specs.LangShapes.{is_plain_leaf, is_plain_one, is_index_leaf, is_index_one, is_index_two, is_index_three, is_memory_one, is_memory_two};
 ghost use Rattle.peephole_nodes.specs.declared.payload.Payload.TheVariants as P;
 
 use crate::lang::Lang;
 use peephole_nodes::Id;
-use peephole_payloads::{F32, F64, MemArg, MemoryCopy, MemoryInit, RefType, TableCopy, TableInit};
-use wasm_code::ValType;
+use peephole_payloads::MemArg;
 
 #[tactic(auto, unfolding(crate::specs::LangShapes::is_plain_leaf, crate::specs::Lang::place_of, crate::specs::Lang::payload_of, crate::specs::Lang::ids_of, crate::specs::Lang::variant_child_count))]
 pub fn plain_leaf(place: u16) -> Option<Lang>
@@ -45,20 +44,6 @@ pub fn plain_one(place: u16, child: Id) -> Option<Lang>
         10 => Some(Lang::F64UseGlobal(child)),
         14 => Some(Lang::Drop([child])),
         181 => Some(Lang::RefIsNull(child)),
-        _ => None,
-    }
-}
-
-#[tactic(auto, unfolding(crate::specs::LangShapes::is_plain_three, crate::specs::Lang::place_of, crate::specs::Lang::payload_of, crate::specs::Lang::ids_of, crate::specs::Lang::variant_child_count))]
-pub fn plain_three(place: u16, first: Id, second: Id, third: Id) -> Option<Lang>
-    ensures place { IfSome result (λ l. place_of l ≡ place) }
-    ensures payload { IfSome result (λ l. payload_of l ≡ P.Nothing) }
-    ensures children { IfSome result (λ l. ids_of l ≡ first ∷ second ∷ third ∷ []) }
-    ensures count { IfSome result (λ l. variant_child_count l ≡ 3) }
-    ensures complete { is_some result ≡ is_plain_three place }
-{
-    match place {
-        15 => Some(Lang::Select([first, second, third])),
         _ => None,
     }
 }
@@ -176,170 +161,6 @@ pub fn memory_two(place: u16, payload: MemArg, first: Id, second: Id) -> Option<
         43 => Some(Lang::I64Store8(payload, [first, second])),
         44 => Some(Lang::I64Store16(payload, [first, second])),
         45 => Some(Lang::I64Store32(payload, [first, second])),
-        _ => None,
-    }
-}
-
-#[tactic(auto, unfolding(crate::specs::LangShapes::is_i32_leaf, crate::specs::Lang::place_of, crate::specs::Lang::payload_of, crate::specs::Lang::ids_of, crate::specs::Lang::variant_child_count))]
-pub fn i32_leaf(place: u16, payload: i32) -> Option<Lang>
-    ensures place { IfSome result (λ l. place_of l ≡ place) }
-    ensures payload { IfSome result (λ l. payload_of l ≡ P.I32 payload) }
-    ensures children { IfSome result (λ l. ids_of l ≡ []) }
-    ensures count { IfSome result (λ l. variant_child_count l ≡ 0) }
-    ensures complete { is_some result ≡ is_i32_leaf place }
-{
-    match place {
-        48 => Some(Lang::I32(payload)),
-        _ => None,
-    }
-}
-
-#[tactic(auto, unfolding(crate::specs::LangShapes::is_i64_leaf, crate::specs::Lang::place_of, crate::specs::Lang::payload_of, crate::specs::Lang::ids_of, crate::specs::Lang::variant_child_count))]
-pub fn i64_leaf(place: u16, payload: i64) -> Option<Lang>
-    ensures place { IfSome result (λ l. place_of l ≡ place) }
-    ensures payload { IfSome result (λ l. payload_of l ≡ P.I64 payload) }
-    ensures children { IfSome result (λ l. ids_of l ≡ []) }
-    ensures count { IfSome result (λ l. variant_child_count l ≡ 0) }
-    ensures complete { is_some result ≡ is_i64_leaf place }
-{
-    match place {
-        49 => Some(Lang::I64(payload)),
-        _ => None,
-    }
-}
-
-#[tactic(auto, unfolding(crate::specs::LangShapes::is_f32_leaf, crate::specs::Lang::place_of, crate::specs::Lang::payload_of, crate::specs::Lang::ids_of, crate::specs::Lang::variant_child_count))]
-pub fn f32_leaf(place: u16, payload: F32) -> Option<Lang>
-    ensures place { IfSome result (λ l. place_of l ≡ place) }
-    ensures payload { IfSome result (λ l. payload_of l ≡ P.F32 payload) }
-    ensures children { IfSome result (λ l. ids_of l ≡ []) }
-    ensures count { IfSome result (λ l. variant_child_count l ≡ 0) }
-    ensures complete { is_some result ≡ is_f32_leaf place }
-{
-    match place {
-        50 => Some(Lang::F32(payload)),
-        _ => None,
-    }
-}
-
-#[tactic(auto, unfolding(crate::specs::LangShapes::is_f64_leaf, crate::specs::Lang::place_of, crate::specs::Lang::payload_of, crate::specs::Lang::ids_of, crate::specs::Lang::variant_child_count))]
-pub fn f64_leaf(place: u16, payload: F64) -> Option<Lang>
-    ensures place { IfSome result (λ l. place_of l ≡ place) }
-    ensures payload { IfSome result (λ l. payload_of l ≡ P.F64 payload) }
-    ensures children { IfSome result (λ l. ids_of l ≡ []) }
-    ensures count { IfSome result (λ l. variant_child_count l ≡ 0) }
-    ensures complete { is_some result ≡ is_f64_leaf place }
-{
-    match place {
-        51 => Some(Lang::F64(payload)),
-        _ => None,
-    }
-}
-
-#[tactic(auto, unfolding(crate::specs::LangShapes::is_ref_leaf, crate::specs::Lang::place_of, crate::specs::Lang::payload_of, crate::specs::Lang::ids_of, crate::specs::Lang::variant_child_count))]
-pub fn ref_leaf(place: u16, payload: RefType) -> Option<Lang>
-    ensures place { IfSome result (λ l. place_of l ≡ place) }
-    ensures payload { IfSome result (λ l. payload_of l ≡ P.Ref payload) }
-    ensures children { IfSome result (λ l. ids_of l ≡ []) }
-    ensures count { IfSome result (λ l. variant_child_count l ≡ 0) }
-    ensures complete { is_some result ≡ is_ref_leaf place }
-{
-    match place {
-        180 => Some(Lang::RefNull(payload)),
-        _ => None,
-    }
-}
-
-#[tactic(auto, unfolding(crate::specs::LangShapes::is_memory_init_three, crate::specs::Lang::place_of, crate::specs::Lang::payload_of, crate::specs::Lang::ids_of, crate::specs::Lang::variant_child_count))]
-pub fn memory_init_three(
-    place: u16,
-    payload: MemoryInit,
-    first: Id,
-    second: Id,
-    third: Id,
-) -> Option<Lang>
-    ensures place { IfSome result (λ l. place_of l ≡ place) }
-    ensures payload { IfSome result (λ l. payload_of l ≡ P.MemoryInit payload) }
-    ensures children { IfSome result (λ l. ids_of l ≡ first ∷ second ∷ third ∷ []) }
-    ensures count { IfSome result (λ l. variant_child_count l ≡ 3) }
-    ensures complete { is_some result ≡ is_memory_init_three place }
-{
-    match place {
-        191 => Some(Lang::MemoryInit(payload, [first, second, third])),
-        _ => None,
-    }
-}
-
-#[tactic(auto, unfolding(crate::specs::LangShapes::is_memory_copy_three, crate::specs::Lang::place_of, crate::specs::Lang::payload_of, crate::specs::Lang::ids_of, crate::specs::Lang::variant_child_count))]
-pub fn memory_copy_three(
-    place: u16,
-    payload: MemoryCopy,
-    first: Id,
-    second: Id,
-    third: Id,
-) -> Option<Lang>
-    ensures place { IfSome result (λ l. place_of l ≡ place) }
-    ensures payload { IfSome result (λ l. payload_of l ≡ P.MemoryCopy payload) }
-    ensures children { IfSome result (λ l. ids_of l ≡ first ∷ second ∷ third ∷ []) }
-    ensures count { IfSome result (λ l. variant_child_count l ≡ 3) }
-    ensures complete { is_some result ≡ is_memory_copy_three place }
-{
-    match place {
-        193 => Some(Lang::MemoryCopy(payload, [first, second, third])),
-        _ => None,
-    }
-}
-
-#[tactic(auto, unfolding(crate::specs::LangShapes::is_table_init_three, crate::specs::Lang::place_of, crate::specs::Lang::payload_of, crate::specs::Lang::ids_of, crate::specs::Lang::variant_child_count))]
-pub fn table_init_three(
-    place: u16,
-    payload: TableInit,
-    first: Id,
-    second: Id,
-    third: Id,
-) -> Option<Lang>
-    ensures place { IfSome result (λ l. place_of l ≡ place) }
-    ensures payload { IfSome result (λ l. payload_of l ≡ P.TableInit payload) }
-    ensures children { IfSome result (λ l. ids_of l ≡ first ∷ second ∷ third ∷ []) }
-    ensures count { IfSome result (λ l. variant_child_count l ≡ 3) }
-    ensures complete { is_some result ≡ is_table_init_three place }
-{
-    match place {
-        195 => Some(Lang::TableInit(payload, [first, second, third])),
-        _ => None,
-    }
-}
-
-#[tactic(auto, unfolding(crate::specs::LangShapes::is_table_copy_three, crate::specs::Lang::place_of, crate::specs::Lang::payload_of, crate::specs::Lang::ids_of, crate::specs::Lang::variant_child_count))]
-pub fn table_copy_three(
-    place: u16,
-    payload: TableCopy,
-    first: Id,
-    second: Id,
-    third: Id,
-) -> Option<Lang>
-    ensures place { IfSome result (λ l. place_of l ≡ place) }
-    ensures payload { IfSome result (λ l. payload_of l ≡ P.TableCopy payload) }
-    ensures children { IfSome result (λ l. ids_of l ≡ first ∷ second ∷ third ∷ []) }
-    ensures count { IfSome result (λ l. variant_child_count l ≡ 3) }
-    ensures complete { is_some result ≡ is_table_copy_three place }
-{
-    match place {
-        197 => Some(Lang::TableCopy(payload, [first, second, third])),
-        _ => None,
-    }
-}
-
-#[tactic(auto, unfolding(crate::specs::LangShapes::is_value_three, crate::specs::Lang::place_of, crate::specs::Lang::payload_of, crate::specs::Lang::ids_of, crate::specs::Lang::variant_child_count))]
-pub fn value_three(place: u16, payload: ValType, first: Id, second: Id, third: Id) -> Option<Lang>
-    ensures place { IfSome result (λ l. place_of l ≡ place) }
-    ensures payload { IfSome result (λ l. payload_of l ≡ P.Value payload) }
-    ensures children { IfSome result (λ l. ids_of l ≡ first ∷ second ∷ third ∷ []) }
-    ensures count { IfSome result (λ l. variant_child_count l ≡ 3) }
-    ensures complete { is_some result ≡ is_value_three place }
-{
-    match place {
-        457 => Some(Lang::TypedSelect(payload, [first, second, third])),
         _ => None,
     }
 }

@@ -13,6 +13,17 @@ use peephole_payloads::MemArg;
 use std::alloc::{AllocError, Global};
 use wasm_code::Imm;
 
+// The node, if the place is this one.
+macro_rules! node_at {
+    ($place:ident, $number:literal, $node:expr) => {
+        if $place == $number {
+            Some($node)
+        } else {
+            None
+        }
+    };
+}
+
 /// The node with this place, payload and children, or None where no variant of the place has that kind of payload and
 /// that many children.
 pub fn make(place: u16, payload: Payload, children: Vec<Id>) -> Option<Lang>
@@ -91,6 +102,7 @@ pub fn make_of_imm(place: u16, imm: Imm, children: &[Id]) -> Option<Lang>
 }
 
 // The node of a constant integer.
+#[tactic(auto, unfolding(crate::specs::Lang::place_of, crate::specs::Lang::payload_of, crate::specs::Lang::ids_of, crate::specs::Lang::variant_child_count))]
 fn make_number(place: u16, imm: Imm) -> Option<Lang>
     ensures place { IfSome result (λ l. place_of l ≡ place) }
     ensures imm { IfSome result (λ l. imm_of (payload_of l) ≡ imm) }
@@ -98,8 +110,8 @@ fn make_number(place: u16, imm: Imm) -> Option<Lang>
     ensures count { IfSome result (λ l. variant_child_count l ≡ 0) }
 {
     match imm {
-        Imm::I32(number) => lang::i32_leaf(place, number),
-        Imm::I64(number) => lang::i64_leaf(place, number),
+        Imm::I32(number) => node_at!(place, 48, Lang::I32(number)),
+        Imm::I64(number) => node_at!(place, 49, Lang::I64(number)),
         _ => None,
     }
 }
@@ -173,6 +185,7 @@ fn make_plain(place: u16, children: &[Id]) -> Option<Lang>
 }
 
 // A node without payload that is neither numeric nor a vector node.
+#[tactic(auto, unfolding(crate::specs::Lang::place_of, crate::specs::Lang::payload_of, crate::specs::Lang::ids_of, crate::specs::Lang::variant_child_count))]
 fn make_few(place: u16, children: &[Id]) -> Option<Lang>
     ensures place { IfSome result (λ l. place_of l ≡ place) }
     ensures payload { IfSome result (λ l. payload_of l ≡ P.Nothing) }
@@ -183,7 +196,7 @@ fn make_few(place: u16, children: &[Id]) -> Option<Lang>
     match children {
         [] => lang::plain_leaf(place),
         [child] => lang::plain_one(place, *child),
-        [first, second, third] => lang::plain_three(place, *first, *second, *third),
+        [first, second, third] => node_at!(place, 15, Lang::Select([*first, *second, *third])),
         _ => None,
     }
 }
@@ -241,6 +254,7 @@ fn make_single(place: u16, payload: Payload, children: &[Id]) -> Option<Lang>
     }
 }
 
+#[tactic(auto, unfolding(crate::specs::Lang::place_of, crate::specs::Lang::payload_of, crate::specs::Lang::ids_of, crate::specs::Lang::variant_child_count))]
 fn make_constant(place: u16, payload: Payload) -> Option<Lang>
     ensures place { IfSome result (λ l. place_of l ≡ place) }
     ensures payload { IfSome result (λ l. payload_of l ≡ payload) }
@@ -249,15 +263,16 @@ fn make_constant(place: u16, payload: Payload) -> Option<Lang>
     ensures complete { is_some result ≡ is_single place payload 0 }
 {
     match payload {
-        Payload::I32(number) => lang::i32_leaf(place, number),
-        Payload::I64(number) => lang::i64_leaf(place, number),
-        Payload::F32(ref number) => lang::f32_leaf(place, *number),
-        Payload::F64(ref number) => lang::f64_leaf(place, *number),
-        Payload::Ref(ty) => lang::ref_leaf(place, ty),
+        Payload::I32(number) => node_at!(place, 48, Lang::I32(number)),
+        Payload::I64(number) => node_at!(place, 49, Lang::I64(number)),
+        Payload::F32(ref number) => node_at!(place, 50, Lang::F32(*number)),
+        Payload::F64(ref number) => node_at!(place, 51, Lang::F64(*number)),
+        Payload::Ref(ty) => node_at!(place, 180, Lang::RefNull(ty)),
         _ => None,
     }
 }
 
+#[tactic(auto, unfolding(crate::specs::Lang::place_of, crate::specs::Lang::payload_of, crate::specs::Lang::ids_of, crate::specs::Lang::variant_child_count))]
 fn make_three(place: u16, payload: Payload, first: Id, second: Id, third: Id) -> Option<Lang>
     ensures place { IfSome result (λ l. place_of l ≡ place) }
     ensures payload { IfSome result (λ l. payload_of l ≡ payload) }
@@ -265,12 +280,13 @@ fn make_three(place: u16, payload: Payload, first: Id, second: Id, third: Id) ->
     ensures count { IfSome result (λ l. variant_child_count l ≡ 3) }
     ensures complete { is_some result ≡ is_single place payload 3 }
 {
+    let ids = [first, second, third];
     match payload {
-        Payload::Value(ty) => lang::value_three(place, ty, first, second, third),
-        Payload::MemoryInit(init) => lang::memory_init_three(place, init, first, second, third),
-        Payload::MemoryCopy(copy) => lang::memory_copy_three(place, copy, first, second, third),
-        Payload::TableInit(init) => lang::table_init_three(place, init, first, second, third),
-        Payload::TableCopy(copy) => lang::table_copy_three(place, copy, first, second, third),
+        Payload::Value(ty) => node_at!(place, 457, Lang::TypedSelect(ty, ids)),
+        Payload::MemoryInit(init) => node_at!(place, 191, Lang::MemoryInit(init, ids)),
+        Payload::MemoryCopy(copy) => node_at!(place, 193, Lang::MemoryCopy(copy, ids)),
+        Payload::TableInit(init) => node_at!(place, 195, Lang::TableInit(init, ids)),
+        Payload::TableCopy(copy) => node_at!(place, 197, Lang::TableCopy(copy, ids)),
         _ => None,
     }
 }

@@ -8,9 +8,8 @@ use Rattle.peephole_nodes.specs.Compared.{numeric_payload_of, numeric_eq, simd_e
 use Rattle.peephole_nodes.specs.laws.ComparedLemmas.{equal_alike}
 use Rattle.peephole_nodes.specs.Numeric.{numeric_place_of, numeric_ids_of}
 use Rattle.peephole_nodes.specs.laws.NumericAgain.{numeric_determined}
-use Rattle.peephole_nodes.specs.Simd.{simd_place_of, simd_payload_of}
+use Rattle.peephole_nodes.specs.Simd.{simd_place_of, simd_payload_of, simd_ids_of}
 use Rattle.peephole_nodes.specs.laws.SimdAgain.{simd_determined}
-use Rattle.peephole_nodes.specs.SimdChildren.{simd_ids_of}
 
 pub numeric_equal : (l m : Numeric) → Decides (numeric_eq l m) (l ≡ m)
 numeric_equal l m =

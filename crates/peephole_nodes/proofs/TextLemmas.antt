@@ -7,11 +7,10 @@ use Rattle.peephole_nodes.specs.declared.payload.Payload.TheVariants as payload
 use Rattle.peephole_nodes.specs.declared.simd.Simd.{Simd}
 use Rattle.peephole_nodes.specs.Fronts.{front_at}
 use Rattle.peephole_nodes.specs.Numeric.{numeric_place_of, numeric_count_of}
-use Rattle.peephole_nodes.specs.laws.NumericFits.{numeric_fits}
+use Rattle.peephole_nodes.specs.laws.NumericLemmas.{numeric_fits}
 use Rattle.peephole_nodes.specs.PayloadText.{inner_text}
-use Rattle.peephole_nodes.specs.Simd.{simd_place_of, simd_payload_of}
-use Rattle.peephole_nodes.specs.SimdChildren.{simd_count_of}
-use Rattle.peephole_nodes.specs.laws.SimdFits.{simd_fits}
+use Rattle.peephole_nodes.specs.Simd.{simd_place_of, simd_payload_of, simd_count_of}
+use Rattle.peephole_nodes.specs.laws.SimdLemmas.{simd_fits}
 use Rattle.peephole_nodes.specs.Text.{numeric_text, simd_text}
 use Rattle.peephole_nodes.specs.laws.VariantLemmas.{fitting_text}
 

@@ -25,8 +25,7 @@ use Rattle.peephole_nodes.specs.declared.payload.Payload.{Payload}
 use Rattle.peephole_nodes.specs.declared.payload.Payload.TheVariants.{Nothing}
 use Rattle.peephole_nodes.specs.declared.simd.Simd.{Simd}
 use Rattle.peephole_nodes.specs.Numeric.{numeric_place_of, numeric_ids_of}
-use Rattle.peephole_nodes.specs.Simd.{simd_place_of, simd_payload_of}
-use Rattle.peephole_nodes.specs.SimdChildren.{simd_ids_of}
+use Rattle.peephole_nodes.specs.Simd.{simd_place_of, simd_payload_of, simd_ids_of}
 
 -- ---- nodes of any kind, by what they are seen as
 

@@ -2,14 +2,11 @@ pub mod Payload
 pub mod PayloadOrder
 pub mod PayloadKind
 pub mod PayloadText
+pub mod View
 pub mod Simd
-pub mod SimdChildren
 pub mod Numeric
 pub mod Written
-pub mod SimdWithIds
-pub mod NumericWithIds
-pub mod SimdLending
-pub mod NumericLending
+pub mod Lending
 pub mod NumericShapes
 pub mod SimdShapes
 pub mod Made

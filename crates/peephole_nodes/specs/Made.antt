@@ -4,8 +4,7 @@ use Rattle.peephole_nodes.specs.declared.numeric.Numeric.{Numeric}
 use Rattle.peephole_nodes.specs.declared.payload.Payload.{Payload}
 use Rattle.peephole_nodes.specs.declared.simd.Simd.{Simd}
 use Rattle.peephole_nodes.specs.Numeric.{numeric_place_of, numeric_count_of}
-use Rattle.peephole_nodes.specs.Simd.{simd_place_of, simd_payload_of}
-use Rattle.peephole_nodes.specs.SimdChildren.{simd_count_of}
+use Rattle.peephole_nodes.specs.Simd.{simd_place_of, simd_payload_of, simd_count_of}
 
 -- no numeric node has the place and that many children
 abbrev pub LacksNumeric : ℕ → ℕ → Type 0

@@ -1,8 +1,7 @@
 //! Comparisons of numeric nodes and of vector nodes, as all nodes compare: by place, then payload, then children.
 ghost use Rattle.std.specs.Ordering.{as_partial_cmp};
 ghost use Rattle.peephole_nodes.specs.Numeric.{numeric_place_of, numeric_ids_of};
-ghost use Rattle.peephole_nodes.specs.Simd.{simd_place_of, simd_payload_of};
-ghost use Rattle.peephole_nodes.specs.SimdChildren.{simd_ids_of};
+ghost use Rattle.peephole_nodes.specs.Simd.{simd_place_of, simd_payload_of, simd_ids_of};
 ghost use Rattle.peephole_nodes.specs.Compared.{node_equiv, node_partial_equiv, node_total, node_ties, node_agrees, node_order, node_alike, numeric_payload_of, numeric_eq, numeric_cmp, numeric_hash, simd_eq, simd_cmp, simd_hash};
 
 use crate::numeric::Numeric;

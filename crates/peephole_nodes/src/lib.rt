@@ -11,15 +11,15 @@ pub mod laws;
 mod lending;
 mod making;
 mod numeric;
-mod numeric_lending;
 mod numeric_shapes;
+mod numeric_variants;
 mod numeric_view;
 mod payload;
 mod payload_text;
+mod rows;
 mod simd;
-mod simd_lending;
-mod simd_payload;
 mod simd_shapes;
+mod simd_variants;
 mod simd_view;
 mod text;
 

@@ -2,8 +2,7 @@
 ghost use Rattle.std.specs.Prelude.{◌≡◌, IfSome, IfNone, is_some, length, [], ◌∷◌};
 ghost use Rattle.peephole_nodes.specs.Numeric.{numeric_place_of, numeric_ids_of, numeric_count_of};
 ghost use Rattle.peephole_nodes.specs.NumericShapes.{is_numeric_node};
-ghost use Rattle.peephole_nodes.specs.Simd.{simd_place_of, simd_payload_of};
-ghost use Rattle.peephole_nodes.specs.SimdChildren.{simd_ids_of, simd_count_of};
+ghost use Rattle.peephole_nodes.specs.Simd.{simd_place_of, simd_payload_of, simd_ids_of, simd_count_of};
 ghost use Rattle.peephole_nodes.specs.SimdShapes.{is_simd_plain_two, is_simd_plain, is_simd};
 ghost use Rattle.peephole_nodes.specs.Made.{LacksNumeric, LacksSimd};
 ghost use Rattle.peephole_nodes.specs.declared.payload.Payload.TheVariants as P;

@@ -5,276 +5,140 @@ use crate::id::Id;
 /// of the opcodes 45 to C4, or of FC and 0 to 7.
 #[derive(Clone, Copy)]
 pub enum Numeric {
-    /// `i32.eqz`
-    I32Eqz([Id; 1]),
-    /// `i32.eq`
-    I32Eq([Id; 2]),
-    /// `i32.ne`
-    I32Ne([Id; 2]),
-    /// `i32.lt_s`
-    I32LtS([Id; 2]),
-    /// `i32.lt_u`
-    I32LtU([Id; 2]),
-    /// `i32.gt_s`
-    I32GtS([Id; 2]),
-    /// `i32.gt_u`
-    I32GtU([Id; 2]),
-    /// `i32.le_s`
-    I32LeS([Id; 2]),
-    /// `i32.le_u`
-    I32LeU([Id; 2]),
-    /// `i32.ge_s`
-    I32GeS([Id; 2]),
-    /// `i32.ge_u`
-    I32GeU([Id; 2]),
-    /// `i64.eqz`
-    I64Eqz([Id; 1]),
-    /// `i64.eq`
-    I64Eq([Id; 2]),
-    /// `i64.ne`
-    I64Ne([Id; 2]),
-    /// `i64.lt_s`
-    I64LtS([Id; 2]),
-    /// `i64.lt_u`
-    I64LtU([Id; 2]),
-    /// `i64.gt_s`
-    I64GtS([Id; 2]),
-    /// `i64.gt_u`
-    I64GtU([Id; 2]),
-    /// `i64.le_s`
-    I64LeS([Id; 2]),
-    /// `i64.le_u`
-    I64LeU([Id; 2]),
-    /// `i64.ge_s`
-    I64GeS([Id; 2]),
-    /// `i64.ge_u`
-    I64GeU([Id; 2]),
-    /// `f32.eq`
-    F32Eq([Id; 2]),
-    /// `f32.ne`
-    F32Ne([Id; 2]),
-    /// `f32.lt`
-    F32Lt([Id; 2]),
-    /// `f32.gt`
-    F32Gt([Id; 2]),
-    /// `f32.le`
-    F32Le([Id; 2]),
-    /// `f32.ge`
-    F32Ge([Id; 2]),
-    /// `f64.eq`
-    F64Eq([Id; 2]),
-    /// `f64.ne`
-    F64Ne([Id; 2]),
-    /// `f64.lt`
-    F64Lt([Id; 2]),
-    /// `f64.gt`
-    F64Gt([Id; 2]),
-    /// `f64.le`
-    F64Le([Id; 2]),
-    /// `f64.ge`
-    F64Ge([Id; 2]),
-    /// `i32.clz`
-    I32Clz([Id; 1]),
-    /// `i32.ctz`
-    I32Ctz([Id; 1]),
-    /// `i32.popcnt`
-    I32Popcnt([Id; 1]),
-    /// `i32.add`
-    I32Add([Id; 2]),
-    /// `i32.sub`
-    I32Sub([Id; 2]),
-    /// `i32.mul`
-    I32Mul([Id; 2]),
-    /// `i32.div_s`
-    I32DivS([Id; 2]),
-    /// `i32.div_u`
-    I32DivU([Id; 2]),
-    /// `i32.rem_s`
-    I32RemS([Id; 2]),
-    /// `i32.rem_u`
-    I32RemU([Id; 2]),
-    /// `i32.and`
-    I32And([Id; 2]),
-    /// `i32.or`
-    I32Or([Id; 2]),
-    /// `i32.xor`
-    I32Xor([Id; 2]),
-    /// `i32.shl`
-    I32Shl([Id; 2]),
-    /// `i32.shr_s`
-    I32ShrS([Id; 2]),
-    /// `i32.shr_u`
-    I32ShrU([Id; 2]),
-    /// `i32.rotl`
-    I32RotL([Id; 2]),
-    /// `i32.rotr`
-    I32RotR([Id; 2]),
-    /// `i64.clz`
-    I64Clz([Id; 1]),
-    /// `i64.ctz`
-    I64Ctz([Id; 1]),
-    /// `i64.popcnt`
-    I64Popcnt([Id; 1]),
-    /// `i64.add`
-    I64Add([Id; 2]),
-    /// `i64.sub`
-    I64Sub([Id; 2]),
-    /// `i64.mul`
-    I64Mul([Id; 2]),
-    /// `i64.div_s`
-    I64DivS([Id; 2]),
-    /// `i64.div_u`
-    I64DivU([Id; 2]),
-    /// `i64.rem_s`
-    I64RemS([Id; 2]),
-    /// `i64.rem_u`
-    I64RemU([Id; 2]),
-    /// `i64.and`
-    I64And([Id; 2]),
-    /// `i64.or`
-    I64Or([Id; 2]),
-    /// `i64.xor`
-    I64Xor([Id; 2]),
-    /// `i64.shl`
-    I64Shl([Id; 2]),
-    /// `i64.shr_s`
-    I64ShrS([Id; 2]),
-    /// `i64.shr_u`
-    I64ShrU([Id; 2]),
-    /// `i64.rotl`
-    I64RotL([Id; 2]),
-    /// `i64.rotr`
-    I64RotR([Id; 2]),
-    /// `f32.abs`
-    F32Abs([Id; 1]),
-    /// `f32.neg`
-    F32Neg([Id; 1]),
-    /// `f32.ceil`
-    F32Ceil([Id; 1]),
-    /// `f32.floor`
-    F32Floor([Id; 1]),
-    /// `f32.trunc`
-    F32Trunc([Id; 1]),
-    /// `f32.nearest`
-    F32Nearest([Id; 1]),
-    /// `f32.sqrt`
-    F32Sqrt([Id; 1]),
-    /// `f32.add`
-    F32Add([Id; 2]),
-    /// `f32.sub`
-    F32Sub([Id; 2]),
-    /// `f32.mul`
-    F32Mul([Id; 2]),
-    /// `f32.div`
-    F32Div([Id; 2]),
-    /// `f32.min`
-    F32Min([Id; 2]),
-    /// `f32.max`
-    F32Max([Id; 2]),
-    /// `f32.copysign`
-    F32Copysign([Id; 2]),
-    /// `f64.abs`
-    F64Abs([Id; 1]),
-    /// `f64.neg`
-    F64Neg([Id; 1]),
-    /// `f64.ceil`
-    F64Ceil([Id; 1]),
-    /// `f64.floor`
-    F64Floor([Id; 1]),
-    /// `f64.trunc`
-    F64Trunc([Id; 1]),
-    /// `f64.nearest`
-    F64Nearest([Id; 1]),
-    /// `f64.sqrt`
-    F64Sqrt([Id; 1]),
-    /// `f64.add`
-    F64Add([Id; 2]),
-    /// `f64.sub`
-    F64Sub([Id; 2]),
-    /// `f64.mul`
-    F64Mul([Id; 2]),
-    /// `f64.div`
-    F64Div([Id; 2]),
-    /// `f64.min`
-    F64Min([Id; 2]),
-    /// `f64.max`
-    F64Max([Id; 2]),
-    /// `f64.copysign`
-    F64Copysign([Id; 2]),
-    /// `wrap`
-    Wrap([Id; 1]),
-    /// `i32.trunc_f32_s`
-    I32TruncF32S([Id; 1]),
-    /// `i32.trunc_f32_u`
-    I32TruncF32U([Id; 1]),
-    /// `i32.trunc_f64_s`
-    I32TruncF64S([Id; 1]),
-    /// `i32.trunc_f64_u`
-    I32TruncF64U([Id; 1]),
-    /// `i64.extend_i32_s`
-    I64ExtendI32S([Id; 1]),
-    /// `i64.extend_i32_u`
-    I64ExtendI32U([Id; 1]),
-    /// `i64.trunc_f32_s`
-    I64TruncF32S([Id; 1]),
-    /// `i64.trunc_f32_u`
-    I64TruncF32U([Id; 1]),
-    /// `i64.trunc_f64_s`
-    I64TruncF64S([Id; 1]),
-    /// `i64.trunc_f64_u`
-    I64TruncF64U([Id; 1]),
-    /// `f32.convert_i32_s`
-    F32ConvertI32S([Id; 1]),
-    /// `f32.convert_i32_u`
-    F32ConvertI32U([Id; 1]),
-    /// `f32.convert_i64_s`
-    F32ConvertI64S([Id; 1]),
-    /// `f32.convert_i64_u`
-    F32ConvertI64U([Id; 1]),
-    /// `f32.demote_f64`
-    F32DemoteF64([Id; 1]),
-    /// `f64.convert_i32_s`
-    F64ConvertI32S([Id; 1]),
-    /// `f64.convert_i32_u`
-    F64ConvertI32U([Id; 1]),
-    /// `f64.convert_i64_s`
-    F64ConvertI64S([Id; 1]),
-    /// `f64.convert_i64_u`
-    F64ConvertI64U([Id; 1]),
-    /// `f64.promote_f32`
-    F64PromoteF32([Id; 1]),
-    /// `i32.reinterpret_f32`
-    I32ReinterpretF32([Id; 1]),
-    /// `i64.reinterpret_f64`
-    I64ReinterpretF64([Id; 1]),
-    /// `f32.reinterpret_i32`
-    F32ReinterpretI32([Id; 1]),
-    /// `f64.reinterpret_i64`
-    F64ReinterpretI64([Id; 1]),
-    /// `i32.extend8_s`
-    I32Extend8S([Id; 1]),
-    /// `i32.extend16_s`
-    I32Extend16S([Id; 1]),
-    /// `i64.extend8_s`
-    I64Extend8S([Id; 1]),
-    /// `i64.extend16_s`
-    I64Extend16S([Id; 1]),
-    /// `i64.extend32_s`
-    I64Extend32S([Id; 1]),
-    /// `i32.trunc_sat_f32_s`
-    I32TruncSatF32S([Id; 1]),
-    /// `i32.trunc_sat_f32_u`
-    I32TruncSatF32U([Id; 1]),
-    /// `i32.trunc_sat_f64_s`
-    I32TruncSatF64S([Id; 1]),
-    /// `i32.trunc_sat_f64_u`
-    I32TruncSatF64U([Id; 1]),
-    /// `i64.trunc_sat_f32_s`
-    I64TruncSatF32S([Id; 1]),
-    /// `i64.trunc_sat_f32_u`
-    I64TruncSatF32U([Id; 1]),
-    /// `i64.trunc_sat_f64_s`
-    I64TruncSatF64S([Id; 1]),
-    /// `i64.trunc_sat_f64_u`
-    I64TruncSatF64U([Id; 1]),
+    I32Eqz([Id; 1]), // i32.eqz
+    I32Eq([Id; 2]), // i32.eq
+    I32Ne([Id; 2]), // i32.ne
+    I32LtS([Id; 2]), // i32.lt_s
+    I32LtU([Id; 2]), // i32.lt_u
+    I32GtS([Id; 2]), // i32.gt_s
+    I32GtU([Id; 2]), // i32.gt_u
+    I32LeS([Id; 2]), // i32.le_s
+    I32LeU([Id; 2]), // i32.le_u
+    I32GeS([Id; 2]), // i32.ge_s
+    I32GeU([Id; 2]), // i32.ge_u
+    I64Eqz([Id; 1]), // i64.eqz
+    I64Eq([Id; 2]), // i64.eq
+    I64Ne([Id; 2]), // i64.ne
+    I64LtS([Id; 2]), // i64.lt_s
+    I64LtU([Id; 2]), // i64.lt_u
+    I64GtS([Id; 2]), // i64.gt_s
+    I64GtU([Id; 2]), // i64.gt_u
+    I64LeS([Id; 2]), // i64.le_s
+    I64LeU([Id; 2]), // i64.le_u
+    I64GeS([Id; 2]), // i64.ge_s
+    I64GeU([Id; 2]), // i64.ge_u
+    F32Eq([Id; 2]), // f32.eq
+    F32Ne([Id; 2]), // f32.ne
+    F32Lt([Id; 2]), // f32.lt
+    F32Gt([Id; 2]), // f32.gt
+    F32Le([Id; 2]), // f32.le
+    F32Ge([Id; 2]), // f32.ge
+    F64Eq([Id; 2]), // f64.eq
+    F64Ne([Id; 2]), // f64.ne
+    F64Lt([Id; 2]), // f64.lt
+    F64Gt([Id; 2]), // f64.gt
+    F64Le([Id; 2]), // f64.le
+    F64Ge([Id; 2]), // f64.ge
+    I32Clz([Id; 1]), // i32.clz
+    I32Ctz([Id; 1]), // i32.ctz
+    I32Popcnt([Id; 1]), // i32.popcnt
+    I32Add([Id; 2]), // i32.add
+    I32Sub([Id; 2]), // i32.sub
+    I32Mul([Id; 2]), // i32.mul
+    I32DivS([Id; 2]), // i32.div_s
+    I32DivU([Id; 2]), // i32.div_u
+    I32RemS([Id; 2]), // i32.rem_s
+    I32RemU([Id; 2]), // i32.rem_u
+    I32And([Id; 2]), // i32.and
+    I32Or([Id; 2]), // i32.or
+    I32Xor([Id; 2]), // i32.xor
+    I32Shl([Id; 2]), // i32.shl
+    I32ShrS([Id; 2]), // i32.shr_s
+    I32ShrU([Id; 2]), // i32.shr_u
+    I32RotL([Id; 2]), // i32.rotl
+    I32RotR([Id; 2]), // i32.rotr
+    I64Clz([Id; 1]), // i64.clz
+    I64Ctz([Id; 1]), // i64.ctz
+    I64Popcnt([Id; 1]), // i64.popcnt
+    I64Add([Id; 2]), // i64.add
+    I64Sub([Id; 2]), // i64.sub
+    I64Mul([Id; 2]), // i64.mul
+    I64DivS([Id; 2]), // i64.div_s
+    I64DivU([Id; 2]), // i64.div_u
+    I64RemS([Id; 2]), // i64.rem_s
+    I64RemU([Id; 2]), // i64.rem_u
+    I64And([Id; 2]), // i64.and
+    I64Or([Id; 2]), // i64.or
+    I64Xor([Id; 2]), // i64.xor
+    I64Shl([Id; 2]), // i64.shl
+    I64ShrS([Id; 2]), // i64.shr_s
+    I64ShrU([Id; 2]), // i64.shr_u
+    I64RotL([Id; 2]), // i64.rotl
+    I64RotR([Id; 2]), // i64.rotr
+    F32Abs([Id; 1]), // f32.abs
+    F32Neg([Id; 1]), // f32.neg
+    F32Ceil([Id; 1]), // f32.ceil
+    F32Floor([Id; 1]), // f32.floor
+    F32Trunc([Id; 1]), // f32.trunc
+    F32Nearest([Id; 1]), // f32.nearest
+    F32Sqrt([Id; 1]), // f32.sqrt
+    F32Add([Id; 2]), // f32.add
+    F32Sub([Id; 2]), // f32.sub
+    F32Mul([Id; 2]), // f32.mul
+    F32Div([Id; 2]), // f32.div
+    F32Min([Id; 2]), // f32.min
+    F32Max([Id; 2]), // f32.max
+    F32Copysign([Id; 2]), // f32.copysign
+    F64Abs([Id; 1]), // f64.abs
+    F64Neg([Id; 1]), // f64.neg
+    F64Ceil([Id; 1]), // f64.ceil
+    F64Floor([Id; 1]), // f64.floor
+    F64Trunc([Id; 1]), // f64.trunc
+    F64Nearest([Id; 1]), // f64.nearest
+    F64Sqrt([Id; 1]), // f64.sqrt
+    F64Add([Id; 2]), // f64.add
+    F64Sub([Id; 2]), // f64.sub
+    F64Mul([Id; 2]), // f64.mul
+    F64Div([Id; 2]), // f64.div
+    F64Min([Id; 2]), // f64.min
+    F64Max([Id; 2]), // f64.max
+    F64Copysign([Id; 2]), // f64.copysign
+    Wrap([Id; 1]), // wrap
+    I32TruncF32S([Id; 1]), // i32.trunc_f32_s
+    I32TruncF32U([Id; 1]), // i32.trunc_f32_u
+    I32TruncF64S([Id; 1]), // i32.trunc_f64_s
+    I32TruncF64U([Id; 1]), // i32.trunc_f64_u
+    I64ExtendI32S([Id; 1]), // i64.extend_i32_s
+    I64ExtendI32U([Id; 1]), // i64.extend_i32_u
+    I64TruncF32S([Id; 1]), // i64.trunc_f32_s
+    I64TruncF32U([Id; 1]), // i64.trunc_f32_u
+    I64TruncF64S([Id; 1]), // i64.trunc_f64_s
+    I64TruncF64U([Id; 1]), // i64.trunc_f64_u
+    F32ConvertI32S([Id; 1]), // f32.convert_i32_s
+    F32ConvertI32U([Id; 1]), // f32.convert_i32_u
+    F32ConvertI64S([Id; 1]), // f32.convert_i64_s
+    F32ConvertI64U([Id; 1]), // f32.convert_i64_u
+    F32DemoteF64([Id; 1]), // f32.demote_f64
+    F64ConvertI32S([Id; 1]), // f64.convert_i32_s
+    F64ConvertI32U([Id; 1]), // f64.convert_i32_u
+    F64ConvertI64S([Id; 1]), // f64.convert_i64_s
+    F64ConvertI64U([Id; 1]), // f64.convert_i64_u
+    F64PromoteF32([Id; 1]), // f64.promote_f32
+    I32ReinterpretF32([Id; 1]), // i32.reinterpret_f32
+    I64ReinterpretF64([Id; 1]), // i64.reinterpret_f64
+    F32ReinterpretI32([Id; 1]), // f32.reinterpret_i32
+    F64ReinterpretI64([Id; 1]), // f64.reinterpret_i64
+    I32Extend8S([Id; 1]), // i32.extend8_s
+    I32Extend16S([Id; 1]), // i32.extend16_s
+    I64Extend8S([Id; 1]), // i64.extend8_s
+    I64Extend16S([Id; 1]), // i64.extend16_s
+    I64Extend32S([Id; 1]), // i64.extend32_s
+    I32TruncSatF32S([Id; 1]), // i32.trunc_sat_f32_s
+    I32TruncSatF32U([Id; 1]), // i32.trunc_sat_f32_u
+    I32TruncSatF64S([Id; 1]), // i32.trunc_sat_f64_s
+    I32TruncSatF64U([Id; 1]), // i32.trunc_sat_f64_u
+    I64TruncSatF32S([Id; 1]), // i64.trunc_sat_f32_s
+    I64TruncSatF32U([Id; 1]), // i64.trunc_sat_f32_u
+    I64TruncSatF64S([Id; 1]), // i64.trunc_sat_f64_s
+    I64TruncSatF64U([Id; 1]), // i64.trunc_sat_f64_u
 }

@@ -17,9 +17,8 @@ use Rattle.peephole_nodes.specs.laws.Again.{of_memory, of_ref, of_value, of_memo
 use Rattle.peephole_nodes.specs.laws.Again.{made_with}
 use Rattle.peephole_nodes.specs.Numeric.{numeric_place_of, numeric_ids_of}
 use Rattle.peephole_nodes.specs.laws.NumericAgain.{numeric_makers, numeric_again, numeric_given_back}
-use Rattle.peephole_nodes.specs.Simd.{simd_place_of, simd_payload_of}
+use Rattle.peephole_nodes.specs.Simd.{simd_place_of, simd_payload_of, simd_ids_of}
 use Rattle.peephole_nodes.specs.laws.SimdAgain.{simd_makers, simd_again, simd_given_back, simd_no_numeric}
-use Rattle.peephole_nodes.specs.SimdChildren.{simd_ids_of}
 use Rattle.peephole_lang.specs.Equal.{IsContainer, IsCall, IsEqual}
 use Rattle.peephole_lang.specs.Lang.{place_of, payload_of, ids_of}
 use Rattle.peephole_lang.specs.Node.{head_of}
@@ -35,76 +34,50 @@ seen (lang.Container children) = container children.items
 seen (lang.Call p children) = call p children.items
 seen l = other l
 
--- the nodes that hold no other node, by place
+-- ---- the makers of nodes that hold no other node
+
+abbrev plain_leaf : Lang → Payload → List Id → Option Seen
+plain_leaf l = plain (no_child (other l))
+
+abbrev plain_child : (Id → Lang) → Payload → List Id → Option Seen
+plain_child make = plain (one_child (λ child. other (make child)))
+
+abbrev plain_children : (List Id → Lang) → Payload → List Id → Option Seen
+plain_children make = plain (several (λ w. other (make w)))
+
+-- with what the payload says
+abbrev leaf_with : {P : Type 0} → (P → Lang) → P → List Id → Option Seen
+leaf_with make p = no_child (other (make p))
+
+abbrev child_with : {P : Type 0} → (P → Id → Lang) → P → List Id → Option Seen
+child_with make p = one_child (λ child. other (make p child))
+
+abbrev children_with : {P : Type 0} → (P → List Id → Lang) → P → List Id → Option Seen
+children_with make p = several (λ w. other (make p w))
+
+-- by place
 own_makers : List (Payload → List Id → Option Seen)
 own_makers =
-    plain (no_child (other lang.RandI32))
-    ∷ plain (no_child (other lang.RandI64))
-    ∷ plain (no_child (other lang.RandF32))
-    ∷ plain (no_child (other lang.RandF64))
-    ∷ plain (no_child (other lang.Undef))
-    ∷ plain (one_child (λ child. other (lang.UnfoldI32 child)))
-    ∷ plain (one_child (λ child. other (lang.UnfoldI64 child)))
-    ∷ plain (one_child (λ child. other (lang.I32UseGlobal child)))
-    ∷ plain (one_child (λ child. other (lang.I64UseGlobal child)))
-    ∷ plain (one_child (λ child. other (lang.F32UseGlobal child)))
-    ∷ plain (one_child (λ child. other (lang.F64UseGlobal child)))
-    ∷ plain (several (λ w. container w))
-    ∷ plain (no_child (other lang.Nop))
-    ∷ of_index (λ p. several (λ w. call p w))
-    ∷ plain (several (λ w. other (lang.Drop w)))
-    ∷ plain (several (λ w. other (lang.Select w)))
-    ∷ of_index (λ p. no_child (other (lang.LocalGet p)))
-    ∷ of_index (λ p. one_child (λ child. other (lang.LocalSet p child)))
-    ∷ of_index (λ p. one_child (λ child. other (lang.LocalTee p child)))
-    ∷ of_index (λ p. no_child (other (lang.GlobalGet p)))
-    ∷ of_index (λ p. one_child (λ child. other (lang.GlobalSet p child)))
-    ∷ of_index (λ p. one_child (λ child. other (lang.TableGet p child)))
-    ∷ of_index (λ p. several (λ w. other (lang.TableSet p w)))
-    ∷ of_memory (λ p. one_child (λ child. other (lang.I32Load p child)))
-    ∷ of_memory (λ p. one_child (λ child. other (lang.I64Load p child)))
-    ∷ of_memory (λ p. one_child (λ child. other (lang.F32Load p child)))
-    ∷ of_memory (λ p. one_child (λ child. other (lang.F64Load p child)))
-    ∷ of_memory (λ p. one_child (λ child. other (lang.I32Load8S p child)))
-    ∷ of_memory (λ p. one_child (λ child. other (lang.I32Load8U p child)))
-    ∷ of_memory (λ p. one_child (λ child. other (lang.I32Load16S p child)))
-    ∷ of_memory (λ p. one_child (λ child. other (lang.I32Load16U p child)))
-    ∷ of_memory (λ p. one_child (λ child. other (lang.I64Load8S p child)))
-    ∷ of_memory (λ p. one_child (λ child. other (lang.I64Load8U p child)))
-    ∷ of_memory (λ p. one_child (λ child. other (lang.I64Load16S p child)))
-    ∷ of_memory (λ p. one_child (λ child. other (lang.I64Load16U p child)))
-    ∷ of_memory (λ p. one_child (λ child. other (lang.I64Load32S p child)))
-    ∷ of_memory (λ p. one_child (λ child. other (lang.I64Load32U p child)))
-    ∷ of_memory (λ p. several (λ w. other (lang.I32Store p w)))
-    ∷ of_memory (λ p. several (λ w. other (lang.I64Store p w)))
-    ∷ of_memory (λ p. several (λ w. other (lang.F32Store p w)))
-    ∷ of_memory (λ p. several (λ w. other (lang.F64Store p w)))
-    ∷ of_memory (λ p. several (λ w. other (lang.I32Store8 p w)))
-    ∷ of_memory (λ p. several (λ w. other (lang.I32Store16 p w)))
-    ∷ of_memory (λ p. several (λ w. other (lang.I64Store8 p w)))
-    ∷ of_memory (λ p. several (λ w. other (lang.I64Store16 p w)))
-    ∷ of_memory (λ p. several (λ w. other (lang.I64Store32 p w)))
-    ∷ of_index (λ p. no_child (other (lang.MemorySize p)))
-    ∷ of_index (λ p. one_child (λ child. other (lang.MemoryGrow p child)))
-    ∷ of_i32 (λ p. no_child (other (lang.I32 p)))
-    ∷ of_i64 (λ p. no_child (other (lang.I64 p)))
-    ∷ of_f32 (λ p. no_child (other (lang.F32 p)))
-    ∷ of_f64 (λ p. no_child (other (lang.F64 p)))
-    ∷ of_ref (λ p. no_child (other (lang.RefNull p)))
-    ∷ plain (one_child (λ child. other (lang.RefIsNull child)))
-    ∷ of_index (λ p. no_child (other (lang.RefFunc p)))
-    ∷ of_memory_init (λ p. several (λ w. other (lang.MemoryInit p w)))
-    ∷ of_index (λ p. no_child (other (lang.DataDrop p)))
-    ∷ of_memory_copy (λ p. several (λ w. other (lang.MemoryCopy p w)))
-    ∷ of_index (λ p. several (λ w. other (lang.MemoryFill p w)))
-    ∷ of_table_init (λ p. several (λ w. other (lang.TableInit p w)))
-    ∷ of_index (λ p. no_child (other (lang.ElemDrop p)))
-    ∷ of_table_copy (λ p. several (λ w. other (lang.TableCopy p w)))
-    ∷ of_index (λ p. several (λ w. other (lang.TableGrow p w)))
-    ∷ of_index (λ p. no_child (other (lang.TableSize p)))
-    ∷ of_index (λ p. several (λ w. other (lang.TableFill p w)))
-    ∷ of_value (λ p. several (λ w. other (lang.TypedSelect p w)))
-    ∷ []
+    plain_leaf lang.RandI32 ∷ plain_leaf lang.RandI64 ∷ plain_leaf lang.RandF32 ∷ plain_leaf lang.RandF64 ∷ plain_leaf lang.Undef
+    ∷ plain_child lang.UnfoldI32 ∷ plain_child lang.UnfoldI64 ∷ plain_child lang.I32UseGlobal ∷ plain_child lang.I64UseGlobal
+    ∷ plain_child lang.F32UseGlobal ∷ plain_child lang.F64UseGlobal ∷ plain (several (λ w. container w)) ∷ plain_leaf lang.Nop
+    ∷ of_index (λ p. several (λ w. call p w)) ∷ plain_children lang.Drop ∷ plain_children lang.Select ∷ of_index (leaf_with lang.LocalGet)
+    ∷ of_index (child_with lang.LocalSet) ∷ of_index (child_with lang.LocalTee) ∷ of_index (leaf_with lang.GlobalGet)
+    ∷ of_index (child_with lang.GlobalSet) ∷ of_index (child_with lang.TableGet) ∷ of_index (children_with lang.TableSet)
+    ∷ of_memory (child_with lang.I32Load) ∷ of_memory (child_with lang.I64Load) ∷ of_memory (child_with lang.F32Load)
+    ∷ of_memory (child_with lang.F64Load) ∷ of_memory (child_with lang.I32Load8S) ∷ of_memory (child_with lang.I32Load8U)
+    ∷ of_memory (child_with lang.I32Load16S) ∷ of_memory (child_with lang.I32Load16U) ∷ of_memory (child_with lang.I64Load8S)
+    ∷ of_memory (child_with lang.I64Load8U) ∷ of_memory (child_with lang.I64Load16S) ∷ of_memory (child_with lang.I64Load16U)
+    ∷ of_memory (child_with lang.I64Load32S) ∷ of_memory (child_with lang.I64Load32U) ∷ of_memory (children_with lang.I32Store)
+    ∷ of_memory (children_with lang.I64Store) ∷ of_memory (children_with lang.F32Store) ∷ of_memory (children_with lang.F64Store)
+    ∷ of_memory (children_with lang.I32Store8) ∷ of_memory (children_with lang.I32Store16) ∷ of_memory (children_with lang.I64Store8)
+    ∷ of_memory (children_with lang.I64Store16) ∷ of_memory (children_with lang.I64Store32) ∷ of_index (leaf_with lang.MemorySize)
+    ∷ of_index (child_with lang.MemoryGrow) ∷ of_i32 (leaf_with lang.I32) ∷ of_i64 (leaf_with lang.I64) ∷ of_f32 (leaf_with lang.F32)
+    ∷ of_f64 (leaf_with lang.F64) ∷ of_ref (leaf_with lang.RefNull) ∷ plain_child lang.RefIsNull ∷ of_index (leaf_with lang.RefFunc)
+    ∷ of_memory_init (children_with lang.MemoryInit) ∷ of_index (leaf_with lang.DataDrop) ∷ of_memory_copy (children_with lang.MemoryCopy)
+    ∷ of_index (children_with lang.MemoryFill) ∷ of_table_init (children_with lang.TableInit) ∷ of_index (leaf_with lang.ElemDrop)
+    ∷ of_table_copy (children_with lang.TableCopy) ∷ of_index (children_with lang.TableGrow) ∷ of_index (leaf_with lang.TableSize)
+    ∷ of_index (children_with lang.TableFill) ∷ of_value (children_with lang.TypedSelect) ∷ []
 
 -- where a place stands among those of these nodes: 0 to 51, 180 to 182, 191 to 200, and 457
 own_index : ℕ → ℕ
@@ -135,74 +108,9 @@ given_back : (l : Lang) → again (place_of l) (payload_of l) (ids_of l) ≡ Som
 unfolding place_of payload_of ids_of no_child one_child several no_node plain of_index of_i32 of_i64 of_f32 of_f64 of_memory of_ref of_value
     of_memory_init of_memory_copy of_table_init of_table_copy made made_with numeric_makers numeric_again simd_makers simd_again seen own_makers
     own_index own_again numeric_seen simd_seen again
-given_back lang.RandI32 = refl
-given_back lang.RandI64 = refl
-given_back lang.RandF32 = refl
-given_back lang.RandF64 = refl
-given_back lang.Undef = refl
-given_back (lang.UnfoldI32 _) = refl
-given_back (lang.UnfoldI64 _) = refl
-given_back (lang.I32UseGlobal _) = refl
-given_back (lang.I64UseGlobal _) = refl
-given_back (lang.F32UseGlobal _) = refl
-given_back (lang.F64UseGlobal _) = refl
-given_back (lang.Container _) = refl
-given_back lang.Nop = refl
-given_back (lang.Call _ _) = refl
-given_back (lang.Drop _) = refl
-given_back (lang.Select _) = refl
-given_back (lang.LocalGet _) = refl
-given_back (lang.LocalSet _ _) = refl
-given_back (lang.LocalTee _ _) = refl
-given_back (lang.GlobalGet _) = refl
-given_back (lang.GlobalSet _ _) = refl
-given_back (lang.TableGet _ _) = refl
-given_back (lang.TableSet _ _) = refl
-given_back (lang.I32Load _ _) = refl
-given_back (lang.I64Load _ _) = refl
-given_back (lang.F32Load _ _) = refl
-given_back (lang.F64Load _ _) = refl
-given_back (lang.I32Load8S _ _) = refl
-given_back (lang.I32Load8U _ _) = refl
-given_back (lang.I32Load16S _ _) = refl
-given_back (lang.I32Load16U _ _) = refl
-given_back (lang.I64Load8S _ _) = refl
-given_back (lang.I64Load8U _ _) = refl
-given_back (lang.I64Load16S _ _) = refl
-given_back (lang.I64Load16U _ _) = refl
-given_back (lang.I64Load32S _ _) = refl
-given_back (lang.I64Load32U _ _) = refl
-given_back (lang.I32Store _ _) = refl
-given_back (lang.I64Store _ _) = refl
-given_back (lang.F32Store _ _) = refl
-given_back (lang.F64Store _ _) = refl
-given_back (lang.I32Store8 _ _) = refl
-given_back (lang.I32Store16 _ _) = refl
-given_back (lang.I64Store8 _ _) = refl
-given_back (lang.I64Store16 _ _) = refl
-given_back (lang.I64Store32 _ _) = refl
-given_back (lang.MemorySize _) = refl
-given_back (lang.MemoryGrow _ _) = refl
-given_back (lang.I32 _) = refl
-given_back (lang.I64 _) = refl
-given_back (lang.F32 _) = refl
-given_back (lang.F64 _) = refl
-given_back (lang.RefNull _) = refl
-given_back (lang.RefIsNull _) = refl
-given_back (lang.RefFunc _) = refl
-given_back (lang.MemoryInit _ _) = refl
-given_back (lang.DataDrop _) = refl
-given_back (lang.MemoryCopy _ _) = refl
-given_back (lang.MemoryFill _ _) = refl
-given_back (lang.TableInit _ _) = refl
-given_back (lang.ElemDrop _) = refl
-given_back (lang.TableCopy _ _) = refl
-given_back (lang.TableGrow _ _) = refl
-given_back (lang.TableSize _) = refl
-given_back (lang.TableFill _ _) = refl
-given_back (lang.TypedSelect _ _) = refl
 given_back (lang.Numeric n) = numeric_back n
 given_back (lang.Simd s) = simd_back s
+given_back _ = refl
 
 same_seen : (l m : Lang) → head_of l ≡ head_of m → ids_of l ≡ ids_of m → seen l ≡ seen m
 same_seen l m head ids =

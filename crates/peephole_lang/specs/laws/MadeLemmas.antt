@@ -1,5 +1,5 @@
 -- A node is made of each place, payload and number of children that fit a variant: by computation over the table.
-use Rattle.std.specs.Prelude.{◌≡◌, ℕ, zero, suc, ◌==◌, ◌&&◌, ◌||◌, ◌⊎◌, Bool, true, List, [], ◌∷◌, Some, pos, refl, slice_get}
+use Rattle.std.specs.Prelude.{◌≡◌, ℕ, ◌==◌, ◌&&◌, ◌||◌, ◌⊎◌, Bool, true, [], Some, pos, refl}
 use Rattle.std.proofs.Common.{sym, ap, ap₂, ◌∙◌, inl, inr}
 use Rattle.std.specs.Option.{option_map}
 use Rattle.std.proofs.lemmas.Bool.{and_parts, and_from, cases_eq, ne_eqb, eqb-true}
@@ -11,10 +11,8 @@ use Rattle.peephole_nodes.specs.declared.payload.PayloadKind.{PayloadKind}
 use Rattle.peephole_nodes.specs.declared.payload.PayloadKind.TheVariants as kind
 use Rattle.peephole_nodes.specs.declared.arity.Arity.{Arity}
 use Rattle.peephole_nodes.specs.declared.arity.Arity.TheVariants as arity
-use Rattle.peephole_lang.specs.LangShapes.{is_plain_leaf, is_plain_one, is_plain_three, is_index_leaf, is_index_one, is_index_two}
-use Rattle.peephole_lang.specs.LangShapes.{is_index_three, is_memory_one, is_memory_two, is_i32_leaf, is_i64_leaf, is_f32_leaf, is_f64_leaf}
-use Rattle.peephole_lang.specs.LangShapes.{is_ref_leaf, is_memory_init_three, is_memory_copy_three, is_table_init_three}
-use Rattle.peephole_lang.specs.LangShapes.{is_table_copy_three, is_value_three}
+use Rattle.peephole_lang.specs.LangShapes.{is_plain_leaf, is_plain_one, is_index_leaf, is_index_one, is_index_two, is_index_three}
+use Rattle.peephole_lang.specs.LangShapes.{is_memory_one, is_memory_two}
 use Rattle.peephole_nodes.specs.NumericShapes.{is_numeric_plain_one_to_171, is_numeric_plain_one_from_172, is_numeric_plain_two_to_100}
 use Rattle.peephole_nodes.specs.NumericShapes.{is_numeric_plain_two_from_101}
 use Rattle.peephole_nodes.specs.SimdShapes.{is_simd_memory_one, is_simd_memory_two, is_simd_v128_leaf, is_simd_shuffle_two}
@@ -23,21 +21,9 @@ use Rattle.peephole_nodes.specs.SimdShapes.{is_simd_plain_two_280_to_370, is_sim
 use Rattle.peephole_nodes.specs.SimdShapes.{is_simd_plain_three, is_simd_lane_one, is_simd_lane_two, is_simd_memory_lane_two}
 use Rattle.peephole_nodes.specs.Payload.{is_payload_of}
 use Rattle.peephole_lang.specs.Making.{is_made}
-use Rattle.peephole_lang.specs.laws.TableLemmas.{place_is}
+use Rattle.peephole_lang.specs.laws.TableLemmas.{all_of, one_of, place_is}
 use Rattle.peephole_nodes.specs.laws.VariantLemmas.{HasVariant, has_variant}
 use Rattle.peephole_nodes.specs.Variants.{Variant, variants, variant_at, is_right, is_node_of, variant_fits}
-
--- ---- what a test says of each row of a list, it says of one
-
-pub all_of : (Variant → Bool) → List Variant → Bool
-all_of f [] = true
-all_of f (v ∷ vs) = f v && all_of f vs
-
-pub one_of : (f : Variant → Bool) (vs : List Variant) (i : ℕ) (v : Variant) → all_of f vs ≡ true → slice_get vs i ≡ Some v → f v ≡ true
-unfolding all_of
-one_of f [] i v all at = absurd cc
-one_of f (w ∷ vs) zero v all at = let same : w ≡ v = cc in rw (← same) (and_parts (f w) (all_of f vs) all).0
-one_of f (w ∷ vs) (suc i) v all at = one_of f vs i v (and_parts (f w) (all_of f vs) all).1 at
 
 -- ---- the payload and the number of children that a variant takes
 
@@ -71,9 +57,8 @@ any_made arity.Any place = (place == 11) || (place == 13)
 any_made _ place = true
 
 pub variants_made : all_of (λ v. is_made v.place (example v.payload) (count_in v.children) && any_made v.children v.place) variants ≡ true
-unfolding all_of variants example count_in any_made is_plain_leaf is_plain_one is_plain_three is_index_leaf is_index_one is_index_two is_index_three
-    is_memory_one is_memory_two is_i32_leaf is_i64_leaf is_f32_leaf is_f64_leaf is_ref_leaf is_memory_init_three is_memory_copy_three
-    is_table_init_three is_table_copy_three is_value_three is_numeric_plain_one_to_171 is_numeric_plain_one_from_172 is_numeric_plain_two_to_100
+unfolding all_of variants example count_in any_made is_plain_leaf is_plain_one is_index_leaf is_index_one is_index_two is_index_three
+    is_memory_one is_memory_two is_numeric_plain_one_to_171 is_numeric_plain_one_from_172 is_numeric_plain_two_to_100
     is_numeric_plain_two_from_101 is_simd_memory_one is_simd_memory_two is_simd_v128_leaf is_simd_shuffle_two is_simd_plain_one_to_383
     is_simd_plain_one_from_384 is_simd_plain_two_to_279 is_simd_plain_two_280_to_370 is_simd_plain_two_371_to_428 is_simd_plain_two_from_429
     is_simd_plain_three is_simd_lane_one is_simd_lane_two is_simd_memory_lane_two

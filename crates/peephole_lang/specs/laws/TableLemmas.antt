@@ -1,8 +1,8 @@
 -- The code's table is the variants, and the order of the fronts: by computation over the rows.
 use Rattle.std.proofs.Common.{◌≡◌, ℕ, zero, suc, ◌+◌, ◌<◌, Bool, true, false, cond, eqb, List, [], ◌∷◌}
-use Rattle.std.proofs.Common.{length, get_or, map, Some, refl, sym, ap, ◌∙◌, subst, add-one, arith}
-use Rattle.std.specs.Prelude.{slice_get, not, is_some}
-use Rattle.std.proofs.lemmas.Bool.{eqb-true}
+use Rattle.std.proofs.Common.{length, get_or, map, Some, refl, sym, ap, ◌∙◌, add-one, arith}
+use Rattle.std.specs.Prelude.{slice_get, not, is_some, ◌&&◌}
+use Rattle.std.proofs.lemmas.Bool.{eqb-true, and_parts}
 use Rattle.std.proofs.lemmas.Option.{same_Some}
 use Rattle.peephole_nodes.specs.declared.payload.PayloadKind.{PayloadKind}
 use Rattle.peephole_nodes.specs.declared.payload.PayloadKind.TheVariants as kind
@@ -16,6 +16,18 @@ use Rattle.peephole_lang.specs.laws.FrontLemmas.{last_byte, is_below}
 both : {a b : Bool} → cond a b false ≡ true → (a ≡ true) × (b ≡ true)
 both {a = true} {b} e = (refl, e)
 both {a = false} {b} e = absurd cc
+
+-- ---- what a test says of each row of a list, it says of one
+
+unfoldable pub all_of : (Variant → Bool) → List Variant → Bool
+all_of f [] = true
+all_of f (v ∷ vs) = f v && all_of f vs
+
+pub one_of : (f : Variant → Bool) (vs : List Variant) (i : ℕ) (v : Variant) → all_of f vs ≡ true → slice_get vs i ≡ Some v → f v ≡ true
+unfolding all_of
+one_of f [] i v all at = absurd cc
+one_of f (w ∷ vs) zero v all at = let same : w ≡ v = cc in rw (← same) (and_parts (f w) (all_of f vs) all).0
+one_of f (w ∷ vs) (suc i) v all at = one_of f vs i v (and_parts (f w) (all_of f vs) all).1 at
 
 -- ---- the code's table
 
@@ -58,24 +70,12 @@ agree-true true false e = absurd cc
 agree-true false true e = absurd cc
 agree-true false false e = refl
 
-dotted : List Variant → Bool
-dotted [] = true
-dotted (v ∷ vs) = cond (agree (eqb (last_byte 0 (variant_front_of v)) 46) (has_payload v.payload)) (dotted vs) false
-
-all_dotted : dotted variants ≡ true
-unfolding dotted agree has_payload last_byte variants
+all_dotted : all_of (λ v. agree (eqb (last_byte 0 (variant_front_of v)) 46) (has_payload v.payload)) variants ≡ true
+unfolding all_of agree has_payload last_byte variants
 all_dotted = refl
 
-dotted_in : (vs : List Variant) (k : ℕ) (v : Variant) → dotted vs ≡ true → slice_get vs k ≡ Some v →
-    eqb (last_byte 0 (variant_front_of v)) 46 ≡ has_payload v.payload
-unfolding dotted
-dotted_in [] k v all e = absurd cc
-dotted_in (first ∷ vs) zero v all e = subst (λ w. eqb (last_byte 0 (variant_front_of w)) 46 ≡ has_payload w.payload) (same_Some first v e)
-    (agree-true _ _ (both all).0)
-dotted_in (first ∷ vs) (suc k) v all e = dotted_in vs k v (both all).1 e
-
 pub dot_with_payload : (k : ℕ) (v : Variant) → variant_at k ≡ Some v → eqb (last_byte 0 (variant_front_of v)) 46 ≡ has_payload v.payload
-dot_with_payload k v e = dotted_in variants k v all_dotted e
+dot_with_payload k v e = agree-true _ _ (one_of _ variants k v all_dotted e)
 
 -- ---- each variant's place is among the places by front
 
@@ -83,12 +83,8 @@ holds_place : ℕ → List ℕ → Bool
 holds_place n [] = false
 holds_place n (p ∷ places) = cond (eqb p n) true (holds_place n places)
 
-listed : List Variant → Bool
-listed [] = true
-listed (v ∷ vs) = cond (holds_place v.place BY_FRONT) (listed vs) false
-
-all_listed : listed variants ≡ true
-unfolding listed holds_place variants
+all_listed : all_of (λ v. holds_place v.place BY_FRONT) variants ≡ true
+unfolding all_of holds_place variants
 all_listed = refl
 
 -- the number stands in the list at some index
@@ -108,14 +104,8 @@ unfolding holds_place
 stands_at n [] e = absurd cc
 stands_at n (p ∷ places) e = stands_first (eqb p n) p n places refl e (stands_at n places)
 
-listed_in : (vs : List Variant) (k : ℕ) (v : Variant) → listed vs ≡ true → slice_get vs k ≡ Some v → StandsAt v.place BY_FRONT
-unfolding listed
-listed_in [] k v all e = absurd cc
-listed_in (first ∷ vs) zero v all e = subst (λ w. StandsAt w.place BY_FRONT) (same_Some first v e) (stands_at _ BY_FRONT (both all).0)
-listed_in (first ∷ vs) (suc k) v all e = listed_in vs k v (both all).1 e
-
 pub is_listed : (k : ℕ) (v : Variant) → variant_at k ≡ Some v → StandsAt v.place BY_FRONT
-is_listed k v e = listed_in variants k v all_listed e
+is_listed k v e = stands_at v.place BY_FRONT (one_of _ variants k v all_listed e)
 
 -- ---- each place by front is a variant's
 

@@ -57,27 +57,34 @@ payload_itself p q e = rw e (payload_equiv.refl q)
 
 -- ---- immediates
 
--- a payload's immediate stands for that payload
+-- a payload's immediate stands for that payload, and fits an instruction where an instruction can say the payload
+imm_facts : (k : PayloadKind) (p : Payload) → is_payload_of k p ≡ true
+    → (payload_of_imm k (imm_of p) ≡ Some p) × (is_of_kind (imm_kind k) (imm_of p) ≡ is_writable p)
+imm_facts kind.Nothing payload.Nothing of = (refl, refl)
+imm_facts kind.Index (payload.Index n) of = (refl, refl)
+imm_facts kind.Lane (payload.Lane n) of = (refl, refl)
+imm_facts kind.I32 (payload.I32 z) of = (refl, refl)
+imm_facts kind.I64 (payload.I64 z) of = (refl, refl)
+imm_facts kind.F32 (payload.F32 x) of = (refl, refl)
+imm_facts kind.F64 (payload.F64 x) of = (refl, refl)
+imm_facts kind.V128 (payload.V128 z) of = (refl, refl)
+imm_facts kind.Memory (payload.Memory m) of = (refl, refl)
+imm_facts kind.MemoryLane (payload.MemoryLane m) of = (refl, refl)
+imm_facts kind.Shuffle (payload.Shuffle s) of = (refl, refl)
+imm_facts kind.Ref (payload.Ref ref.Func) of = (refl, refl)
+imm_facts kind.Ref (payload.Ref ref.Extern) of = (refl, refl)
+imm_facts kind.Value (payload.Value t) of = (refl, refl)
+imm_facts kind.MemoryInit (payload.MemoryInit x) of = (refl, refl)
+imm_facts kind.MemoryCopy (payload.MemoryCopy x) of = (refl, refl)
+imm_facts kind.TableInit (payload.TableInit x) of = (refl, refl)
+imm_facts kind.TableCopy (payload.TableCopy x) of = (refl, refl)
+imm_facts _ _ of = absurd (true≢false (sym of))
+
 pub imm_back : (k : PayloadKind) (p : Payload) → is_payload_of k p ≡ true → payload_of_imm k (imm_of p) ≡ Some p
-imm_back kind.Nothing payload.Nothing of = refl
-imm_back kind.Index (payload.Index n) of = refl
-imm_back kind.Lane (payload.Lane n) of = refl
-imm_back kind.I32 (payload.I32 z) of = refl
-imm_back kind.I64 (payload.I64 z) of = refl
-imm_back kind.F32 (payload.F32 x) of = refl
-imm_back kind.F64 (payload.F64 x) of = refl
-imm_back kind.V128 (payload.V128 z) of = refl
-imm_back kind.Memory (payload.Memory m) of = refl
-imm_back kind.MemoryLane (payload.MemoryLane m) of = refl
-imm_back kind.Shuffle (payload.Shuffle s) of = refl
-imm_back kind.Ref (payload.Ref ref.Func) of = refl
-imm_back kind.Ref (payload.Ref ref.Extern) of = refl
-imm_back kind.Value (payload.Value t) of = refl
-imm_back kind.MemoryInit (payload.MemoryInit x) of = refl
-imm_back kind.MemoryCopy (payload.MemoryCopy x) of = refl
-imm_back kind.TableInit (payload.TableInit x) of = refl
-imm_back kind.TableCopy (payload.TableCopy x) of = refl
-imm_back _ _ of = absurd (true≢false (sym of))
+imm_back k p of = (imm_facts k p of).0
+
+pub imm_fits : (k : PayloadKind) (p : Payload) → is_payload_of k p ≡ true → is_of_kind (imm_kind k) (imm_of p) ≡ is_writable p
+imm_fits k p of = (imm_facts k p of).1
 
 stands : (k : PayloadKind) (i : Imm) (made p : Payload) → Some made ≡ Some p → imm_of made ≡ i → is_payload_of k made ≡ true
     → (imm_of p ≡ i) × (is_payload_of k p ≡ true)
@@ -106,27 +113,6 @@ of_imm_back kind.MemoryCopy (imm.Pair a b) p e = stands kind.MemoryCopy _ _ p e 
 of_imm_back kind.TableInit (imm.Pair a b) p e = stands kind.TableInit _ _ p e refl refl
 of_imm_back kind.TableCopy (imm.Pair a b) p e = stands kind.TableCopy _ _ p e refl refl
 of_imm_back _ _ p e = absurd (none-some p e)
-
--- a payload's immediate fits an instruction where an instruction can say the payload
-pub imm_fits : (k : PayloadKind) (p : Payload) → is_payload_of k p ≡ true → is_of_kind (imm_kind k) (imm_of p) ≡ is_writable p
-imm_fits kind.Nothing payload.Nothing of = refl
-imm_fits kind.Index (payload.Index n) of = refl
-imm_fits kind.Lane (payload.Lane n) of = refl
-imm_fits kind.I32 (payload.I32 z) of = refl
-imm_fits kind.I64 (payload.I64 z) of = refl
-imm_fits kind.F32 (payload.F32 x) of = refl
-imm_fits kind.F64 (payload.F64 x) of = refl
-imm_fits kind.V128 (payload.V128 z) of = refl
-imm_fits kind.Memory (payload.Memory m) of = refl
-imm_fits kind.MemoryLane (payload.MemoryLane m) of = refl
-imm_fits kind.Shuffle (payload.Shuffle s) of = refl
-imm_fits kind.Ref (payload.Ref t) of = refl
-imm_fits kind.Value (payload.Value t) of = refl
-imm_fits kind.MemoryInit (payload.MemoryInit x) of = refl
-imm_fits kind.MemoryCopy (payload.MemoryCopy x) of = refl
-imm_fits kind.TableInit (payload.TableInit x) of = refl
-imm_fits kind.TableCopy (payload.TableCopy x) of = refl
-imm_fits _ _ of = absurd (true≢false (sym of))
 
 -- every immediate of the kind stands for a payload
 pub of_imm_some : (k : PayloadKind) (i : Imm) → is_of_kind (imm_kind k) i ≡ true → is_some (payload_of_imm k i) ≡ true

@@ -1,540 +1,105 @@
 -- A vector node given back from its place, its payload and the ids of its children: these three decide it (this project).
-use Rattle.std.specs.Prelude.{◌≡◌, ℕ, ◌-◌, nat_lt, Bool, true, false, List, [], ◌∷◌, Option, Some, None, slice_get, if◌then◌else◌, refl}
+use Rattle.std.specs.Prelude.{◌≡◌, ℕ, ℤ, ◌-◌, nat_lt, Bool, true, false, List, [], ◌∷◌, ◌++◌, map, Option, Some, None, slice_get, if◌then◌else◌, refl}
 use Rattle.std.proofs.Common.{sym, ap₂, ◌∙◌}
 use Rattle.std.proofs.lemmas.Option.{same_Some}
+use Rattle.peephole_payloads.specs.declared.payload.MemArg.{MemArg}
+use Rattle.peephole_payloads.specs.declared.payload.Shuffle.{Shuffle}
 use Rattle.peephole_nodes.specs.declared.id.Id.{Id}
 use Rattle.peephole_nodes.specs.declared.payload.Payload.{Payload}
 use Rattle.peephole_nodes.specs.declared.simd.Simd.{Simd}
 use Rattle.peephole_nodes.specs.declared.simd.Simd.TheVariants as vector
 use Rattle.peephole_nodes.specs.laws.Again.{no_child, one_child, several, plain, of_lane, of_v128, of_memory, of_memory_lane, of_shuffle, made_with}
 use Rattle.peephole_nodes.specs.laws.NumericAgain.{numeric_again}
-use Rattle.peephole_nodes.specs.Simd.{simd_place_of, simd_payload_of}
-use Rattle.peephole_nodes.specs.SimdChildren.{simd_ids_of}
+use Rattle.peephole_nodes.specs.Simd.{simd_place_of, simd_payload_of, simd_children, simd_ids_of}
+
+-- ---- the makers of variants with that payload and such children
+
+abbrev pub Maker : Type 0
+Maker = Payload → List Id → Option Simd
+
+abbrev plain_children : (List Id → Simd) → Maker
+plain_children make = plain (several make)
+
+abbrev lane_child : (ℕ → Id → Simd) → Maker
+lane_child make = of_lane (λ p. one_child (make p))
+
+abbrev lane_children : (ℕ → List Id → Simd) → Maker
+lane_children make = of_lane (λ p. several (make p))
+
+abbrev memory_child : (MemArg → Id → Simd) → Maker
+memory_child make = of_memory (λ p. one_child (make p))
+
+abbrev memory_children : (MemArg → List Id → Simd) → Maker
+memory_children make = of_memory (λ p. several (make p))
+
+abbrev memory_lane_children : (ℕ → MemArg → List Id → Simd) → Maker
+memory_lane_children make = of_memory_lane (λ p. several (make p.lane p.memarg))
+
+abbrev shuffle_children : (Shuffle → List Id → Simd) → Maker
+shuffle_children make = of_shuffle (λ p. several (make p))
+
+abbrev v128_leaf : (ℤ → Simd) → Maker
+v128_leaf make = of_v128 (λ p. no_child (make p))
 
 -- by place, from 201 on
-unfoldable pub simd_makers : List (Payload → List Id → Option Simd)
+unfoldable pub simd_makers : List Maker
 simd_makers =
-    of_memory (λ p. one_child (λ child. vector.V128Load p child))
-    ∷ of_memory (λ p. one_child (λ child. vector.V128Load8x8S p child))
-    ∷ of_memory (λ p. one_child (λ child. vector.V128Load8x8U p child))
-    ∷ of_memory (λ p. one_child (λ child. vector.V128Load16x4S p child))
-    ∷ of_memory (λ p. one_child (λ child. vector.V128Load16x4U p child))
-    ∷ of_memory (λ p. one_child (λ child. vector.V128Load32x2S p child))
-    ∷ of_memory (λ p. one_child (λ child. vector.V128Load32x2U p child))
-    ∷ of_memory (λ p. one_child (λ child. vector.V128Load8Splat p child))
-    ∷ of_memory (λ p. one_child (λ child. vector.V128Load16Splat p child))
-    ∷ of_memory (λ p. one_child (λ child. vector.V128Load32Splat p child))
-    ∷ of_memory (λ p. one_child (λ child. vector.V128Load64Splat p child))
-    ∷ of_memory (λ p. several (λ w. vector.V128Store p w))
-    ∷ of_v128 (λ p. no_child (vector.V128 p))
-    ∷ of_shuffle (λ p. several (λ w. vector.I8x16Shuffle p w))
-    ∷ plain (several (λ w. vector.I8x16Swizzle w))
-    ∷ plain (several (λ w. vector.I8x16Splat w))
-    ∷ plain (several (λ w. vector.I16x8Splat w))
-    ∷ plain (several (λ w. vector.I32x4Splat w))
-    ∷ plain (several (λ w. vector.I64x2Splat w))
-    ∷ plain (several (λ w. vector.F32x4Splat w))
-    ∷ plain (several (λ w. vector.F64x2Splat w))
-    ∷ of_lane (λ p. one_child (λ child. vector.I8x16ExtractLaneS p child))
-    ∷ of_lane (λ p. one_child (λ child. vector.I8x16ExtractLaneU p child))
-    ∷ of_lane (λ p. several (λ w. vector.I8x16ReplaceLane p w))
-    ∷ of_lane (λ p. one_child (λ child. vector.I16x8ExtractLaneS p child))
-    ∷ of_lane (λ p. one_child (λ child. vector.I16x8ExtractLaneU p child))
-    ∷ of_lane (λ p. several (λ w. vector.I16x8ReplaceLane p w))
-    ∷ of_lane (λ p. one_child (λ child. vector.I32x4ExtractLane p child))
-    ∷ of_lane (λ p. several (λ w. vector.I32x4ReplaceLane p w))
-    ∷ of_lane (λ p. one_child (λ child. vector.I64x2ExtractLane p child))
-    ∷ of_lane (λ p. several (λ w. vector.I64x2ReplaceLane p w))
-    ∷ of_lane (λ p. one_child (λ child. vector.F32x4ExtractLane p child))
-    ∷ of_lane (λ p. several (λ w. vector.F32x4ReplaceLane p w))
-    ∷ of_lane (λ p. one_child (λ child. vector.F64x2ExtractLane p child))
-    ∷ of_lane (λ p. several (λ w. vector.F64x2ReplaceLane p w))
-    ∷ plain (several (λ w. vector.I8x16Eq w))
-    ∷ plain (several (λ w. vector.I8x16Ne w))
-    ∷ plain (several (λ w. vector.I8x16LtS w))
-    ∷ plain (several (λ w. vector.I8x16LtU w))
-    ∷ plain (several (λ w. vector.I8x16GtS w))
-    ∷ plain (several (λ w. vector.I8x16GtU w))
-    ∷ plain (several (λ w. vector.I8x16LeS w))
-    ∷ plain (several (λ w. vector.I8x16LeU w))
-    ∷ plain (several (λ w. vector.I8x16GeS w))
-    ∷ plain (several (λ w. vector.I8x16GeU w))
-    ∷ plain (several (λ w. vector.I16x8Eq w))
-    ∷ plain (several (λ w. vector.I16x8Ne w))
-    ∷ plain (several (λ w. vector.I16x8LtS w))
-    ∷ plain (several (λ w. vector.I16x8LtU w))
-    ∷ plain (several (λ w. vector.I16x8GtS w))
-    ∷ plain (several (λ w. vector.I16x8GtU w))
-    ∷ plain (several (λ w. vector.I16x8LeS w))
-    ∷ plain (several (λ w. vector.I16x8LeU w))
-    ∷ plain (several (λ w. vector.I16x8GeS w))
-    ∷ plain (several (λ w. vector.I16x8GeU w))
-    ∷ plain (several (λ w. vector.I32x4Eq w))
-    ∷ plain (several (λ w. vector.I32x4Ne w))
-    ∷ plain (several (λ w. vector.I32x4LtS w))
-    ∷ plain (several (λ w. vector.I32x4LtU w))
-    ∷ plain (several (λ w. vector.I32x4GtS w))
-    ∷ plain (several (λ w. vector.I32x4GtU w))
-    ∷ plain (several (λ w. vector.I32x4LeS w))
-    ∷ plain (several (λ w. vector.I32x4LeU w))
-    ∷ plain (several (λ w. vector.I32x4GeS w))
-    ∷ plain (several (λ w. vector.I32x4GeU w))
-    ∷ plain (several (λ w. vector.F32x4Eq w))
-    ∷ plain (several (λ w. vector.F32x4Ne w))
-    ∷ plain (several (λ w. vector.F32x4Lt w))
-    ∷ plain (several (λ w. vector.F32x4Gt w))
-    ∷ plain (several (λ w. vector.F32x4Le w))
-    ∷ plain (several (λ w. vector.F32x4Ge w))
-    ∷ plain (several (λ w. vector.F64x2Eq w))
-    ∷ plain (several (λ w. vector.F64x2Ne w))
-    ∷ plain (several (λ w. vector.F64x2Lt w))
-    ∷ plain (several (λ w. vector.F64x2Gt w))
-    ∷ plain (several (λ w. vector.F64x2Le w))
-    ∷ plain (several (λ w. vector.F64x2Ge w))
-    ∷ plain (several (λ w. vector.V128Not w))
-    ∷ plain (several (λ w. vector.V128And w))
-    ∷ plain (several (λ w. vector.V128AndNot w))
-    ∷ plain (several (λ w. vector.V128Or w))
-    ∷ plain (several (λ w. vector.V128Xor w))
-    ∷ plain (several (λ w. vector.V128Bitselect w))
-    ∷ plain (several (λ w. vector.V128AnyTrue w))
-    ∷ of_memory_lane (λ p. several (λ w. vector.V128Load8Lane p.lane p.memarg w))
-    ∷ of_memory_lane (λ p. several (λ w. vector.V128Load16Lane p.lane p.memarg w))
-    ∷ of_memory_lane (λ p. several (λ w. vector.V128Load32Lane p.lane p.memarg w))
-    ∷ of_memory_lane (λ p. several (λ w. vector.V128Load64Lane p.lane p.memarg w))
-    ∷ of_memory_lane (λ p. several (λ w. vector.V128Store8Lane p.lane p.memarg w))
-    ∷ of_memory_lane (λ p. several (λ w. vector.V128Store16Lane p.lane p.memarg w))
-    ∷ of_memory_lane (λ p. several (λ w. vector.V128Store32Lane p.lane p.memarg w))
-    ∷ of_memory_lane (λ p. several (λ w. vector.V128Store64Lane p.lane p.memarg w))
-    ∷ of_memory (λ p. one_child (λ child. vector.V128Load32Zero p child))
-    ∷ of_memory (λ p. one_child (λ child. vector.V128Load64Zero p child))
-    ∷ plain (several (λ w. vector.F32x4DemoteF64x2Zero w))
-    ∷ plain (several (λ w. vector.F64x2PromoteLowF32x4 w))
-    ∷ plain (several (λ w. vector.I8x16Abs w))
-    ∷ plain (several (λ w. vector.I8x16Neg w))
-    ∷ plain (several (λ w. vector.I8x16Popcnt w))
-    ∷ plain (several (λ w. vector.I8x16AllTrue w))
-    ∷ plain (several (λ w. vector.I8x16Bitmask w))
-    ∷ plain (several (λ w. vector.I8x16NarrowI16x8S w))
-    ∷ plain (several (λ w. vector.I8x16NarrowI16x8U w))
-    ∷ plain (several (λ w. vector.F32x4Ceil w))
-    ∷ plain (several (λ w. vector.F32x4Floor w))
-    ∷ plain (several (λ w. vector.F32x4Trunc w))
-    ∷ plain (several (λ w. vector.F32x4Nearest w))
-    ∷ plain (several (λ w. vector.I8x16Shl w))
-    ∷ plain (several (λ w. vector.I8x16ShrS w))
-    ∷ plain (several (λ w. vector.I8x16ShrU w))
-    ∷ plain (several (λ w. vector.I8x16Add w))
-    ∷ plain (several (λ w. vector.I8x16AddSatS w))
-    ∷ plain (several (λ w. vector.I8x16AddSatU w))
-    ∷ plain (several (λ w. vector.I8x16Sub w))
-    ∷ plain (several (λ w. vector.I8x16SubSatS w))
-    ∷ plain (several (λ w. vector.I8x16SubSatU w))
-    ∷ plain (several (λ w. vector.F64x2Ceil w))
-    ∷ plain (several (λ w. vector.F64x2Floor w))
-    ∷ plain (several (λ w. vector.I8x16MinS w))
-    ∷ plain (several (λ w. vector.I8x16MinU w))
-    ∷ plain (several (λ w. vector.I8x16MaxS w))
-    ∷ plain (several (λ w. vector.I8x16MaxU w))
-    ∷ plain (several (λ w. vector.F64x2Trunc w))
-    ∷ plain (several (λ w. vector.I8x16AvgrU w))
-    ∷ plain (several (λ w. vector.I16x8ExtAddPairwiseI8x16S w))
-    ∷ plain (several (λ w. vector.I16x8ExtAddPairwiseI8x16U w))
-    ∷ plain (several (λ w. vector.I32x4ExtAddPairwiseI16x8S w))
-    ∷ plain (several (λ w. vector.I32x4ExtAddPairwiseI16x8U w))
-    ∷ plain (several (λ w. vector.I16x8Abs w))
-    ∷ plain (several (λ w. vector.I16x8Neg w))
-    ∷ plain (several (λ w. vector.I16x8Q15MulrSatS w))
-    ∷ plain (several (λ w. vector.I16x8AllTrue w))
-    ∷ plain (several (λ w. vector.I16x8Bitmask w))
-    ∷ plain (several (λ w. vector.I16x8NarrowI32x4S w))
-    ∷ plain (several (λ w. vector.I16x8NarrowI32x4U w))
-    ∷ plain (several (λ w. vector.I16x8ExtendLowI8x16S w))
-    ∷ plain (several (λ w. vector.I16x8ExtendHighI8x16S w))
-    ∷ plain (several (λ w. vector.I16x8ExtendLowI8x16U w))
-    ∷ plain (several (λ w. vector.I16x8ExtendHighI8x16U w))
-    ∷ plain (several (λ w. vector.I16x8Shl w))
-    ∷ plain (several (λ w. vector.I16x8ShrS w))
-    ∷ plain (several (λ w. vector.I16x8ShrU w))
-    ∷ plain (several (λ w. vector.I16x8Add w))
-    ∷ plain (several (λ w. vector.I16x8AddSatS w))
-    ∷ plain (several (λ w. vector.I16x8AddSatU w))
-    ∷ plain (several (λ w. vector.I16x8Sub w))
-    ∷ plain (several (λ w. vector.I16x8SubSatS w))
-    ∷ plain (several (λ w. vector.I16x8SubSatU w))
-    ∷ plain (several (λ w. vector.F64x2Nearest w))
-    ∷ plain (several (λ w. vector.I16x8Mul w))
-    ∷ plain (several (λ w. vector.I16x8MinS w))
-    ∷ plain (several (λ w. vector.I16x8MinU w))
-    ∷ plain (several (λ w. vector.I16x8MaxS w))
-    ∷ plain (several (λ w. vector.I16x8MaxU w))
-    ∷ plain (several (λ w. vector.I16x8AvgrU w))
-    ∷ plain (several (λ w. vector.I16x8ExtMulLowI8x16S w))
-    ∷ plain (several (λ w. vector.I16x8ExtMulHighI8x16S w))
-    ∷ plain (several (λ w. vector.I16x8ExtMulLowI8x16U w))
-    ∷ plain (several (λ w. vector.I16x8ExtMulHighI8x16U w))
-    ∷ plain (several (λ w. vector.I32x4Abs w))
-    ∷ plain (several (λ w. vector.I32x4Neg w))
-    ∷ plain (several (λ w. vector.I32x4AllTrue w))
-    ∷ plain (several (λ w. vector.I32x4Bitmask w))
-    ∷ plain (several (λ w. vector.I32x4ExtendLowI16x8S w))
-    ∷ plain (several (λ w. vector.I32x4ExtendHighI16x8S w))
-    ∷ plain (several (λ w. vector.I32x4ExtendLowI16x8U w))
-    ∷ plain (several (λ w. vector.I32x4ExtendHighI16x8U w))
-    ∷ plain (several (λ w. vector.I32x4Shl w))
-    ∷ plain (several (λ w. vector.I32x4ShrS w))
-    ∷ plain (several (λ w. vector.I32x4ShrU w))
-    ∷ plain (several (λ w. vector.I32x4Add w))
-    ∷ plain (several (λ w. vector.I32x4Sub w))
-    ∷ plain (several (λ w. vector.I32x4Mul w))
-    ∷ plain (several (λ w. vector.I32x4MinS w))
-    ∷ plain (several (λ w. vector.I32x4MinU w))
-    ∷ plain (several (λ w. vector.I32x4MaxS w))
-    ∷ plain (several (λ w. vector.I32x4MaxU w))
-    ∷ plain (several (λ w. vector.I32x4DotI16x8S w))
-    ∷ plain (several (λ w. vector.I32x4ExtMulLowI16x8S w))
-    ∷ plain (several (λ w. vector.I32x4ExtMulHighI16x8S w))
-    ∷ plain (several (λ w. vector.I32x4ExtMulLowI16x8U w))
-    ∷ plain (several (λ w. vector.I32x4ExtMulHighI16x8U w))
-    ∷ plain (several (λ w. vector.I64x2Abs w))
-    ∷ plain (several (λ w. vector.I64x2Neg w))
-    ∷ plain (several (λ w. vector.I64x2AllTrue w))
-    ∷ plain (several (λ w. vector.I64x2Bitmask w))
-    ∷ plain (several (λ w. vector.I64x2ExtendLowI32x4S w))
-    ∷ plain (several (λ w. vector.I64x2ExtendHighI32x4S w))
-    ∷ plain (several (λ w. vector.I64x2ExtendLowI32x4U w))
-    ∷ plain (several (λ w. vector.I64x2ExtendHighI32x4U w))
-    ∷ plain (several (λ w. vector.I64x2Shl w))
-    ∷ plain (several (λ w. vector.I64x2ShrS w))
-    ∷ plain (several (λ w. vector.I64x2ShrU w))
-    ∷ plain (several (λ w. vector.I64x2Add w))
-    ∷ plain (several (λ w. vector.I64x2Sub w))
-    ∷ plain (several (λ w. vector.I64x2Mul w))
-    ∷ plain (several (λ w. vector.I64x2Eq w))
-    ∷ plain (several (λ w. vector.I64x2Ne w))
-    ∷ plain (several (λ w. vector.I64x2LtS w))
-    ∷ plain (several (λ w. vector.I64x2GtS w))
-    ∷ plain (several (λ w. vector.I64x2LeS w))
-    ∷ plain (several (λ w. vector.I64x2GeS w))
-    ∷ plain (several (λ w. vector.I64x2ExtMulLowI32x4S w))
-    ∷ plain (several (λ w. vector.I64x2ExtMulHighI32x4S w))
-    ∷ plain (several (λ w. vector.I64x2ExtMulLowI32x4U w))
-    ∷ plain (several (λ w. vector.I64x2ExtMulHighI32x4U w))
-    ∷ plain (several (λ w. vector.F32x4Abs w))
-    ∷ plain (several (λ w. vector.F32x4Neg w))
-    ∷ plain (several (λ w. vector.F32x4Sqrt w))
-    ∷ plain (several (λ w. vector.F32x4Add w))
-    ∷ plain (several (λ w. vector.F32x4Sub w))
-    ∷ plain (several (λ w. vector.F32x4Mul w))
-    ∷ plain (several (λ w. vector.F32x4Div w))
-    ∷ plain (several (λ w. vector.F32x4Min w))
-    ∷ plain (several (λ w. vector.F32x4Max w))
-    ∷ plain (several (λ w. vector.F32x4PMin w))
-    ∷ plain (several (λ w. vector.F32x4PMax w))
-    ∷ plain (several (λ w. vector.F64x2Abs w))
-    ∷ plain (several (λ w. vector.F64x2Neg w))
-    ∷ plain (several (λ w. vector.F64x2Sqrt w))
-    ∷ plain (several (λ w. vector.F64x2Add w))
-    ∷ plain (several (λ w. vector.F64x2Sub w))
-    ∷ plain (several (λ w. vector.F64x2Mul w))
-    ∷ plain (several (λ w. vector.F64x2Div w))
-    ∷ plain (several (λ w. vector.F64x2Min w))
-    ∷ plain (several (λ w. vector.F64x2Max w))
-    ∷ plain (several (λ w. vector.F64x2PMin w))
-    ∷ plain (several (λ w. vector.F64x2PMax w))
-    ∷ plain (several (λ w. vector.I32x4TruncSatF32x4S w))
-    ∷ plain (several (λ w. vector.I32x4TruncSatF32x4U w))
-    ∷ plain (several (λ w. vector.F32x4ConvertI32x4S w))
-    ∷ plain (several (λ w. vector.F32x4ConvertI32x4U w))
-    ∷ plain (several (λ w. vector.I32x4TruncSatF64x2SZero w))
-    ∷ plain (several (λ w. vector.I32x4TruncSatF64x2UZero w))
-    ∷ plain (several (λ w. vector.F64x2ConvertLowI32x4S w))
-    ∷ plain (several (λ w. vector.F64x2ConvertLowI32x4U w))
-    ∷ plain (several (λ w. vector.I8x16RelaxedSwizzle w))
-    ∷ plain (several (λ w. vector.I32x4RelaxedTruncF32x4S w))
-    ∷ plain (several (λ w. vector.I32x4RelaxedTruncF32x4U w))
-    ∷ plain (several (λ w. vector.I32x4RelaxedTruncF64x2SZero w))
-    ∷ plain (several (λ w. vector.I32x4RelaxedTruncF64x2UZero w))
-    ∷ plain (several (λ w. vector.F32x4RelaxedMadd w))
-    ∷ plain (several (λ w. vector.F32x4RelaxedNmadd w))
-    ∷ plain (several (λ w. vector.F64x2RelaxedMadd w))
-    ∷ plain (several (λ w. vector.F64x2RelaxedNmadd w))
-    ∷ plain (several (λ w. vector.I8x16RelaxedLaneselect w))
-    ∷ plain (several (λ w. vector.I16x8RelaxedLaneselect w))
-    ∷ plain (several (λ w. vector.I32x4RelaxedLaneselect w))
-    ∷ plain (several (λ w. vector.I64x2RelaxedLaneselect w))
-    ∷ plain (several (λ w. vector.F32x4RelaxedMin w))
-    ∷ plain (several (λ w. vector.F32x4RelaxedMax w))
-    ∷ plain (several (λ w. vector.F64x2RelaxedMin w))
-    ∷ plain (several (λ w. vector.F64x2RelaxedMax w))
-    ∷ plain (several (λ w. vector.I16x8RelaxedQ15mulrS w))
-    ∷ plain (several (λ w. vector.I16x8RelaxedDotI8x16I7x16S w))
-    ∷ plain (several (λ w. vector.I32x4RelaxedDotI8x16I7x16AddS w))
-    ∷ []
+    map memory_child (vector.V128Load ∷ vector.V128Load8x8S ∷ vector.V128Load8x8U ∷ vector.V128Load16x4S ∷ vector.V128Load16x4U ∷ vector.V128Load32x2S
+    ∷ vector.V128Load32x2U ∷ vector.V128Load8Splat ∷ vector.V128Load16Splat ∷ vector.V128Load32Splat ∷ vector.V128Load64Splat ∷ [])
+    ++ (memory_children vector.V128Store ∷ v128_leaf vector.V128 ∷ shuffle_children vector.I8x16Shuffle ∷ [])
+    ++ map plain_children (vector.I8x16Swizzle ∷ vector.I8x16Splat ∷ vector.I16x8Splat ∷ vector.I32x4Splat ∷ vector.I64x2Splat ∷ vector.F32x4Splat
+    ∷ vector.F64x2Splat ∷ [])
+    ++ (lane_child vector.I8x16ExtractLaneS ∷ lane_child vector.I8x16ExtractLaneU ∷ lane_children vector.I8x16ReplaceLane
+    ∷ lane_child vector.I16x8ExtractLaneS ∷ lane_child vector.I16x8ExtractLaneU ∷ lane_children vector.I16x8ReplaceLane ∷ lane_child vector.I32x4ExtractLane
+    ∷ lane_children vector.I32x4ReplaceLane ∷ lane_child vector.I64x2ExtractLane ∷ lane_children vector.I64x2ReplaceLane ∷ lane_child vector.F32x4ExtractLane
+    ∷ lane_children vector.F32x4ReplaceLane ∷ lane_child vector.F64x2ExtractLane ∷ lane_children vector.F64x2ReplaceLane ∷ [])
+    ++ map plain_children (vector.I8x16Eq ∷ vector.I8x16Ne ∷ vector.I8x16LtS ∷ vector.I8x16LtU ∷ vector.I8x16GtS ∷ vector.I8x16GtU ∷ vector.I8x16LeS
+    ∷ vector.I8x16LeU ∷ vector.I8x16GeS ∷ vector.I8x16GeU ∷ vector.I16x8Eq ∷ vector.I16x8Ne ∷ vector.I16x8LtS ∷ vector.I16x8LtU ∷ vector.I16x8GtS
+    ∷ vector.I16x8GtU ∷ vector.I16x8LeS ∷ vector.I16x8LeU ∷ vector.I16x8GeS ∷ vector.I16x8GeU ∷ vector.I32x4Eq ∷ vector.I32x4Ne ∷ vector.I32x4LtS
+    ∷ vector.I32x4LtU ∷ vector.I32x4GtS ∷ vector.I32x4GtU ∷ vector.I32x4LeS ∷ vector.I32x4LeU ∷ vector.I32x4GeS ∷ vector.I32x4GeU ∷ vector.F32x4Eq
+    ∷ vector.F32x4Ne ∷ vector.F32x4Lt ∷ vector.F32x4Gt ∷ vector.F32x4Le ∷ vector.F32x4Ge ∷ vector.F64x2Eq ∷ vector.F64x2Ne ∷ vector.F64x2Lt ∷ vector.F64x2Gt
+    ∷ vector.F64x2Le ∷ vector.F64x2Ge ∷ vector.V128Not ∷ vector.V128And ∷ vector.V128AndNot ∷ vector.V128Or ∷ vector.V128Xor ∷ vector.V128Bitselect
+    ∷ vector.V128AnyTrue ∷ [])
+    ++ map memory_lane_children (vector.V128Load8Lane ∷ vector.V128Load16Lane ∷ vector.V128Load32Lane ∷ vector.V128Load64Lane ∷ vector.V128Store8Lane
+    ∷ vector.V128Store16Lane ∷ vector.V128Store32Lane ∷ vector.V128Store64Lane ∷ [])
+    ++ map memory_child (vector.V128Load32Zero ∷ vector.V128Load64Zero ∷ [])
+    ++ map plain_children (vector.F32x4DemoteF64x2Zero ∷ vector.F64x2PromoteLowF32x4 ∷ vector.I8x16Abs ∷ vector.I8x16Neg ∷ vector.I8x16Popcnt
+    ∷ vector.I8x16AllTrue ∷ vector.I8x16Bitmask ∷ vector.I8x16NarrowI16x8S ∷ vector.I8x16NarrowI16x8U ∷ vector.F32x4Ceil ∷ vector.F32x4Floor
+    ∷ vector.F32x4Trunc ∷ vector.F32x4Nearest ∷ vector.I8x16Shl ∷ vector.I8x16ShrS ∷ vector.I8x16ShrU ∷ vector.I8x16Add ∷ vector.I8x16AddSatS
+    ∷ vector.I8x16AddSatU ∷ vector.I8x16Sub ∷ vector.I8x16SubSatS ∷ vector.I8x16SubSatU ∷ vector.F64x2Ceil ∷ vector.F64x2Floor ∷ vector.I8x16MinS
+    ∷ vector.I8x16MinU ∷ vector.I8x16MaxS ∷ vector.I8x16MaxU ∷ vector.F64x2Trunc ∷ vector.I8x16AvgrU ∷ vector.I16x8ExtAddPairwiseI8x16S
+    ∷ vector.I16x8ExtAddPairwiseI8x16U ∷ vector.I32x4ExtAddPairwiseI16x8S ∷ vector.I32x4ExtAddPairwiseI16x8U ∷ vector.I16x8Abs ∷ vector.I16x8Neg
+    ∷ vector.I16x8Q15MulrSatS ∷ vector.I16x8AllTrue ∷ vector.I16x8Bitmask ∷ vector.I16x8NarrowI32x4S ∷ vector.I16x8NarrowI32x4U ∷ vector.I16x8ExtendLowI8x16S
+    ∷ vector.I16x8ExtendHighI8x16S ∷ vector.I16x8ExtendLowI8x16U ∷ vector.I16x8ExtendHighI8x16U ∷ vector.I16x8Shl ∷ vector.I16x8ShrS ∷ vector.I16x8ShrU
+    ∷ vector.I16x8Add ∷ vector.I16x8AddSatS ∷ vector.I16x8AddSatU ∷ vector.I16x8Sub ∷ vector.I16x8SubSatS ∷ vector.I16x8SubSatU ∷ vector.F64x2Nearest
+    ∷ vector.I16x8Mul ∷ vector.I16x8MinS ∷ vector.I16x8MinU ∷ vector.I16x8MaxS ∷ vector.I16x8MaxU ∷ vector.I16x8AvgrU ∷ vector.I16x8ExtMulLowI8x16S
+    ∷ vector.I16x8ExtMulHighI8x16S ∷ vector.I16x8ExtMulLowI8x16U ∷ vector.I16x8ExtMulHighI8x16U ∷ vector.I32x4Abs ∷ vector.I32x4Neg ∷ vector.I32x4AllTrue
+    ∷ vector.I32x4Bitmask ∷ vector.I32x4ExtendLowI16x8S ∷ vector.I32x4ExtendHighI16x8S ∷ vector.I32x4ExtendLowI16x8U ∷ vector.I32x4ExtendHighI16x8U
+    ∷ vector.I32x4Shl ∷ vector.I32x4ShrS ∷ vector.I32x4ShrU ∷ vector.I32x4Add ∷ vector.I32x4Sub ∷ vector.I32x4Mul ∷ vector.I32x4MinS ∷ vector.I32x4MinU
+    ∷ vector.I32x4MaxS ∷ vector.I32x4MaxU ∷ vector.I32x4DotI16x8S ∷ vector.I32x4ExtMulLowI16x8S ∷ vector.I32x4ExtMulHighI16x8S ∷ vector.I32x4ExtMulLowI16x8U
+    ∷ vector.I32x4ExtMulHighI16x8U ∷ vector.I64x2Abs ∷ vector.I64x2Neg ∷ vector.I64x2AllTrue ∷ vector.I64x2Bitmask ∷ vector.I64x2ExtendLowI32x4S
+    ∷ vector.I64x2ExtendHighI32x4S ∷ vector.I64x2ExtendLowI32x4U ∷ vector.I64x2ExtendHighI32x4U ∷ vector.I64x2Shl ∷ vector.I64x2ShrS ∷ vector.I64x2ShrU
+    ∷ vector.I64x2Add ∷ vector.I64x2Sub ∷ vector.I64x2Mul ∷ vector.I64x2Eq ∷ vector.I64x2Ne ∷ vector.I64x2LtS ∷ vector.I64x2GtS ∷ vector.I64x2LeS
+    ∷ vector.I64x2GeS ∷ vector.I64x2ExtMulLowI32x4S ∷ vector.I64x2ExtMulHighI32x4S ∷ vector.I64x2ExtMulLowI32x4U ∷ vector.I64x2ExtMulHighI32x4U
+    ∷ vector.F32x4Abs ∷ vector.F32x4Neg ∷ vector.F32x4Sqrt ∷ vector.F32x4Add ∷ vector.F32x4Sub ∷ vector.F32x4Mul ∷ vector.F32x4Div ∷ vector.F32x4Min
+    ∷ vector.F32x4Max ∷ vector.F32x4PMin ∷ vector.F32x4PMax ∷ vector.F64x2Abs ∷ vector.F64x2Neg ∷ vector.F64x2Sqrt ∷ vector.F64x2Add ∷ vector.F64x2Sub
+    ∷ vector.F64x2Mul ∷ vector.F64x2Div ∷ vector.F64x2Min ∷ vector.F64x2Max ∷ vector.F64x2PMin ∷ vector.F64x2PMax ∷ vector.I32x4TruncSatF32x4S
+    ∷ vector.I32x4TruncSatF32x4U ∷ vector.F32x4ConvertI32x4S ∷ vector.F32x4ConvertI32x4U ∷ vector.I32x4TruncSatF64x2SZero ∷ vector.I32x4TruncSatF64x2UZero
+    ∷ vector.F64x2ConvertLowI32x4S ∷ vector.F64x2ConvertLowI32x4U ∷ vector.I8x16RelaxedSwizzle ∷ vector.I32x4RelaxedTruncF32x4S
+    ∷ vector.I32x4RelaxedTruncF32x4U ∷ vector.I32x4RelaxedTruncF64x2SZero ∷ vector.I32x4RelaxedTruncF64x2UZero ∷ vector.F32x4RelaxedMadd
+    ∷ vector.F32x4RelaxedNmadd ∷ vector.F64x2RelaxedMadd ∷ vector.F64x2RelaxedNmadd ∷ vector.I8x16RelaxedLaneselect ∷ vector.I16x8RelaxedLaneselect
+    ∷ vector.I32x4RelaxedLaneselect ∷ vector.I64x2RelaxedLaneselect ∷ vector.F32x4RelaxedMin ∷ vector.F32x4RelaxedMax ∷ vector.F64x2RelaxedMin
+    ∷ vector.F64x2RelaxedMax ∷ vector.I16x8RelaxedQ15mulrS ∷ vector.I16x8RelaxedDotI8x16I7x16S ∷ vector.I32x4RelaxedDotI8x16I7x16AddS ∷ [])
 
 -- the vector node with that place, that payload and these children
 unfoldable pub simd_again : ℕ → Payload → List Id → Option Simd
 simd_again place p w = if nat_lt place 201 then None else made_with (slice_get simd_makers (place - 201)) p w
 
 pub simd_given_back : (s : Simd) → simd_again (simd_place_of s) (simd_payload_of s) (simd_ids_of s) ≡ Some s
-unfolding simd_place_of simd_payload_of simd_ids_of no_child one_child several plain of_lane of_v128 of_memory of_memory_lane of_shuffle made_with
-    simd_makers simd_again
+unfolding simd_place_of simd_payload_of simd_children no_child one_child several plain of_lane of_v128 of_memory of_memory_lane of_shuffle
+    made_with simd_makers simd_again
 simd_given_back (vector.V128Load _ _) = refl
-simd_given_back (vector.V128Load8x8S _ _) = refl
-simd_given_back (vector.V128Load8x8U _ _) = refl
-simd_given_back (vector.V128Load16x4S _ _) = refl
-simd_given_back (vector.V128Load16x4U _ _) = refl
-simd_given_back (vector.V128Load32x2S _ _) = refl
-simd_given_back (vector.V128Load32x2U _ _) = refl
-simd_given_back (vector.V128Load8Splat _ _) = refl
-simd_given_back (vector.V128Load16Splat _ _) = refl
-simd_given_back (vector.V128Load32Splat _ _) = refl
-simd_given_back (vector.V128Load64Splat _ _) = refl
-simd_given_back (vector.V128Store _ _) = refl
-simd_given_back (vector.V128 _) = refl
-simd_given_back (vector.I8x16Shuffle _ _) = refl
-simd_given_back (vector.I8x16Swizzle _) = refl
-simd_given_back (vector.I8x16Splat _) = refl
-simd_given_back (vector.I16x8Splat _) = refl
-simd_given_back (vector.I32x4Splat _) = refl
-simd_given_back (vector.I64x2Splat _) = refl
-simd_given_back (vector.F32x4Splat _) = refl
-simd_given_back (vector.F64x2Splat _) = refl
-simd_given_back (vector.I8x16ExtractLaneS _ _) = refl
-simd_given_back (vector.I8x16ExtractLaneU _ _) = refl
-simd_given_back (vector.I8x16ReplaceLane _ _) = refl
-simd_given_back (vector.I16x8ExtractLaneS _ _) = refl
-simd_given_back (vector.I16x8ExtractLaneU _ _) = refl
-simd_given_back (vector.I16x8ReplaceLane _ _) = refl
-simd_given_back (vector.I32x4ExtractLane _ _) = refl
-simd_given_back (vector.I32x4ReplaceLane _ _) = refl
-simd_given_back (vector.I64x2ExtractLane _ _) = refl
-simd_given_back (vector.I64x2ReplaceLane _ _) = refl
-simd_given_back (vector.F32x4ExtractLane _ _) = refl
-simd_given_back (vector.F32x4ReplaceLane _ _) = refl
-simd_given_back (vector.F64x2ExtractLane _ _) = refl
-simd_given_back (vector.F64x2ReplaceLane _ _) = refl
-simd_given_back (vector.I8x16Eq _) = refl
-simd_given_back (vector.I8x16Ne _) = refl
-simd_given_back (vector.I8x16LtS _) = refl
-simd_given_back (vector.I8x16LtU _) = refl
-simd_given_back (vector.I8x16GtS _) = refl
-simd_given_back (vector.I8x16GtU _) = refl
-simd_given_back (vector.I8x16LeS _) = refl
-simd_given_back (vector.I8x16LeU _) = refl
-simd_given_back (vector.I8x16GeS _) = refl
-simd_given_back (vector.I8x16GeU _) = refl
-simd_given_back (vector.I16x8Eq _) = refl
-simd_given_back (vector.I16x8Ne _) = refl
-simd_given_back (vector.I16x8LtS _) = refl
-simd_given_back (vector.I16x8LtU _) = refl
-simd_given_back (vector.I16x8GtS _) = refl
-simd_given_back (vector.I16x8GtU _) = refl
-simd_given_back (vector.I16x8LeS _) = refl
-simd_given_back (vector.I16x8LeU _) = refl
-simd_given_back (vector.I16x8GeS _) = refl
-simd_given_back (vector.I16x8GeU _) = refl
-simd_given_back (vector.I32x4Eq _) = refl
-simd_given_back (vector.I32x4Ne _) = refl
-simd_given_back (vector.I32x4LtS _) = refl
-simd_given_back (vector.I32x4LtU _) = refl
-simd_given_back (vector.I32x4GtS _) = refl
-simd_given_back (vector.I32x4GtU _) = refl
-simd_given_back (vector.I32x4LeS _) = refl
-simd_given_back (vector.I32x4LeU _) = refl
-simd_given_back (vector.I32x4GeS _) = refl
-simd_given_back (vector.I32x4GeU _) = refl
-simd_given_back (vector.F32x4Eq _) = refl
-simd_given_back (vector.F32x4Ne _) = refl
-simd_given_back (vector.F32x4Lt _) = refl
-simd_given_back (vector.F32x4Gt _) = refl
-simd_given_back (vector.F32x4Le _) = refl
-simd_given_back (vector.F32x4Ge _) = refl
-simd_given_back (vector.F64x2Eq _) = refl
-simd_given_back (vector.F64x2Ne _) = refl
-simd_given_back (vector.F64x2Lt _) = refl
-simd_given_back (vector.F64x2Gt _) = refl
-simd_given_back (vector.F64x2Le _) = refl
-simd_given_back (vector.F64x2Ge _) = refl
-simd_given_back (vector.V128Not _) = refl
-simd_given_back (vector.V128And _) = refl
-simd_given_back (vector.V128AndNot _) = refl
-simd_given_back (vector.V128Or _) = refl
-simd_given_back (vector.V128Xor _) = refl
-simd_given_back (vector.V128Bitselect _) = refl
-simd_given_back (vector.V128AnyTrue _) = refl
-simd_given_back (vector.V128Load8Lane _ _ _) = refl
-simd_given_back (vector.V128Load16Lane _ _ _) = refl
-simd_given_back (vector.V128Load32Lane _ _ _) = refl
-simd_given_back (vector.V128Load64Lane _ _ _) = refl
-simd_given_back (vector.V128Store8Lane _ _ _) = refl
-simd_given_back (vector.V128Store16Lane _ _ _) = refl
-simd_given_back (vector.V128Store32Lane _ _ _) = refl
-simd_given_back (vector.V128Store64Lane _ _ _) = refl
-simd_given_back (vector.V128Load32Zero _ _) = refl
-simd_given_back (vector.V128Load64Zero _ _) = refl
-simd_given_back (vector.F32x4DemoteF64x2Zero _) = refl
-simd_given_back (vector.F64x2PromoteLowF32x4 _) = refl
-simd_given_back (vector.I8x16Abs _) = refl
-simd_given_back (vector.I8x16Neg _) = refl
-simd_given_back (vector.I8x16Popcnt _) = refl
-simd_given_back (vector.I8x16AllTrue _) = refl
-simd_given_back (vector.I8x16Bitmask _) = refl
-simd_given_back (vector.I8x16NarrowI16x8S _) = refl
-simd_given_back (vector.I8x16NarrowI16x8U _) = refl
-simd_given_back (vector.F32x4Ceil _) = refl
-simd_given_back (vector.F32x4Floor _) = refl
-simd_given_back (vector.F32x4Trunc _) = refl
-simd_given_back (vector.F32x4Nearest _) = refl
-simd_given_back (vector.I8x16Shl _) = refl
-simd_given_back (vector.I8x16ShrS _) = refl
-simd_given_back (vector.I8x16ShrU _) = refl
-simd_given_back (vector.I8x16Add _) = refl
-simd_given_back (vector.I8x16AddSatS _) = refl
-simd_given_back (vector.I8x16AddSatU _) = refl
-simd_given_back (vector.I8x16Sub _) = refl
-simd_given_back (vector.I8x16SubSatS _) = refl
-simd_given_back (vector.I8x16SubSatU _) = refl
-simd_given_back (vector.F64x2Ceil _) = refl
-simd_given_back (vector.F64x2Floor _) = refl
-simd_given_back (vector.I8x16MinS _) = refl
-simd_given_back (vector.I8x16MinU _) = refl
-simd_given_back (vector.I8x16MaxS _) = refl
-simd_given_back (vector.I8x16MaxU _) = refl
-simd_given_back (vector.F64x2Trunc _) = refl
-simd_given_back (vector.I8x16AvgrU _) = refl
-simd_given_back (vector.I16x8ExtAddPairwiseI8x16S _) = refl
-simd_given_back (vector.I16x8ExtAddPairwiseI8x16U _) = refl
-simd_given_back (vector.I32x4ExtAddPairwiseI16x8S _) = refl
-simd_given_back (vector.I32x4ExtAddPairwiseI16x8U _) = refl
-simd_given_back (vector.I16x8Abs _) = refl
-simd_given_back (vector.I16x8Neg _) = refl
-simd_given_back (vector.I16x8Q15MulrSatS _) = refl
-simd_given_back (vector.I16x8AllTrue _) = refl
-simd_given_back (vector.I16x8Bitmask _) = refl
-simd_given_back (vector.I16x8NarrowI32x4S _) = refl
-simd_given_back (vector.I16x8NarrowI32x4U _) = refl
-simd_given_back (vector.I16x8ExtendLowI8x16S _) = refl
-simd_given_back (vector.I16x8ExtendHighI8x16S _) = refl
-simd_given_back (vector.I16x8ExtendLowI8x16U _) = refl
-simd_given_back (vector.I16x8ExtendHighI8x16U _) = refl
-simd_given_back (vector.I16x8Shl _) = refl
-simd_given_back (vector.I16x8ShrS _) = refl
-simd_given_back (vector.I16x8ShrU _) = refl
-simd_given_back (vector.I16x8Add _) = refl
-simd_given_back (vector.I16x8AddSatS _) = refl
-simd_given_back (vector.I16x8AddSatU _) = refl
-simd_given_back (vector.I16x8Sub _) = refl
-simd_given_back (vector.I16x8SubSatS _) = refl
-simd_given_back (vector.I16x8SubSatU _) = refl
-simd_given_back (vector.F64x2Nearest _) = refl
-simd_given_back (vector.I16x8Mul _) = refl
-simd_given_back (vector.I16x8MinS _) = refl
-simd_given_back (vector.I16x8MinU _) = refl
-simd_given_back (vector.I16x8MaxS _) = refl
-simd_given_back (vector.I16x8MaxU _) = refl
-simd_given_back (vector.I16x8AvgrU _) = refl
-simd_given_back (vector.I16x8ExtMulLowI8x16S _) = refl
-simd_given_back (vector.I16x8ExtMulHighI8x16S _) = refl
-simd_given_back (vector.I16x8ExtMulLowI8x16U _) = refl
-simd_given_back (vector.I16x8ExtMulHighI8x16U _) = refl
-simd_given_back (vector.I32x4Abs _) = refl
-simd_given_back (vector.I32x4Neg _) = refl
-simd_given_back (vector.I32x4AllTrue _) = refl
-simd_given_back (vector.I32x4Bitmask _) = refl
-simd_given_back (vector.I32x4ExtendLowI16x8S _) = refl
-simd_given_back (vector.I32x4ExtendHighI16x8S _) = refl
-simd_given_back (vector.I32x4ExtendLowI16x8U _) = refl
-simd_given_back (vector.I32x4ExtendHighI16x8U _) = refl
-simd_given_back (vector.I32x4Shl _) = refl
-simd_given_back (vector.I32x4ShrS _) = refl
-simd_given_back (vector.I32x4ShrU _) = refl
-simd_given_back (vector.I32x4Add _) = refl
-simd_given_back (vector.I32x4Sub _) = refl
-simd_given_back (vector.I32x4Mul _) = refl
-simd_given_back (vector.I32x4MinS _) = refl
-simd_given_back (vector.I32x4MinU _) = refl
-simd_given_back (vector.I32x4MaxS _) = refl
-simd_given_back (vector.I32x4MaxU _) = refl
-simd_given_back (vector.I32x4DotI16x8S _) = refl
-simd_given_back (vector.I32x4ExtMulLowI16x8S _) = refl
-simd_given_back (vector.I32x4ExtMulHighI16x8S _) = refl
-simd_given_back (vector.I32x4ExtMulLowI16x8U _) = refl
-simd_given_back (vector.I32x4ExtMulHighI16x8U _) = refl
-simd_given_back (vector.I64x2Abs _) = refl
-simd_given_back (vector.I64x2Neg _) = refl
-simd_given_back (vector.I64x2AllTrue _) = refl
-simd_given_back (vector.I64x2Bitmask _) = refl
-simd_given_back (vector.I64x2ExtendLowI32x4S _) = refl
-simd_given_back (vector.I64x2ExtendHighI32x4S _) = refl
-simd_given_back (vector.I64x2ExtendLowI32x4U _) = refl
-simd_given_back (vector.I64x2ExtendHighI32x4U _) = refl
-simd_given_back (vector.I64x2Shl _) = refl
-simd_given_back (vector.I64x2ShrS _) = refl
-simd_given_back (vector.I64x2ShrU _) = refl
-simd_given_back (vector.I64x2Add _) = refl
-simd_given_back (vector.I64x2Sub _) = refl
-simd_given_back (vector.I64x2Mul _) = refl
-simd_given_back (vector.I64x2Eq _) = refl
-simd_given_back (vector.I64x2Ne _) = refl
-simd_given_back (vector.I64x2LtS _) = refl
-simd_given_back (vector.I64x2GtS _) = refl
-simd_given_back (vector.I64x2LeS _) = refl
-simd_given_back (vector.I64x2GeS _) = refl
-simd_given_back (vector.I64x2ExtMulLowI32x4S _) = refl
-simd_given_back (vector.I64x2ExtMulHighI32x4S _) = refl
-simd_given_back (vector.I64x2ExtMulLowI32x4U _) = refl
-simd_given_back (vector.I64x2ExtMulHighI32x4U _) = refl
-simd_given_back (vector.F32x4Abs _) = refl
-simd_given_back (vector.F32x4Neg _) = refl
-simd_given_back (vector.F32x4Sqrt _) = refl
-simd_given_back (vector.F32x4Add _) = refl
-simd_given_back (vector.F32x4Sub _) = refl
-simd_given_back (vector.F32x4Mul _) = refl
-simd_given_back (vector.F32x4Div _) = refl
-simd_given_back (vector.F32x4Min _) = refl
-simd_given_back (vector.F32x4Max _) = refl
-simd_given_back (vector.F32x4PMin _) = refl
-simd_given_back (vector.F32x4PMax _) = refl
-simd_given_back (vector.F64x2Abs _) = refl
-simd_given_back (vector.F64x2Neg _) = refl
-simd_given_back (vector.F64x2Sqrt _) = refl
-simd_given_back (vector.F64x2Add _) = refl
-simd_given_back (vector.F64x2Sub _) = refl
-simd_given_back (vector.F64x2Mul _) = refl
-simd_given_back (vector.F64x2Div _) = refl
-simd_given_back (vector.F64x2Min _) = refl
-simd_given_back (vector.F64x2Max _) = refl
-simd_given_back (vector.F64x2PMin _) = refl
-simd_given_back (vector.F64x2PMax _) = refl
-simd_given_back (vector.I32x4TruncSatF32x4S _) = refl
-simd_given_back (vector.I32x4TruncSatF32x4U _) = refl
-simd_given_back (vector.F32x4ConvertI32x4S _) = refl
-simd_given_back (vector.F32x4ConvertI32x4U _) = refl
-simd_given_back (vector.I32x4TruncSatF64x2SZero _) = refl
-simd_given_back (vector.I32x4TruncSatF64x2UZero _) = refl
-simd_given_back (vector.F64x2ConvertLowI32x4S _) = refl
-simd_given_back (vector.F64x2ConvertLowI32x4U _) = refl
-simd_given_back (vector.I8x16RelaxedSwizzle _) = refl
-simd_given_back (vector.I32x4RelaxedTruncF32x4S _) = refl
-simd_given_back (vector.I32x4RelaxedTruncF32x4U _) = refl
-simd_given_back (vector.I32x4RelaxedTruncF64x2SZero _) = refl
-simd_given_back (vector.I32x4RelaxedTruncF64x2UZero _) = refl
-simd_given_back (vector.F32x4RelaxedMadd _) = refl
-simd_given_back (vector.F32x4RelaxedNmadd _) = refl
-simd_given_back (vector.F64x2RelaxedMadd _) = refl
-simd_given_back (vector.F64x2RelaxedNmadd _) = refl
-simd_given_back (vector.I8x16RelaxedLaneselect _) = refl
-simd_given_back (vector.I16x8RelaxedLaneselect _) = refl
-simd_given_back (vector.I32x4RelaxedLaneselect _) = refl
-simd_given_back (vector.I64x2RelaxedLaneselect _) = refl
-simd_given_back (vector.F32x4RelaxedMin _) = refl
-simd_given_back (vector.F32x4RelaxedMax _) = refl
-simd_given_back (vector.F64x2RelaxedMin _) = refl
-simd_given_back (vector.F64x2RelaxedMax _) = refl
-simd_given_back (vector.I16x8RelaxedQ15mulrS _) = refl
-simd_given_back (vector.I16x8RelaxedDotI8x16I7x16S _) = refl
-simd_given_back (vector.I32x4RelaxedDotI8x16I7x16AddS _) = refl
+simd_given_back _ = refl
 
 -- the place, the payload and the ids of the children decide a vector node
 pub simd_determined : (s t : Simd) → simd_place_of s ≡ simd_place_of t → simd_payload_of s ≡ simd_payload_of t → simd_ids_of s ≡ simd_ids_of t → s ≡ t

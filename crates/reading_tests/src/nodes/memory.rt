@@ -73,7 +73,7 @@ fn texts(rt: HostRuntime) {
 
 /// The expression has one more constant, or else memory was refused, and then it has as many as before. Whether it was
 /// refused.
-#[tactic(auto, unfolding(peephole_lang::specs::Lang::ids_of, peephole_nodes::specs::Numeric::numeric_ids_of))]
+#[tactic(auto, unfolding(peephole_lang::specs::Lang::ids_of, peephole_nodes::specs::Numeric::numeric_children))]
 fn lacks_room(rt: &impl Abort, expr: &mut RecExpr<Lang>, constant: i32) -> bool {
     let before = expr.len();
     match expr.add(Lang::I32(constant)) {
