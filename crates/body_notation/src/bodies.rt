@@ -1,25 +1,24 @@
 //! Code and bodies as texts.
 
+use crate::error::NotationError;
 use crate::instructions::instr_of;
-use std::alloc::{AllocError, Global};
-use std::process::Abort;
-use wasm_code::{Function, Instr, SinkError};
+use std::alloc::Global;
+use wasm_code::{Function, Instr};
 
-/// The instructions that the text is; it ends the test at one that there isn't.
-pub fn code_of(rt: &impl Abort, alloc: Global, text: &str) -> Result<Vec<Instr>, AllocError> {
+/// The instructions that the text is; `Unknown` where there isn't one of them.
+pub fn code_of(alloc: Global, text: &str) -> Result<Vec<Instr>, NotationError> {
     let mut code = Vec::new(alloc);
     for part in text.split(';') {
-        match instr_of(part.trim()) {
-            Some(instr) => code.push(instr)?,
-            None if part.trim().is_empty() => {}
-            None => panic!(rt; "{part} is no instruction"),
+        if !part.trim().is_empty() {
+            let instr = instr_of(part.trim()).ok_or(NotationError::Unknown)?;
+            code.push(instr)?;
         }
     }
     Ok(code)
 }
 
-/// The bytes of the body that the text is, with its `end`. A block has no type. It ends the test at an operator that there isn't.
-pub fn body_of(rt: &impl Abort, alloc: Global, text: &str) -> Result<Function, SinkError> {
+/// The bytes of the body that the text is, with its `end`; `Unknown` where there isn't one of its operators. A block has no type.
+pub fn body_of(alloc: Global, text: &str) -> Result<Function, NotationError> {
     let mut body = Function::new(alloc);
     for part in text.split(';') {
         match part.trim() {
@@ -28,10 +27,10 @@ pub fn body_of(rt: &impl Abort, alloc: Global, text: &str) -> Result<Function, S
             "return" => body.raw(b"\x0f")?,
             "end" => body.raw(b"\x0b")?,
             "ref.null func" => body.raw(b"\xd0\x70")?,
-            part => match instr_of(part) {
-                Some(instr) => body.instruction(&instr)?,
-                None => panic!(rt; "{part} is no operator"),
-            },
+            part => {
+                let instr = instr_of(part).ok_or(NotationError::Unknown)?;
+                body.instruction(&instr)?;
+            }
         }
     }
     body.raw(b"\x0b")?;

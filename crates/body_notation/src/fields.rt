@@ -1,7 +1,7 @@
 //! The fields of a row.
 
+use crate::error::NotationError;
 use std::alloc::{AllocError, Global};
-use std::process::Abort;
 
 /// The fields of a row, which stand between bars.
 pub fn fields_of(alloc: Global, row: &str) -> Result<Vec<&str>, AllocError> {
@@ -16,14 +16,12 @@ fn word_of(text: &str) -> Option<u64> {
     }
 }
 
-/// The numbers that the words of a field are; it ends the test at a word that is none.
-pub fn words_of(rt: &impl Abort, alloc: Global, field: &str) -> Result<Vec<u64>, AllocError> {
+/// The numbers that the words of a field are; `Unknown` where one of them is none.
+pub fn words_of(alloc: Global, field: &str) -> Result<Vec<u64>, NotationError> {
     let mut words = Vec::new(alloc);
     for word in field.split_whitespace() {
-        match word_of(word) {
-            Some(number) => words.push(number)?,
-            None => panic!(rt; "{word} is no number"),
-        }
+        let number = word_of(word).ok_or(NotationError::Unknown)?;
+        words.push(number)?;
     }
     Ok(words)
 }

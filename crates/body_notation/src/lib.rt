@@ -6,9 +6,11 @@
 #![tactic(auto)]
 
 mod bodies;
+mod error;
 mod fields;
 mod instructions;
 
 pub use bodies::{body_of, code_of};
+pub use error::NotationError;
 pub use fields::{fields_of, words_of};
 pub use instructions::instr_of;

@@ -1,12 +1,13 @@
 //! Changes that words choose, each written by hand.
 
+use crate::notation::{body_of, code_of};
 use crate::replaced_code::module;
 use PrimitiveTypeInfo::{I32, I64};
 use body_changes::{
     Body, CHANGES, Change, Changed, Source, change_last, change_of_words, copied_into, unit_named,
     units_of,
 };
-use body_notation::{body_of, code_of, fields_of, words_of};
+use body_notation::{fields_of, words_of};
 use std::alloc::{AllocError, Global};
 use std::process::Abort;
 use std::test::Fail;
@@ -260,7 +261,7 @@ fn is_told(rt: &impl Abort, alloc: Global, row: &str) -> Result<bool, Fail> {
     };
     let changes = changes_of(rt, alloc, changes)?;
     let body = body_of(rt, alloc, body)?;
-    let words = words_of(rt, alloc, words)?;
+    let words = words_of(alloc, words)?;
     let found = chosen(alloc, body.bytes(), &changes, &words)?;
     is_wanted(rt, alloc, &found, wanted)
 }

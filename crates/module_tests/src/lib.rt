@@ -11,6 +11,8 @@ mod chosen_changes;
 #[cfg(test)]
 mod listed_rules;
 #[cfg(test)]
+mod notation;
+#[cfg(test)]
 mod replaced_code;
 #[cfg(test)]
 mod rewritten_modules;

@@ -2,12 +2,13 @@
 ghost use Rattle.std.specs.Prelude.{IfOk};
 ghost use Rattle.body_splices.specs.OwnBytes.{IsBodyIn};
 
+use crate::notation::code_of;
 use PrimitiveTypeInfo::{Empty, I32, I64};
 use body_changes::{
     Scope, Source, code_of_words, is_drawable, other_operator, replace_code, types_in_place,
     types_of_code,
 };
-use body_notation::{code_of, instr_of};
+use body_notation::instr_of;
 use instruction_names::instruction_name;
 use std::alloc::{AllocError, Global};
 use std::process::Abort;

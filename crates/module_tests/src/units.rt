@@ -1,8 +1,9 @@
 //! Small bodies with their units, each written by hand.
 
+use crate::notation::body_of;
 use PrimitiveTypeInfo::I32;
 use body_changes::{Takes, Unit, units_of};
-use body_notation::{body_of, fields_of};
+use body_notation::fields_of;
 use std::alloc::{AllocError, Global};
 use std::test::Fail;
 use wasm_code::read_code;

@@ -1,7 +1,7 @@
 //! Every rewrite that there is of a body by rules, which operators they reach, and which rewrite words choose.
 
-use crate::scope::{locals, module_of};
-use body_notation::{body_of, fields_of};
+use crate::scope::{body_of, locals, module_of};
+use body_notation::fields_of;
 use body_rewrites::{
     Body, Growth, Rewrite, blocks_of, choose, reached_operators, rewrites_of_body, trees_of,
 };

@@ -4,9 +4,9 @@ ghost use Rattle.body_splices.specs.OwnBytes.{IsBodyIn};
 ghost use Rattle.body_rewrites.specs.Places.{HasItsLists};
 
 use crate::rows::{EXACT_ROWS, ROWS};
-use crate::scope::{locals, module_of};
+use crate::scope::{body_of, locals, module_of};
 use crate::wraps::{BEHIND_FLOW, FIRST_OF_FLOW};
-use body_notation::{body_of, fields_of};
+use body_notation::fields_of;
 use body_rewrites::{Body, Rewrite, blocks_of, rewrite_body, trees_of};
 use rewrite_rules::{row_count, rule_names, rules_of_rows};
 use std::alloc::Global;
