@@ -17,7 +17,8 @@ use Rattle.peephole_payloads.specs.Number.{read_signed}
 use Rattle.peephole_payloads.specs.laws.NumberBack.{signed_in_range_back}
 use Rattle.peephole_lang.specs.Term.{numbers_of}
 use Rattle.peephole_lang.specs.Names.{rest_after}
-use Rattle.peephole_nodes.specs.Written.{none_written, any_written}
+use Rattle.peephole_nodes.specs.View.{childless}
+use Rattle.peephole_nodes.specs.Written.{ids_written, any_written}
 use Rattle.peephole_examples.specs.declared.arith.Arith.{Arith}
 use Rattle.peephole_examples.specs.declared.arith.Arith.TheVariants.{Num, Neg, Add, Sum}
 use Rattle.peephole_examples.specs.declared.arith.ArithHead.{ArithHead}
@@ -142,7 +143,7 @@ keeps_head (Sum _) w = refl
 
 -- as many children as before are those that the node then has
 pub has_written : (a : Arith) (w : List Id) → length w ≡ length (arithmetic_ids a) → arithmetic_ids (arithmetic_with_ids a w) ≡ w
-has_written (Num _) w e = none_written w e
+has_written (Num _) w e = ids_written childless w e
 has_written (Neg _) w e = refl
 has_written (Add _) w e = refl
 has_written (Sum children) w e = any_written children w e
