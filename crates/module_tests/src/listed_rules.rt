@@ -139,7 +139,7 @@ fn lists_rules_as_text(rt: HostRuntime) -> Result<(), Fail> {
     let mut output = Vec::new(rt.alloc());
     write_rules(rt.alloc(), &mut output, Form::Text)?;
     let text = str::from_utf8(&output)?;
-    assert!(rt; text.lines().count() == rule_count() + row_count());
+    assert!(rt; text.lines().count() == rule_count().saturating_add(row_count()));
     for (number, line) in LINES {
         assert!(rt; text.lines().nth(number) == Some(line), "line {number}");
     }
@@ -163,7 +163,7 @@ fn lists_rules_as_a_table(rt: HostRuntime) -> Result<(), Fail> {
     let mut output = Vec::new(rt.alloc());
     write_rules(rt.alloc(), &mut output, Form::Markdown)?;
     let text = str::from_utf8(&output)?;
-    assert!(rt; text.lines().count() == 2 + row_count());
+    assert!(rt; text.lines().count() == row_count().saturating_add(2));
     for (number, line) in ROWS {
         assert!(rt; text.lines().nth(number) == Some(line), "line {number}");
     }
