@@ -8,9 +8,9 @@
 # crates/teddertempo/out. PLANTED_SOURCES names a folder with the sources of Debian's packages wabt 1.0.32-1 and binaryen 108-1, as
 # `apt-get source wabt binaryen` leaves them, which needs a line `deb-src` for bookworm in the sources of apt; where it isn't named, they
 # are taken by that command. PLANTED_BUILD names the folder of the builds (tests/planted/build), which are made once: half an hour
-# of a core. Needs cmake, ninja, a C++ compiler and Python 3; then some three hours of four cores, an hour of which makes the mutants: 200
-# of each module, of 400 rewrites, each by a tenth of the rules. `--seeds`, `--doses` and `--swarm` ask for others, and `--sample N` for N
-# faults of each engine, spread over its table.
+# of a core. Needs cmake, ninja, a C++ compiler, flock and Python 3; then some three hours of four cores, an hour of which makes the
+# mutants: 200 of each module, of 400 rewrites, each by a tenth of the rules. `--seeds`, `--doses` and `--swarm` ask for others, and
+# `--sample N` for N faults of each engine, spread over its table. Two runs at once, one for each engine, may share that folder.
 set -euo pipefail
 program=${TEDDERTEMPO:-}
 if [ -n "$program" ]; then program=$(realpath "$program"); fi
@@ -25,7 +25,7 @@ fail() {
     exit 1
 }
 
-for needed in cmake ninja c++ python3 patch; do command -v "$needed" > /dev/null || fail "needs $needed on the path"; done
+for needed in cmake ninja c++ python3 patch flock; do command -v "$needed" > /dev/null || fail "needs $needed on the path"; done
 [ -x "$program" ] || fail "no program $program: TEDDERTEMPO names one"
 mkdir -p "$build"
 
@@ -53,17 +53,28 @@ make_programs() {
     ninja -C "$build/$folder/out" "$@" > "$build/log" || { tail -n 30 "$build/log"; fail "$folder isn't built"; }
 }
 
+# Which engine; and what two runs at once have each for itself. The engines they share, and one builds them while the other waits.
+which=${1:-both}
+case $which in
+    interpreter | optimizer) shift ;;
+    *) which=both ;;
+esac
+modules=$build/modules-$which
+made=$build/made-$which
+
 wabt=wabt-1.0.32
 binaryen=binaryen-108
+exec 9> "$build/lock"
+flock 9
 [ -d "$build/$wabt" ] || take wabt $wabt interpreter.patch faults.h src/interp/planted.h
 [ -d "$build/$binaryen" ] || take binaryen $binaryen optimizer.patch wrong_rewrites.h src/passes/planted.h
 make_programs $wabt spectest-interp wat2wasm
 make_programs $binaryen wasm-opt
+flock -u 9
 interpreter=$build/$wabt/out/spectest-interp
 optimizer=$build/$binaryen/out/bin/wasm-opt
 
 # The modules: those of tests/modules, those that wabt's own tests of its interpreter have, the generated ones, and one by hand.
-modules=$build/modules
 rm -rf "$modules"
 mkdir -p "$modules"/{own,wabt,generated}
 cp tests/modules/*.wasm "$modules/own/"
@@ -79,15 +90,10 @@ try_all() {
     local name=$1 table=$2 engine=$3
     shift 3
     echo "== $name"
-    python3 "$planted/planted.py" --table "$planted/$table" --folder "$build/made" --teddertempo "$program" --optimizer "$optimizer" \
+    python3 "$planted/planted.py" --table "$planted/$table" --folder "$made" --teddertempo "$program" --optimizer "$optimizer" \
         "$@" --modules "$modules" --engine "$engine"
 }
 
-which=${1:-both}
-case $which in
-    interpreter | optimizer) shift ;;
-    *) which=both ;;
-esac
 status=0
 export OPTIMIZER=$optimizer INTERPRETER=$interpreter LEVEL=-O3
 if [ "$which" != optimizer ]; then try_all interpreter faults.h "$interpreter" "$@" || status=1; fi
