@@ -25,12 +25,12 @@ TOP = Path(__file__).resolve().parent.parent
 sys.path.insert(0, str(TOP / "driver"))
 sys.dont_write_bytecode = True
 
-from teddertempo_diff.engines import Plan, engine_of  # noqa: E402
-from teddertempo_diff.interface import ModuleReader, read_interface  # noqa: E402
-from teddertempo_diff.mutator import Choice  # noqa: E402
-from teddertempo_diff.outcomes import Kind, difference_of  # noqa: E402
-from teddertempo_diff.running import Runner  # noqa: E402
-from teddertempo_diff.shim import number, section, signed, text, type_of  # noqa: E402
+from teddertempo.engines.engine import Plan, engine_of  # noqa: E402
+from teddertempo.engines.interface import ModuleReader, read_interface  # noqa: E402
+from teddertempo.running.mutator import Choice  # noqa: E402
+from teddertempo.engines.outcomes import Kind, difference_of  # noqa: E402
+from teddertempo.running.processes import Runner  # noqa: E402
+from teddertempo.engines.shim import number, section, signed, text, type_of  # noqa: E402
 
 DRIVER = Path(sys.argv[1]).resolve() if len(sys.argv) > 1 else TOP / "driver" / "teddertempo-diff"
 PROGRAM = Path(os.environ.get("TEDDERTEMPO", TOP / "crates/teddertempo/out/teddertempo")).resolve()
@@ -41,7 +41,7 @@ ENGINE = """
 import os, subprocess, sys, time
 sys.path.insert(0, {driver!r})
 sys.dont_write_bytecode = True
-from teddertempo_diff.interface import ModuleReader
+from teddertempo.engines.interface import ModuleReader
 mode, file = sys.argv[1:]
 falls = len(ModuleReader(open(file, "rb").read()).spaces["global"]) > {first}
 if mode == "slow": time.sleep(float(os.environ.get("SLOW", "0.1")))

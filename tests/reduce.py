@@ -24,13 +24,13 @@ TOP = Path(__file__).resolve().parent.parent
 sys.path.insert(0, str(TOP / "driver"))
 sys.dont_write_bytecode = True
 
-from teddertempo_reduce.binary import Reader, Unreadable, number, signed  # noqa: E402
-from teddertempo_reduce.immediates import Space  # noqa: E402
-from teddertempo_reduce.indices import Reach, Visitor, counts_of, renumbered  # noqa: E402
-from teddertempo_reduce.module import Module  # noqa: E402
-from teddertempo_reduce.operators import FORMS, read_body  # noqa: E402
-from teddertempo_reduce.reading import read_module  # noqa: E402
-from teddertempo_reduce.units import units_of  # noqa: E402
+from teddertempo.wasm.binary import Reader, Unreadable, number, signed  # noqa: E402
+from teddertempo.wasm.immediates import Space  # noqa: E402
+from teddertempo.reducing.indices import Reach, Visitor, counts_of, renumbered  # noqa: E402
+from teddertempo.wasm.module import Module  # noqa: E402
+from teddertempo.wasm.operators import FORMS, read_body  # noqa: E402
+from teddertempo.wasm.reading import read_module  # noqa: E402
+from teddertempo.reducing.units import units_of  # noqa: E402
 
 REDUCER = Path(sys.argv[1]).resolve() if len(sys.argv) > 1 else TOP / "driver" / "teddertempo-reduce"
 MODULES = sorted((TOP / "tests/modules").glob("**/*.wasm"))
@@ -107,10 +107,10 @@ import sys
 sys.path.insert(0, {driver!r})
 sys.dont_write_bytecode = True
 from dataclasses import replace
-from teddertempo_reduce.immediates import Space
-from teddertempo_reduce.passes.edits import edited, with_functions
-from teddertempo_reduce.passes.trees import Constants, Deletions, Operands
-from teddertempo_reduce.reading import read_module
+from teddertempo.wasm.immediates import Space
+from teddertempo.reducing.passes.edits import edited, with_functions
+from teddertempo.reducing.passes.trees import Constants, Deletions, Operands
+from teddertempo.wasm.reading import read_module
 words = sys.argv[1:]
 open({log!r}, "a").write(" ".join(words) + "\\n")
 if {old}: sys.exit(64)

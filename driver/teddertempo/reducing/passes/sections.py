@@ -1,0 +1,137 @@
+"""Sections: exports, custom sections, and others that may go; limits that may be smaller; what is imported and may be the module's own."""
+
+from __future__ import annotations
+
+from dataclasses import replace
+from typing import Sequence
+
+from ...wasm.immediates import Space
+from ..indices import renumbered
+from ...wasm.module import CUSTOM, Export, Extra, Function, Global, Import, Module, Table
+from ..names import is_names
+from ...wasm.operators import END, NAME_DATA, Body, Operator
+from ..search import Pass
+from ...wasm.types import Limits, TableType
+from .codes import UNREACHABLE_BODY, zeros_of
+
+
+class Encoding(Pass):
+    """Numbers that are written in more bytes than they need."""
+
+    name = "encoding"
+
+    def positions(self, module: Module) -> Sequence[None]:
+        return [None]
+
+    def apply(self, module: Module, chosen: Sequence[None]) -> Module:
+        return module
+
+
+class Exports(Pass):
+    name = "exports"
+
+    def positions(self, module: Module) -> Sequence[Export]:
+        return module.exports
+
+    def apply(self, module: Module, chosen: Sequence[Export]) -> Module:
+        return replace(module, exports=tuple(each for each in module.exports if each not in chosen))
+
+
+class CustomSections(Pass):
+    name = "custom sections"
+
+    def __init__(self, keeps_names: bool):
+        self.keeps_names = keeps_names
+
+    def positions(self, module: Module) -> list[Extra]:
+        return [each for each in module.extras if each.code == CUSTOM and not (self.keeps_names and is_names(each.content))]
+
+    def apply(self, module: Module, chosen: Sequence[Extra]) -> Module:
+        return replace(module, extras=tuple(each for each in module.extras if each not in chosen))
+
+
+class Sections(Pass):
+    """The start section, and the count of data where no operator needs it."""
+
+    name = "start"
+
+    def positions(self, module: Module) -> list[str]:
+        counts = module.counts_data and not any(operator.code in NAME_DATA for each in module.functions for operator in each.body)
+        return (["start"] if module.start is not None else []) + (["count"] if counts else [])
+
+    def apply(self, module: Module, chosen: Sequence[str]) -> Module:
+        return replace(module, start=None if "start" in chosen else module.start,
+                       counts_data=module.counts_data and "count" not in chosen)
+
+
+class SmallerLimits(Pass):
+    """Tables and memories of the module's own without a greatest size, or of the size 0."""
+
+    name = "limits"
+
+    def positions(self, module: Module) -> list[tuple[str, int, Limits]]:
+        owned = [("tables", place, each.type.limits) for place, each in enumerate(module.tables)]
+        owned += [("memories", place, each) for place, each in enumerate(module.memories)]
+        return [(kind, place, new) for kind, place, old in owned for new in smaller_limits(old)]
+
+    def apply(self, module: Module, chosen: Sequence[tuple[str, int, Limits]]) -> Module:
+        tables, memories = list(module.tables), list(module.memories)
+        for kind, place, limits in chosen:
+            if kind == "memories":
+                memories[place] = limits
+            else:
+                tables[place] = replace(tables[place], type=TableType(tables[place].type.element, limits))
+        return replace(module, tables=tuple(tables), memories=tuple(memories))
+
+
+def smaller_limits(limits: Limits) -> list[Limits]:
+    """Limits that are smaller, the smallest one last."""
+    without = replace(limits, flags=limits.flags & ~1, most=None)
+    is_bounded = limits.most is not None and not limits.flags & 2
+    wanted = [replace(limits, least=0)] + ([without, replace(without, least=0)] if is_bounded else [])
+    return [each for each in wanted if each != limits]
+
+
+class OwnImports(Pass):
+    """What is imported becomes the module's own: a function that answers constants or is unreachable, or a global that is one."""
+
+    name = "imports"
+    needs_whole = True
+
+    def positions(self, module: Module) -> list[tuple[Import, Function | Global | Table | Limits | int]]:
+        return [(each, own) for each in module.imports for own in own_forms(module, each)]
+
+    def apply(self, module: Module, chosen: Sequence[tuple[Import, object]]) -> Module:
+        owned = {id(each): own for each, own in chosen}
+        for place in reversed(range(len(module.imports))):
+            own = owned.get(id(module.imports[place]))
+            if own is not None:
+                module = with_own(module, place, own)
+        return module
+
+
+def own_forms(module: Module, item: Import) -> list:
+    """What may stand for an import."""
+    if item.kind is Space.FUNCTION:
+        kind = module.context.function_type(item.type)
+        zeros = None if kind is None else zeros_of(kind.results)
+        bodies: list[Body] = [UNREACHABLE_BODY] + ([] if zeros is None else [(*zeros, Operator(END))])
+        return [Function(item.type, (), body) for body in bodies]
+    if item.kind is Space.GLOBAL:
+        zero = zeros_of((item.type.value,))
+        return [] if zero is None else [Global(item.type, (*zero, Operator(END)))]
+    return [Table(item.type) if item.kind is Space.TABLE else item.type]
+
+
+OWN = {Space.FUNCTION: "functions", Space.TABLE: "tables", Space.MEMORY: "memories", Space.GLOBAL: "globals", Space.TAG: "tags"}
+
+
+def with_own(module: Module, place: int, own: object) -> Module:
+    """The module with something of its own, the first of its kind, in the place of an import."""
+    kind = module.imports[place].kind
+    count = module.imported(kind)
+    index = sum(each.kind is kind for each in module.imports[:place])
+    order = [*range(index), count - 1, *range(index, count - 1), *range(count, count + len(getattr(module, OWN[kind])))]
+    imports = (*module.imports[:place], *module.imports[place + 1 :])
+    made = replace(module, imports=imports, **{OWN[kind]: (own, *getattr(module, OWN[kind]))})
+    return renumbered(made, {kind: dict(enumerate(order))})
