@@ -67,7 +67,7 @@ def argument(kind: str, turn: int, place: int, words: random.Random) -> Argument
 def calls_of(interface: Interface, turns: int, takes: frozenset[str]) -> list[Call]:
     """The calls on each exported function whose types are among those that an engine takes; equal ones for equal interfaces."""
     words = random.Random(0)
-    functions = [export for export in interface.functions() if takes.issuperset((*export.type.parameters, *export.type.results))]
+    functions = [export for export in interface.functions if takes.issuperset((*export.type.parameters, *export.type.results))]
     turns = max(1, min(turns, MOST_CALLS // max(1, len(functions))))
     calls = []
     for export in functions:

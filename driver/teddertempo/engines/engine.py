@@ -8,10 +8,11 @@ import struct
 from dataclasses import dataclass, replace
 from pathlib import Path
 
-from .calls import Call, calls_of
-from .interface import Interface, read_interface
-from .outcomes import Answer, Kind, bound_or_crash, cause_of, failure_of, refusal_of
 from ..running.processes import Finished, Runner
+from ..wasm.types import Limits
+from .calls import Call, calls_of
+from .interface import FunctionType, GlobalType, Import, Interface, TableType, read_interface
+from .outcomes import Answer, Kind, bound_or_crash, cause_of, failure_of, refusal_of
 from .shim import OWNER, Shim
 
 FILE = "@@"
@@ -117,9 +118,9 @@ class Node(Engine):
         (folder / "plan.json").write_text(json.dumps(self.script(plan), indent=1), encoding="utf-8")
         return [[*self.commanded(str(named / "run.cjs")), str(named / module)]]
 
-    def script(self, plan: Plan) -> dict:
+    def script(self, plan: Plan) -> dict[str, object]:
         """What is read by the script that makes the calls."""
-        results = {export.name: export.type.results for export in plan.interface.functions()}
+        results = {export.name: export.type.results for export in plan.interface.functions}
         return {
             "imports": [self.import_of(item) for item in plan.interface.imports],
             "calls": [
@@ -130,25 +131,28 @@ class Node(Engine):
         }
 
     @staticmethod
-    def import_of(item) -> dict:
-        made = {"module": item.module, "name": item.name, "kind": item.kind}
-        if item.kind in ("function", "tag"):
+    def import_of(item: Import) -> dict[str, object]:
+        made: dict[str, object] = {"module": item.module, "name": item.name, "kind": item.kind}
+        if isinstance(item.type, FunctionType):
             made.update(parameters=item.type.parameters, results=item.type.results)
-        elif item.kind == "global":
+        elif isinstance(item.type, GlobalType):
             made.update(value=item.type.value, mutable=item.type.mutable)
+        elif isinstance(item.type, TableType):
+            made.update(limits=Node.limits_of(item.type.limits), element=item.type.element)
         else:
-            limits = item.type if item.kind == "memory" else item.type.limits
-            made["limits"] = vars(limits)
-            if item.kind == "table":
-                made["element"] = item.type.element
+            made.update(limits=Node.limits_of(item.type))
         return made
 
     @staticmethod
-    def looks(interface: Interface) -> list[dict]:
+    def limits_of(limits: Limits) -> dict[str, object]:
+        return {"least": limits.least, "most": limits.most, "shared": limits.is_shared(), "wide": limits.is_wide()}
+
+    @staticmethod
+    def looks(interface: Interface) -> list[dict[str, str]]:
         """The memories and globals that are looked at behind the calls."""
-        memories = [{"kind": "memory", "name": export.name} for export in interface.exports if export.kind == "memory"]
-        values = [{"kind": "global", "name": export.name, "value": export.type.value} for export in interface.exports
-                  if export.kind == "global" and export.type.value in Node.takes]
+        memories = [{"kind": "memory", "name": export.name} for export in interface.memories]
+        values = [{"kind": "global", "name": export.name, "value": export.type.value} for export in interface.globals
+                  if export.type.value in Node.takes]
         return memories + values
 
     def read(self, plan: Plan, finished: list[Finished]) -> list[Answer]:
@@ -201,9 +205,11 @@ class Spectest(Engine):
         shim = Shim(plan.interface)
         (folder / "shim.wasm").write_bytes(shim.module())
         script = Path(module).stem + ".json"
-        commands = [{"type": "module", "line": 0, "name": "$module", "filename": module},
-                    {"type": "register", "line": 0, "name": "$module", "as": OWNER},
-                    {"type": "module", "line": 0, "name": "$shim", "filename": "shim.wasm"}]
+        commands: list[dict[str, object]] = [
+            {"type": "module", "line": 0, "name": "$module", "filename": module},
+            {"type": "register", "line": 0, "name": "$module", "as": OWNER},
+            {"type": "module", "line": 0, "name": "$shim", "filename": "shim.wasm"},
+        ]
         commands += [self.action(line, shim, call) for line, call in enumerate(plan.calls, 1)]
         commands += [self.look(name) for _, name in self.looks(shim)]
         (folder / script).write_text(json.dumps({"source_filename": "calls", "commands": commands}, indent=0), encoding="utf-8")
@@ -214,17 +220,17 @@ class Spectest(Engine):
         return [(place, name) for place, name in shim.names.items() if place[0] != "function"]
 
     @staticmethod
-    def look(name: str) -> dict:
+    def look(name: str) -> dict[str, object]:
         return {"type": "action", "line": 0, "action": {"type": "invoke", "module": "$shim", "field": name, "args": []}, "expected": []}
 
-    def action(self, line: int, shim: Shim, call: Call) -> dict:
+    def action(self, line: int, shim: Shim, call: Call) -> dict[str, object]:
         own = shim.names.get(("function", call.function))
         action = {"type": "invoke", "module": "$shim" if own else "$module", "field": own or call.function,
                   "args": [self.argument(kind, bits) for kind, bits in call.arguments]}
         return {"type": "action", "line": line, "action": action, "expected": []}
 
     @staticmethod
-    def argument(kind: str, bits: int) -> dict:
+    def argument(kind: str, bits: int) -> dict[str, object]:
         if kind == "v128":
             return {"type": kind, "lane_type": "i32", "value": [str(bits >> 32 * lane & 0xFFFFFFFF) for lane in range(4)]}
         return {"type": kind, "value": str(bits) if kind in ("i32", "i64", "f32", "f64") else "null"}
@@ -254,9 +260,9 @@ class Spectest(Engine):
 
     def asked(self, plan: Plan) -> list[tuple[str, Kind, tuple[str, ...]]]:
         """What the script asks for, in its order: a place, the class of its answer, and the types of that."""
-        results = {export.name: export.type.results for export in plan.interface.functions()}
+        results = {export.name: export.type.results for export in plan.interface.functions}
         asked = [(str(call), Kind.VALUE, results[call.function]) for call in plan.calls]
-        values = {export.name: export.type.value for export in plan.interface.exports if export.kind == "global"}
+        values = {export.name: export.type.value for export in plan.interface.globals}
         looks = [place for place, _ in self.looks(Shim(plan.interface))]
         return asked + [(f"{kind} {name}", Kind(kind), (values[name] if kind == "global" else "i64",)) for kind, name in looks]
 

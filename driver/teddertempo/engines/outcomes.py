@@ -150,7 +150,7 @@ def class_of(original: Answer, rewrite: Answer) -> str:
             return answer.kind.value
     if original.kind is not rewrite.kind and Kind.TRAP in (original.kind, rewrite.kind):
         return "trap"
-    return "cause of a trap" if original.kind is Kind.TRAP else original.kind.value
+    return "cause of a trap" if original.kind is Kind.TRAP else str(original.kind.value)
 
 
 def difference_of(original: tuple[Answer, ...], rewrite: tuple[Answer, ...], strict: bool) -> Difference | None:
@@ -169,5 +169,5 @@ def difference_of(original: tuple[Answer, ...], rewrite: tuple[Answer, ...], str
 def brief(answer: Answer, other: Answer) -> Answer:
     """An answer by the first line in which it differs from another one, as far as it can be printed on a line."""
     pairs = zip_longest(answer.text.split("\n"), other.text.split("\n"), fillvalue="")
-    line = next((own for own, others in pairs if own != others), answer.text)
+    line = next((str(own) for own, others in pairs if own != others), answer.text)
     return replace(answer, text="".join(c if c.isprintable() else "?" for c in line[:200]))

@@ -3,11 +3,14 @@ functions and globals, and gives their floats by their bits; and it gives a dige
 
 from __future__ import annotations
 
-from .interface import FunctionType, GlobalType, Interface, Limits
+from ..wasm.binary import items, number, signed, sized
+from ..wasm.module import CODE, EXPORTS, FUNCTIONS, HEAD, IMPORTS, TYPES
+from ..wasm.types import Limits
+from .interface import FunctionType, GlobalType, Interface
 
 OWNER = "module"
 
-TYPES = {"i32": 0x7F, "i64": 0x7E, "f32": 0x7D, "f64": 0x7C, "v128": 0x7B, "funcref": 0x70, "externref": 0x6F}
+CODES = {"i32": 0x7F, "i64": 0x7E, "f32": 0x7D, "f64": 0x7C, "v128": 0x7B, "funcref": 0x70, "externref": 0x6F}
 BITS = {"f32": "i32", "f64": "i64"}
 REINTERPRET = {"f32": b"\xbc", "f64": b"\xbd"}
 
@@ -15,41 +18,16 @@ REINTERPRET = {"f32": b"\xbc", "f64": b"\xbd"}
 MOST_PAGES = 16
 
 
-def number(value: int) -> bytes:
-    """An unsigned number in LEB128."""
-    pieces = bytearray()
-    while True:
-        pieces.append(value & 0x7F | (0x80 if value > 0x7F else 0))
-        value >>= 7
-        if not value:
-            return bytes(pieces)
-
-
-def signed(value: int) -> bytes:
-    """A signed number in LEB128."""
-    pieces = bytearray()
-    while not -64 <= value < 64:
-        pieces.append(value & 0x7F | 0x80)
-        value >>= 7
-    return bytes(pieces + bytes([value & 0x7F]))
-
-
-def items(parts: list[bytes]) -> bytes:
-    return number(len(parts)) + b"".join(parts)
-
-
 def text(name: str) -> bytes:
-    raw = name.encode("utf-8", "surrogateescape")
-    return number(len(raw)) + raw
+    return sized(name.encode("utf-8", "surrogateescape"))
 
 
 def type_of(parameters: tuple[str, ...], results: tuple[str, ...]) -> bytes:
-    return b"\x60" + items([bytes([TYPES[kind]]) for kind in parameters]) + items([bytes([TYPES[kind]]) for kind in results])
+    return b"\x60" + items([bytes([CODES[kind]]) for kind in parameters]) + items([bytes([CODES[kind]]) for kind in results])
 
 
 def section(code: int, parts: list[bytes]) -> bytes:
-    content = items(parts)
-    return bytes([code]) + number(len(content)) + content
+    return bytes([code]) + sized(items(parts))
 
 
 def as_bits(kinds: tuple[str, ...]) -> tuple[str, ...]:
@@ -67,7 +45,7 @@ def calling(index: int, type: FunctionType) -> bytes:
     places = range(first, first + len(type.results))
     code += b"".join(b"\x21" + number(place) for place in reversed(places))
     code += b"".join(b"\x20" + number(place) + REINTERPRET.get(kind, b"") for place, kind in zip(places, type.results))
-    return items([b"\x01" + bytes([TYPES[kind]]) for kind in type.results]) + code + b"\x0b"
+    return items([b"\x01" + bytes([CODES[kind]]) for kind in type.results]) + code + b"\x0b"
 
 
 def reading(index: int, kind: str) -> bytes:
@@ -95,39 +73,39 @@ class Shim:
         self.exports: list[bytes] = []
         self.code: list[bytes] = []
         self.names: dict[tuple[str, str], str] = {}
-        functions = [export for export in interface.functions() if self.takes(export.type)]
-        values = [export for export in interface.exports if export.kind == "global" and export.type.value in TYPES]
-        memory = next((export for export in interface.exports if export.kind == "memory" and self.can_import(export.type)), None)
+        functions = [export for export in interface.functions if self.takes(export.type)]
+        values = [export for export in interface.globals if export.type.value in CODES]
+        memory = next((export for export in interface.memories if self.can_import(export.limits)), None)
         for export in functions:
             self.add_import(export.name, b"\x00" + self.type_index(export.type.parameters, export.type.results))
-        for export in values:
-            self.add_import(export.name, self.global_import(export.type))
+        for value in values:
+            self.add_import(value.name, self.global_import(value.type))
         if memory:
-            self.add_import(memory.name, self.memory_import(memory.type))
+            self.add_import(memory.name, self.memory_import(memory.limits))
         self.imported = len(functions)
         for index, export in enumerate(functions):
             self.add("function", export.name, export.type.parameters, export.type.results, calling(index, export.type))
-        for index, export in enumerate(values):
-            self.add("global", export.name, (), (export.type.value,), reading(index, export.type.value))
+        for index, value in enumerate(values):
+            self.add("global", value.name, (), (value.type.value,), reading(index, value.type.value))
         if memory:
             self.add("memory", memory.name, (), ("i64",), digesting())
 
     @staticmethod
     def takes(type: FunctionType) -> bool:
-        return has_floats(type.results) and TYPES.keys() >= {*type.parameters, *type.results}
+        return has_floats(type.results) and CODES.keys() >= {*type.parameters, *type.results}
 
     @staticmethod
     def global_import(type: GlobalType) -> bytes:
-        return bytes([3, TYPES[type.value], type.mutable])
+        return bytes([3, CODES[type.value], type.mutable])
 
     @staticmethod
-    def can_import(type: Limits) -> bool:
-        return not type.wide and (type.most is not None or not type.shared)
+    def can_import(limits: Limits) -> bool:
+        return not limits.is_wide() and (limits.most is not None or not limits.is_shared())
 
     @staticmethod
-    def memory_import(type: Limits) -> bytes:
-        if type.shared:
-            return b"\x02\x03" + number(type.least) + number(type.most)
+    def memory_import(limits: Limits) -> bytes:
+        if limits.is_shared() and limits.most is not None:
+            return b"\x02\x03" + number(limits.least) + number(limits.most)
         return b"\x02\x00\x00"
 
     def type_index(self, parameters: tuple[str, ...], results: tuple[str, ...]) -> bytes:
@@ -142,8 +120,8 @@ class Shim:
         self.names[kind, name] = own
         self.exports.append(text(own) + b"\x00" + number(self.imported + len(self.code)))
         self.functions.append(self.type_index(parameters, as_bits(results)))
-        self.code.append(number(len(body)) + body)
+        self.code.append(sized(body))
 
     def module(self) -> bytes:
-        sections = ((1, self.types), (2, self.imports), (3, self.functions), (7, self.exports), (10, self.code))
-        return b"\0asm\1\0\0\0" + b"".join(section(code, parts) for code, parts in sections)
+        sections = ((TYPES, self.types), (IMPORTS, self.imports), (FUNCTIONS, self.functions), (EXPORTS, self.exports), (CODE, self.code))
+        return HEAD + b"".join(section(code, parts) for code, parts in sections)

@@ -9,12 +9,13 @@ import sys
 import tempfile
 from dataclasses import dataclass
 from pathlib import Path
+from typing import Any
 
 from ..engines.engine import Engine, Observation, Plan, engine_of
-from ..engines.interface import Unreadable
-from ..running.mutator import Choice, Mutator, MutatorFailure
 from ..engines.outcomes import ENDS, Difference, difference_of
+from ..running.mutator import Choice, Mutator, MutatorFailure
 from ..running.processes import Runner
+from ..wasm.binary import Unreadable
 from .store import Finding
 
 # Under how many seeds a module is rewritten, and how often at most, for each place of the rule so many times.
@@ -94,7 +95,7 @@ class Witness:
         return found or self.find(module, [(seed, count) for count in range(2, most + 1) for seed in range(SEEDS)])
 
 
-def load(folder: Path) -> tuple[Finding, dict]:
+def load(folder: Path) -> tuple[Finding, dict[str, Any]]:
     """The finding in a folder, and the settings of the run that found it."""
     try:
         report = json.loads((folder / "finding.json").read_text(encoding="utf-8"))

@@ -3,7 +3,6 @@
 from __future__ import annotations
 
 import json
-import os
 import sys
 import time
 from collections import Counter
@@ -11,6 +10,7 @@ from dataclasses import asdict
 from pathlib import Path
 
 from ..running.campaign import Listener, Summary
+from ..terminal import print_text
 from .reduction import Reduced
 from .store import Finding
 
@@ -66,11 +66,7 @@ class Reporter(Listener):
             self.say(f"{finding.name()} reduced from {reduced.before:,} bytes to {reduced.after:,}", f"  {reduced.command}")
 
     def say(self, *lines: str) -> None:
-        """Prints lines; where nobody reads any more, the run goes on."""
-        try:
-            print(*lines, sep="\n", flush=True)
-        except BrokenPipeError:
-            sys.stdout = open(os.devnull, "w", encoding="utf-8")
+        print_text("".join(line + "\n" for line in lines))
 
     def end(self, summary: Summary) -> None:
         """Tells what the run came to."""
@@ -84,7 +80,7 @@ class Reporter(Listener):
             self.say(*lines_of(summary))
 
 
-def summary_of(summary: Summary) -> dict:
+def summary_of(summary: Summary) -> dict[str, object]:
     """The summary as JSON has it."""
     return {
         "modules": summary.modules,
@@ -98,7 +94,7 @@ def summary_of(summary: Summary) -> dict:
     }
 
 
-def counts_of(summary: Summary) -> Counter:
+def counts_of(summary: Summary) -> Counter[tuple[str, str]]:
     """How many mutants fell over each rule, by class."""
     counts = Counter((finding.rule, finding.kind) for finding, _ in summary.findings)
     counts.update(summary.again)

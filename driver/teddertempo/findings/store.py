@@ -2,13 +2,15 @@
 
 from __future__ import annotations
 
-import fcntl
 import json
 import os
 import shutil
 import threading
 from dataclasses import asdict, dataclass
 from pathlib import Path
+from typing import TextIO
+
+from ..files import differing, lock_folder, write_whole
 
 
 class StoreRefusal(Exception):
@@ -36,7 +38,7 @@ class Finding:
 class Store:
     """The folder, which one run at a time has."""
 
-    def __init__(self, folder: Path, settings: dict, goes_on: bool):
+    def __init__(self, folder: Path, settings: dict[str, object], goes_on: bool):
         self.folder = folder
         self.lock = threading.Lock()
         self.tried: set[tuple[str, int]] = set()
@@ -52,20 +54,17 @@ class Store:
             self.compare(json.loads(settings_file.read_text(encoding="utf-8")), settings)
             self.load()
         else:
-            write_whole(settings_file, json.dumps(settings, indent=1) + "\n")
+            write_whole(settings_file, (json.dumps(settings, indent=1) + "\n").encode())
         self.progress = open(folder / "tried.jsonl", "a", encoding="utf-8")
 
-    def take(self):
-        """Takes the folder for this run; the lock ends with the process."""
-        lock = open(self.folder / "lock", "a", encoding="utf-8")
-        try:
-            fcntl.flock(lock, fcntl.LOCK_EX | fcntl.LOCK_NB)
-        except OSError as error:
-            raise StoreRefusal(f"another run has {self.folder}") from error
+    def take(self) -> TextIO:
+        lock = lock_folder(self.folder)
+        if lock is None:
+            raise StoreRefusal(f"another run has {self.folder}")
         return lock
 
-    def compare(self, before: dict, now: dict) -> None:
-        changed = sorted(key for key in {*before, *now} if before.get(key) != now.get(key))
+    def compare(self, before: dict[str, object], now: dict[str, object]) -> None:
+        changed = differing(before, now)
         if changed:
             raise StoreRefusal(f"the run in {self.folder} had another {', '.join(changed)}: --output names another folder")
 
@@ -78,7 +77,7 @@ class Store:
                     entry = json.loads(line)
                     self.tried.add((entry["digest"], entry["seed"]))
             cut = tried.read_text(encoding="utf-8")
-            write_whole(tried, cut[: cut.rfind("\n") + 1])
+            write_whole(tried, cut[: cut.rfind("\n") + 1].encode())
         for entry in sorted(self.folder.iterdir()):
             if entry.name.startswith(".new-"):
                 shutil.rmtree(entry)
@@ -100,7 +99,7 @@ class Store:
             self.progress.flush()
             self.tried.add((digest, seed))
 
-    def add(self, finding: Finding, report: dict, made: Path) -> Path:
+    def add(self, finding: Finding, report: dict[str, object], made: Path) -> Path:
         """Keeps a finding with the files of a folder that was made for it; it is there whole, or not at all."""
         (made / "finding.json").write_text(json.dumps({"finding": asdict(finding), **report}, indent=1) + "\n", encoding="utf-8")
         beside = self.folder / f".new-{finding.name()}"
@@ -113,10 +112,3 @@ class Store:
     def close(self) -> None:
         self.progress.close()
         self.taken.close()
-
-
-def write_whole(file: Path, text: str) -> None:
-    """Writes a file so that it is there whole, or as it was."""
-    beside = file.with_name(f".{file.name}.new")
-    beside.write_text(text, encoding="utf-8")
-    os.replace(beside, file)

@@ -3,18 +3,15 @@
 from __future__ import annotations
 
 import os
-import shutil
 import tempfile
 from dataclasses import dataclass
 from pathlib import Path
 from typing import Sequence
 
+from ..options import MISUSED
+from ..program import find_program
 from ..running.processes import Runner
-
 from .judge import Failure
-
-# The status of a program that doesn't take its options.
-MISUSED = 64
 
 # How long the program may take.
 SECONDS = 600.0
@@ -35,10 +32,9 @@ class Stretch:
         return ["--function", str(self.function), "--from", str(self.first), *last]
 
 
-def find_program(named: str | None) -> str | None:
-    """The program that is named, or by TEDDERTEMPO, or is beside this one, or on the path, if there is one."""
-    beside = Path(__file__).resolve().parents[3] / "bin" / "teddertempo"
-    return named or os.environ.get("TEDDERTEMPO") or (str(beside) if beside.exists() else shutil.which("teddertempo"))
+def program_of(named: str | None) -> str | None:
+    """The program that is named, or by TEDDERTEMPO, else the one that is found, if there is one."""
+    return named or os.environ.get("TEDDERTEMPO") or find_program()
 
 
 class Changer:

@@ -12,16 +12,15 @@ import time
 import traceback
 from pathlib import Path
 
-from ..running.command import FAILED, Parser, duration, positive, split_engine
+from ..options import FAILED, Parser, duration, positive, split_command
 from ..running.processes import Runner, Stopped
-
 from ..wasm.binary import Unreadable
-from .changes import Changer, find_program
-from .judge import Budget, Command, Exhausted, Failure, Judge
 from ..wasm.module import Module
+from ..wasm.reading import read_module
+from .changes import Changer, program_of
+from .judge import Budget, Command, Exhausted, Failure, Judge
 from .output import Output
 from .passes import all_passes
-from ..wasm.reading import read_module
 from .report import Reporter, write_report
 from .search import Search
 from .state import State, StateFolder, StateRefusal
@@ -38,8 +37,7 @@ failed; 130, 143: stopped by a signal. OUTPUT has the smallest module so far at 
 
 
 def parser() -> Parser:
-    made = Parser(prog="teddertempo-reduce", usage="%(prog)s [OPTIONS] MODULE -o OUTPUT -- PREDICATE ARGS..", description=DESCRIPTION,
-                  epilog=EPILOG, allow_abbrev=False)
+    made = Parser("teddertempo-reduce", "%(prog)s [OPTIONS] MODULE -o OUTPUT -- PREDICATE ARGS..", DESCRIPTION, EPILOG)
     made.add_argument("modules", metavar="MODULE", nargs="*", help="the module, which the predicate accepts")
     made.add_argument("-o", "--output", type=Path, metavar="OUTPUT", help="where the smallest module goes")
     made.add_argument("--jobs", type=positive, default=1, metavar="N", help="how many candidates are tried side by side (1)")
@@ -53,7 +51,6 @@ def parser() -> Parser:
     made.add_argument("--program", metavar="PROGRAM", help="the program teddertempo, which makes changes")
     made.add_argument("--json", metavar="FILE", help="writes a report as JSON there; - is standard output")
     made.add_argument("--quiet", action="store_true", help="tells errors alone")
-    made.add_argument("-V", "--version", action="store_true", help="prints the version of teddertempo")
     return made
 
 
@@ -82,7 +79,7 @@ def read_file(file: Path) -> bytes:
         raise Failure(f"{file}: {error.strerror}") from error
 
 
-def lasting(options: argparse.Namespace, predicate: list[str], data: bytes) -> dict:
+def lasting(options: argparse.Namespace, predicate: list[str], data: bytes) -> dict[str, object]:
     """What has to be as it was for a reduction to go on."""
     validator = "none" if options.no_validator else options.validator or "usual"
     return {"module": hashlib.sha256(data).hexdigest(), "predicate": predicate, "validator": validator, "names": options.keep_names}
@@ -149,7 +146,7 @@ class Reduction:
 
     def changer(self, folder: Path, reporter: Reporter) -> Changer | None:
         """The program, where it is there and knows changes in places that are named."""
-        program = find_program(self.options.program)
+        program = program_of(self.options.program)
         if program is None:
             reporter.note("no program teddertempo is there: its changes aren't tried")
             return None
@@ -158,18 +155,6 @@ class Reduction:
             return changer
         reporter.note(f"{program} doesn't know --from: its changes aren't tried")
         return None
-
-
-def print_version(named: str | None, runner: Runner) -> int:
-    program = find_program(named)
-    if program is None:
-        raise Failure("teddertempo, whose version it is, is neither beside this program nor on the path; --program names it")
-    try:
-        said = runner.run([program, "--version"]).output.decode("utf-8", "replace").strip()
-    except OSError as error:
-        raise Failure(f"{program}: {error.strerror}") from error
-    print(said.replace("teddertempo", "teddertempo-reduce", 1))
-    return 0
 
 
 def check(options: argparse.Namespace, predicate: list[str], made: Parser) -> None:
@@ -190,17 +175,14 @@ def check(options: argparse.Namespace, predicate: list[str], made: Parser) -> No
         made.error("--validator names no command")
 
 
-def main(words: list[str]) -> int:
-    own, predicate = split_engine(words)
+def main() -> int:
+    own, predicate = split_command(sys.argv[1:])
     made = parser()
     options = made.parse_intermixed_args(own)
-    if not options.version:
-        check(options, predicate, made)
+    check(options, predicate, made)
     runner = Runner(options.timeout)
     signals = Signals(runner)
     try:
-        if options.version:
-            return print_version(options.program, runner)
         Reduction(options, predicate, runner).run()
         return 0
     except Stopped:

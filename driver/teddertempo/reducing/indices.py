@@ -3,14 +3,15 @@
 from __future__ import annotations
 
 from dataclasses import replace
-from typing import Iterable
+from typing import Callable, Iterable, Sequence, TypeVar
 
 from ..wasm.immediates import Space, Visit
-from ..wasm.module import CUSTOM, KINDS, Data, Element, Export, Extra, Function, Global, Import, Limits, Module, Table
-from .names import renumber_names
+from ..wasm.module import CUSTOM, KINDS, Data, Element, Export, Extra, Function, Global, Import, Module, Table
 from ..wasm.operators import visit_body
-from ..wasm.types import visited_all
+from ..wasm.types import Limits, visited_all
+from .names import renumber_names
 
+Item = TypeVar("Item")
 Use = tuple[Space, int]
 
 # Which indices become which others; those that aren't there are gone.
@@ -52,13 +53,13 @@ class Visitor:
 
     def element(self, item: Element) -> Element:
         return Element(item.flags, self.visit(Space.TABLE, item.table) if item.is_active() else 0,
-                       item.offset and visit_body(item.offset, self.visit), item.type and item.type.visited(self.type_index),
+                       visit_body(item.offset, self.visit), item.type and item.type.visited(self.type_index),
                        tuple(self.visit(Space.FUNCTION, index) for index in item.functions),
                        tuple(visit_body(body, self.visit) for body in item.expressions))
 
     def data(self, item: Data) -> Data:
         memory = self.visit(Space.MEMORY, item.memory) if item.is_active() else 0
-        return Data(item.flags, memory, item.offset and visit_body(item.offset, self.visit), item.content)
+        return Data(item.flags, memory, visit_body(item.offset, self.visit), item.content)
 
     def module(self, item: Module) -> Module:
         return replace(
@@ -79,7 +80,7 @@ class Visitor:
 class Uses(Visitor):
     """Notes what the parts name that it visits, but locals."""
 
-    def __init__(self):
+    def __init__(self) -> None:
         self.found: set[Use] = set()
         super().__init__(self.note)
 
@@ -108,11 +109,14 @@ class Reach:
             self.uses.export(export)
         if module.start is not None:
             self.uses.note(Space.FUNCTION, module.start)
-        for space, segments in ((Space.ELEMENT, module.elements), (Space.DATA, module.data)):
-            for index, segment in enumerate(segments):
-                if segment.is_active():
-                    self.uses.note(space, index)
+        self.note_active(Space.ELEMENT, module.elements)
+        self.note_active(Space.DATA, module.data)
         self.close()
+
+    def note_active(self, space: Space, segments: Sequence[Element | Data]) -> None:
+        for index, segment in enumerate(segments):
+            if segment.is_active():
+                self.uses.note(space, index)
 
     def close(self) -> None:
         """Adds what is used by what is used."""
@@ -126,18 +130,29 @@ class Reach:
 
     def visit(self, space: Space, index: int) -> None:
         """Visits one thing that is used."""
-        module = self.module
+        imported = self.imports.get(space, [])
         if space is Space.TYPE:
             self.visit_type(index)
-            return
-        own = {Space.FUNCTION: (module.functions, self.uses.function), Space.TABLE: (module.tables, self.uses.table),
-               Space.GLOBAL: (module.globals, self.uses.global_of), Space.TAG: (module.tags, self.uses.type_index),
-               Space.ELEMENT: (module.elements, self.uses.element), Space.DATA: (module.data, self.uses.data)}.get(space)
-        imported = self.imports.get(space, [])
-        if index < len(imported):
+        elif index < len(imported):
             self.uses.imported(imported[index])
-        elif own and index - len(imported) < len(own[0]):
-            own[1](own[0][index - len(imported)])
+        else:
+            self.visit_own(space, index - len(imported))
+
+    def visit_own(self, space: Space, place: int) -> None:
+        """Visits what isn't imported."""
+        module, uses = self.module, self.uses
+        if space is Space.FUNCTION:
+            visit_at(place, module.functions, uses.function)
+        elif space is Space.TABLE:
+            visit_at(place, module.tables, uses.table)
+        elif space is Space.GLOBAL:
+            visit_at(place, module.globals, uses.global_of)
+        elif space is Space.TAG:
+            visit_at(place, module.tags, uses.type_index)
+        elif space is Space.ELEMENT:
+            visit_at(place, module.elements, uses.element)
+        elif space is Space.DATA:
+            visit_at(place, module.data, uses.data)
 
     def visit_type(self, index: int) -> None:
         """Visits a type, and with it its group."""
@@ -152,6 +167,12 @@ class Reach:
         """What isn't used, in order."""
         counts = counts_of(self.module)
         return [(space, index) for space in counts for index in range(counts[space]) if (space, index) not in self.used]
+
+
+def visit_at(place: int, parts: tuple[Item, ...], visit: Callable[[Item], object]) -> None:
+    """Visits the part at a place, if there is one."""
+    if place < len(parts):
+        visit(parts[place])
 
 
 def counts_of(module: Module) -> dict[Space, int]:
@@ -201,7 +222,7 @@ def without(module: Module, gone: set[Use]) -> Module | None:
 def cut_out(module: Module, kept: dict[Space, list[int]]) -> Module:
     """The module with what is kept alone, by its old indices."""
 
-    def own(space: Space, items: tuple) -> tuple:
+    def own(space: Space, items: tuple[Item, ...]) -> tuple[Item, ...]:
         first = module.imported(space)
         return tuple(items[index - first] for index in kept[space] if index >= first)
 

@@ -15,7 +15,6 @@ from pathlib import Path
 from typing import Iterator
 
 from ..running.processes import Runner, Stopped
-
 from .state import State
 
 # How long a validator may take.

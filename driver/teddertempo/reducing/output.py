@@ -4,8 +4,9 @@ from __future__ import annotations
 
 from pathlib import Path
 
+from ..files import write_whole
 from .judge import Failure
-from .state import State, write_whole
+from .state import State
 
 
 class Output:

@@ -6,8 +6,8 @@ import json
 import sys
 import time
 from pathlib import Path
-from typing import TextIO
 
+from ..terminal import print_text
 from .judge import Judge, Verdict
 from .output import Output
 from .search import Candidate, Listener, PassReport, Search
@@ -64,7 +64,7 @@ class Reporter(Listener):
             told = f" (stopped: {stopped})" if stopped else ""
             print(f"{before:,} bytes became {search.best.size[0]:,} in {self.judge.runs:,} runs{told}", file=sys.stderr)
 
-    def report(self, before: int, search: Search, stopped: str | None) -> dict:
+    def report(self, before: int, search: Search, stopped: str | None) -> dict[str, object]:
         """The same as JSON has it."""
         return {
             "before": before,
@@ -79,23 +79,14 @@ class Reporter(Listener):
         }
 
 
-def passed(report: PassReport) -> dict:
+def passed(report: PassReport) -> dict[str, object]:
     verdicts = {verdict.value: report.verdicts[verdict] for verdict in Verdict}
     return {"name": report.name, "accepted": report.accepted, "bytes": report.bytes, "seconds": round(report.seconds, 3), **verdicts}
 
 
-def write_report(report: dict, file: str) -> None:
+def write_report(report: dict[str, object], file: str) -> None:
     text = json.dumps(report, indent=1) + "\n"
     if file == "-":
-        write_text(sys.stdout, text)
+        print_text(text)
     else:
         Path(file).write_text(text, encoding="utf-8")
-
-
-def write_text(stream: TextIO, text: str) -> None:
-    """Writes to a stream; where nobody reads any more, that is the end of it."""
-    try:
-        stream.write(text)
-        stream.flush()
-    except BrokenPipeError:
-        sys.stdout = None

@@ -14,10 +14,11 @@ import time
 from collections import deque
 from concurrent.futures import Future, ThreadPoolExecutor
 from dataclasses import dataclass, field
+from functools import partial
 from typing import Any, Callable, Iterator, Optional, Sequence
 
-from .judge import Judge, Verdict
 from ..wasm.module import Module
+from .judge import Judge, Verdict
 
 
 @dataclass(frozen=True)
@@ -156,10 +157,12 @@ class Search:
     def attempt(self, make: Callable[[], Module | None], best: Candidate) -> tuple[Candidate | None, Verdict]:
         """Makes what is proposed, and has it judged."""
         module = make()
-        candidate = module and candidate_of(module, module.encoded)
-        if candidate is None or candidate.size >= best.size:
+        if module is None:
             return None, Verdict.NOT_MADE
-        accepted, verdict = self.judge.judge(module.encoded)
+        candidate = candidate_of(module, module.encoded)
+        if candidate.size >= best.size:
+            return None, Verdict.NOT_MADE
+        accepted, verdict = self.judge.judge(candidate.data())
         return (candidate if accepted else None), verdict
 
 
@@ -169,8 +172,7 @@ def proposals(each: Pass, module: Module, cursor: Cursor) -> Iterator[Proposal]:
     size, behind = min(cursor.size, max(1, len(positions))), cursor.behind
     while True:
         for end in range(len(positions) - behind, 0, -size):
-            chosen = positions[max(0, end - size) : end]
-            yield Cursor(size, len(positions) - end), lambda chosen=chosen: each.apply(module, chosen)
+            yield Cursor(size, len(positions) - end), partial(each.apply, module, positions[max(0, end - size) : end])
         if size <= each.smallest(len(positions)):
             return
         size, behind = (size + 1) // 2, 0

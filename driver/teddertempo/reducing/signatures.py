@@ -4,6 +4,7 @@ from __future__ import annotations
 
 from typing import Optional
 
+from ..wasm.immediates import Argument
 from ..wasm.module import Context
 from ..wasm.operators import DROP, GLOBAL_GET, GLOBAL_SET, REF_FUNC, REF_NULL, TABLE_GET, TABLE_SET, Operator, prefixed
 from ..wasm.types import F32, F64, FUNCREF, I32, I64, NULLABLE, REFERENCE, V128, ArrayType, StructureType, ValueType
@@ -49,7 +50,8 @@ def parsed(table: str, prefix: int | None = None) -> dict[int, tuple[str, str]]:
     for row in table.replace("\n", " ").split(","):
         first, letters, count = row.split()
         for code in range(int(first, 16), int(first, 16) + int(count)):
-            found[code if prefix is None else prefixed(prefix, code)] = tuple(letters.split(">"))
+            taken, left = letters.split(">")
+            found[code if prefix is None else prefixed(prefix, code)] = taken, left
     return found
 
 
@@ -67,12 +69,14 @@ def memory_address(operator: Operator, context: Context) -> ValueType:
 
 
 def memory_of(value: object) -> int | None:
-    return value.memory_index() if hasattr(value, "memory_index") else value if isinstance(value, int) else None
+    if isinstance(value, Argument):
+        return value.memory_index()
+    return value if isinstance(value, int) else None
 
 
 def table_address(operator: Operator, context: Context) -> ValueType:
     """The type of indices into the table that an operator names last."""
-    index = operator.values[-1]
+    index = operator.number(-1)
     return address(index < len(context.tables) and context.tables[index].limits.is_wide())
 
 
@@ -85,10 +89,10 @@ def signature(operator: Operator, context: Context) -> Signature | None:
     if operator.code in (GLOBAL_GET, GLOBAL_SET):
         return global_signature(operator, context)
     if operator.code in (TABLE_GET, TABLE_SET):
-        index, element = table_address(operator, context), element_of(operator.values[0], context)
+        index, element = table_address(operator, context), element_of(operator.number(), context)
         return ((index,), (element,)) if operator.code == TABLE_GET else ((index, element), ())
     if operator.code == REF_NULL:
-        heap = operator.values[0]
+        heap = operator.number()
         return (), (ValueType(NULLABLE, heap) if heap >= 0 else ValueType(heap + 0x80),)
     if operator.code == REF_FUNC:
         return (), (FUNCREF,)
@@ -104,7 +108,7 @@ def type_of(letter: str, operator: Operator, context: Context) -> ValueType | No
 
 
 def global_signature(operator: Operator, context: Context) -> Signature | None:
-    index = operator.values[0]
+    index = operator.number()
     if index >= len(context.globals):
         return None
     kind = context.globals[index].value
@@ -120,17 +124,19 @@ def object_signature(operator: Operator, context: Context) -> Signature | None:
     if operator.code >> 16 != 0xFB or not operator.values:
         return None
     index = operator.values[0]
-    found = context.types[index].composite if isinstance(index, int) and 0 <= index < len(context.types) else None
+    if not isinstance(index, int):
+        return None
+    found = context.types[index].composite if 0 <= index < len(context.types) else None
     code, new = operator.code & 0xFFFF, (ValueType(REFERENCE, index),)
     if isinstance(found, StructureType):
         fields = tuple(unpacked(field.storage) for field in found.fields)
-        place = operator.values[-1] if len(operator.values) == 2 else 0
+        place = operator.number(-1) if len(operator.values) == 2 else 0
         field = fields[place : place + 1]
         return {0: (fields, new), 1: ((), new), 2: ((None,), field), 3: ((None,), field), 4: ((None,), field),
                 5: ((None, *field), ())}.get(code)
     if isinstance(found, ArrayType):
         element = unpacked(found.element.storage)
-        count = operator.values[1] if code == 8 else 0
+        count = operator.number(1) if code == 8 else 0
         ranges = {code: ((I32, I32), new) for code in (9, 10)} | {code: ((None, I32, I32, I32), ()) for code in (18, 19)}
         return {6: ((element, I32), new), 7: ((I32,), new), 8: ((element,) * count, new), 11: ((None, I32), (element,)),
                 12: ((None, I32), (element,)), 13: ((None, I32), (element,)), 14: ((None, I32, element), ()),

@@ -2,11 +2,12 @@
 
 from __future__ import annotations
 
-import fcntl
 import json
-import os
 import threading
 from pathlib import Path
+from typing import TextIO
+
+from ..files import differing, lock_folder, write_whole
 
 
 class StateRefusal(Exception):
@@ -16,7 +17,7 @@ class StateRefusal(Exception):
 class State:
     """What came of the candidates, by the digests of their bytes."""
 
-    def __init__(self):
+    def __init__(self) -> None:
         self.outcomes: dict[str, bool] = {}
 
     def outcome(self, digest: str) -> bool | None:
@@ -39,7 +40,7 @@ class State:
 class StateFolder(State):
     """The same in a folder, which one reduction at a time has."""
 
-    def __init__(self, folder: Path, settings: dict):
+    def __init__(self, folder: Path, settings: dict[str, object]):
         super().__init__()
         self.folder = folder
         self.lock = threading.Lock()
@@ -55,17 +56,14 @@ class StateFolder(State):
         self.load()
         self.tried = open(folder / "tried.txt", "a", encoding="ascii")
 
-    def take(self):
-        """Takes the folder; the lock ends with the process."""
-        lock = open(self.folder / "lock", "a", encoding="ascii")
-        try:
-            fcntl.flock(lock, fcntl.LOCK_EX | fcntl.LOCK_NB)
-        except OSError as error:
-            raise StateRefusal(f"another reduction has {self.folder}") from error
+    def take(self) -> TextIO:
+        lock = lock_folder(self.folder)
+        if lock is None:
+            raise StateRefusal(f"another reduction has {self.folder}")
         return lock
 
-    def compare(self, before: dict, now: dict) -> None:
-        changed = sorted(key for key in {*before, *now} if before.get(key) != now.get(key))
+    def compare(self, before: dict[str, object], now: dict[str, object]) -> None:
+        changed = differing(before, now)
         if changed:
             raise StateRefusal(f"the reduction in {self.folder} has another {', '.join(changed)}: --state names another folder")
 
@@ -96,12 +94,3 @@ class StateFolder(State):
     def close(self) -> None:
         self.tried.close()
         self.taken.close()
-
-
-def write_whole(file: Path, data: bytes) -> None:
-    """Writes a file so that it is there whole, or as it was; it keeps its mode."""
-    beside = file.with_name(f".{file.name}.new")
-    beside.write_bytes(data)
-    if file.exists():
-        os.chmod(beside, file.stat().st_mode & 0o7777)
-    os.replace(beside, file)

@@ -6,12 +6,13 @@ from __future__ import annotations
 from dataclasses import dataclass, field
 from functools import lru_cache
 
+from ..wasm.immediates import ImmediateValue, Kinds, Targets, narrowed
 from ..wasm.module import Context, Function
 from ..wasm.operators import (BR, BR_IF, BR_ON_NON_NULL, BR_ON_NULL, BR_TABLE, CALL, CALL_INDIRECT, CALL_REF, CATCH, CLOSES, ELSE,
                         IF, LOCAL_GET, LOCAL_SET, LOCAL_TEE, LOOP, OPENS, PARTS, RETHROW, RETURN, RETURN_CALL, RETURN_CALL_INDIRECT,
                         RETURN_CALL_REF, SELECT, THROW, THROW_REF, TYPED_SELECT, UNREACHABLE, Operator)
-from .signatures import Types, signature, table_address
 from ..wasm.types import I32, FunctionType, ValueType
+from .signatures import Types, signature, table_address
 
 ENDS_CODE = frozenset((UNREACHABLE, BR, BR_TABLE, RETURN, RETURN_CALL, RETURN_CALL_INDIRECT, RETURN_CALL_REF, THROW, THROW_REF, RETHROW))
 
@@ -127,12 +128,12 @@ class Walk:
 
     # ---- blocks
 
-    def block_type(self, form: None | ValueType | int) -> tuple[Types, Types]:
+    def block_type(self, form: ImmediateValue) -> tuple[Types, Types]:
         if form is None:
             return (), ()
         if isinstance(form, ValueType):
             return (), (form,)
-        return self.types_of(form)
+        return self.types_of(narrowed(form, int))
 
     def types_of(self, index: int) -> tuple[Types, Types]:
         found: FunctionType | None = self.context.function_type(index)
@@ -155,7 +156,7 @@ class Walk:
         if operator.code == ELSE:
             self.stack += [Value(kind, at + 1) for kind in frame.taken]
         elif operator.code == CATCH:
-            tag = operator.values[0]
+            tag = operator.number()
             if tag >= len(self.context.tags):
                 raise Unknown
             self.stack += [Value(kind, at + 1) for kind in self.types_of(self.context.tags[tag])[0]]
@@ -188,13 +189,14 @@ class Walk:
 
     def local_signature(self, operator: Operator) -> tuple[Types, Types] | None:
         if operator.code in (LOCAL_GET, LOCAL_SET, LOCAL_TEE):
-            if operator.values[0] >= len(self.kinds):
+            if operator.number() >= len(self.kinds):
                 raise Unknown
-            kind = self.kinds[operator.values[0]]
+            kind = self.kinds[operator.number()]
             return (() if operator.code == LOCAL_GET else (kind,)), (() if operator.code == LOCAL_SET else (kind,))
         if operator.code in (SELECT, TYPED_SELECT):
-            kind = operator.values[0][0] if operator.values and operator.values[0] else self.select_type()
-            return (kind, kind, I32), (kind,)
+            named = narrowed(operator.values[0], Kinds) if operator.values else ()
+            selected = named[0] if named else self.select_type()
+            return (selected, selected, I32), (selected,)
         return None
 
     def select_type(self) -> ValueType | None:
@@ -208,20 +210,20 @@ class Walk:
         if code == RETURN:
             return self.frames[0].results, ()
         if code == BR:
-            return self.label_types(operator.values[0]), ()
+            return self.label_types(operator.number()), ()
         if code == BR_IF:
-            kinds = self.label_types(operator.values[0])
+            kinds = self.label_types(operator.number())
             return (*kinds, I32), kinds
         if code == BR_TABLE:
-            return (*self.label_types(operator.values[0][-1]), I32), ()
+            return (*self.label_types(narrowed(operator.values[0], Targets)[-1]), I32), ()
         if code == BR_ON_NULL:
-            kinds = self.label_types(operator.values[0])
+            kinds = self.label_types(operator.number())
             return (*kinds, None), (*kinds, None)
         if code == BR_ON_NON_NULL:
-            kinds = self.label_types(operator.values[0])
+            kinds = self.label_types(operator.number())
             return kinds, kinds[:-1]
         if code == THROW:
-            tag = operator.values[0]
+            tag = operator.number()
             return (self.types_of(self.context.tags[tag])[0], ()) if tag < len(self.context.tags) else None
         return ((None,), ()) if code == THROW_REF else ((), ()) if code == RETHROW else None
 
@@ -229,14 +231,14 @@ class Walk:
         code = operator.code
         if code in (CALL, RETURN_CALL):
             types = self.context.functions
-            if operator.values[0] >= len(types):
+            if operator.number() >= len(types):
                 raise Unknown
-            taken, left = self.types_of(types[operator.values[0]])
+            taken, left = self.types_of(types[operator.number()])
         elif code in (CALL_INDIRECT, RETURN_CALL_INDIRECT):
-            taken, left = self.types_of(operator.values[0])
+            taken, left = self.types_of(operator.number())
             taken = (*taken, table_address(operator, self.context))
         elif code in (CALL_REF, RETURN_CALL_REF):
-            taken, left = self.types_of(operator.values[0])
+            taken, left = self.types_of(operator.number())
             taken = (*taken, None)
         else:
             return None

@@ -18,11 +18,11 @@ from typing import Iterator
 
 from ..engines.calls import Call
 from ..engines.engine import Engine, Observation, Plan
-from ..engines.interface import Unreadable
-from .mutator import Dose, Mutator, MutatorFailure, Rewrite
 from ..engines.outcomes import BOUNDS, ENDS, Answer, Difference, Kind, difference_of
-from .processes import Runner, Stopped
 from ..findings.store import Finding, Store
+from ..wasm.binary import Unreadable
+from .mutator import Dose, Mutator, MutatorFailure, Rewrite
+from .processes import Runner, Stopped
 
 # The calls on a module have to end in this part of the time that a run of the engine has, so that its mutants have time to spare.
 OWN_SHARE = 0.25
@@ -70,9 +70,9 @@ class Summary:
     modules: int = 0
     failing: int = 0
     skipped: dict[str, str] = field(default_factory=dict)
-    outcomes: Counter = field(default_factory=Counter)
+    outcomes: Counter[str] = field(default_factory=Counter)
     findings: list[tuple[Finding, Path]] = field(default_factory=list)
-    again: Counter = field(default_factory=Counter)
+    again: Counter[tuple[str, str]] = field(default_factory=Counter)
     runs: int = 0
     seconds: float = 0.0
     stopped: bool = False
@@ -374,7 +374,8 @@ class Account:
         texts["README.txt"] = self.text(version, shlex.join(mutate), commands)
         for name, text in texts.items():
             (made / name).write_text(text, encoding="utf-8", errors="backslashreplace")
-        report = {"version": version, "folder": os.getcwd(), "mutate": shlex.join(mutate), "run": commands, "shown": self.rewrite.text}
+        report: dict[str, object] = {"version": version, "folder": os.getcwd(), "mutate": shlex.join(mutate), "run": commands,
+                                     "shown": self.rewrite.text}
         return self.campaign.store.add(self.finding, report, made)
 
     def text(self, version: str, mutate: str, commands: list[str]) -> str:

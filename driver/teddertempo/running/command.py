@@ -3,6 +3,7 @@
 from __future__ import annotations
 
 import argparse
+import io
 import os
 import re
 import signal
@@ -11,15 +12,16 @@ import time
 import traceback
 from pathlib import Path
 
-from .campaign import Campaign, Settings, Summary, find_modules
 from ..engines.engine import ENGINES, engine_of
-from .mutator import Choice, Dose, Mutator, MutatorFailure, MutatorMisuse, find_program
 from ..findings.reduction import NoFinding, Reducer, differs
 from ..findings.report import Reporter
-from .processes import Runner, Stopped
 from ..findings.store import Store, StoreRefusal
+from ..options import FAILED, MISUSED, Parser, duration, positive, split_command
+from .campaign import Campaign, Settings, Summary, find_modules
+from .mutator import Choice, Dose, Mutator, MutatorFailure, MutatorMisuse, program_of
+from .processes import Runner, Stopped
 
-FOUND, NOTHING_RUN, MISUSED, FAILED, STOPPED = 1, 2, 64, 70, 130
+FOUND, NOTHING_RUN, STOPPED = 1, 2, 130
 
 # Of --differs: whether the module differs.
 DIFFERS, SAME = 0, 1
@@ -44,13 +46,6 @@ def dose(text: str) -> Dose:
     return Dose(float(match.group(1)), bool(match.group(2)))
 
 
-def duration(text: str) -> float:
-    match = re.fullmatch(r"(\d+(?:\.\d+)?)([smh]?)", text)
-    if not match or float(match.group(1)) == 0:
-        raise argparse.ArgumentTypeError("seconds, or as 90s, 30m, 8h")
-    return float(match.group(1)) * {"": 1, "s": 1, "m": 60, "h": 3600}[match.group(2)]
-
-
 def seeds(text: str) -> range:
     match = re.fullmatch(r"(?:(\d+)\.\.)?(\d+)", text)
     found = range(int(match.group(1) or 0), int(match.group(2))) if match else range(0)
@@ -59,23 +54,8 @@ def seeds(text: str) -> range:
     return found
 
 
-def positive(text: str) -> int:
-    if not re.fullmatch(r"\d+", text) or int(text) == 0:
-        raise argparse.ArgumentTypeError("a number above 0")
-    return int(text)
-
-
-class Parser(argparse.ArgumentParser):
-    """A parser whose refusals have the status of a wrong command line."""
-
-    def error(self, message: str):
-        self.print_usage(sys.stderr)
-        self.exit(MISUSED, f"{self.prog}: {message}\n")
-
-
 def parser() -> Parser:
-    made = Parser(prog="teddertempo-diff", usage="%(prog)s [OPTIONS] MODULE.. -- ENGINE ARGS..", description=DESCRIPTION, epilog=EPILOG,
-                  allow_abbrev=False)
+    made = Parser("teddertempo-diff", "%(prog)s [OPTIONS] MODULE.. -- ENGINE ARGS..", DESCRIPTION, EPILOG)
     made.add_argument("modules", metavar="MODULE", nargs="*", help="a module, or a folder of modules")
     made.add_argument("--seeds", type=seeds, default=range(50), metavar="N",
                       help="the seeds below N, or A..B: a mutant of each module by each (50)")
@@ -105,14 +85,7 @@ def parser() -> Parser:
     made.add_argument("--teddertempo", metavar="PROGRAM", help="the program that rewrites")
     made.add_argument("--json", action="store_true", help="tells findings and summary as JSON, an object a line")
     made.add_argument("--quiet", action="store_true", help="tells findings alone")
-    made.add_argument("-V", "--version", action="store_true", help="prints the version of teddertempo")
     return made
-
-
-def split_engine(words: list[str]) -> tuple[list[str], list[str]]:
-    """The words before the first `--`, and those behind it."""
-    place = words.index("--") if "--" in words else len(words)
-    return words[:place], words[place + 1 :]
 
 
 def choice_of(options: argparse.Namespace) -> Choice:
@@ -129,7 +102,7 @@ def settings_of(options: argparse.Namespace) -> Settings:
     return Settings(options.seeds, options.dose, options.jobs, options.strict, options.all, options.first, deadline)
 
 
-def lasting(options: argparse.Namespace, engine: list[str], version: str) -> dict:
+def lasting(options: argparse.Namespace, engine: list[str], version: str) -> dict[str, object]:
     """What has to be as it was for a run to go on."""
     return {"version": version, "engine": engine, "as": options.engine, "dose": str(options.dose), "calls": options.calls,
             "options": [*choice_of(options).words(), *options_of(options)], "swarm": options.swarm, "strict": options.strict, "all": options.all}
@@ -153,11 +126,8 @@ def status_of(summary: Summary, store: Store) -> int:
 def run(options: argparse.Namespace, engine: list[str]) -> int:
     """Runs what the options ask for, and answers the status."""
     runner = Runner(options.timeout)
-    mutator = Mutator(find_program(options.teddertempo), choice_of(options), options_of(options), runner)
+    mutator = Mutator(program_of(options.teddertempo), choice_of(options), options_of(options), runner)
     version = mutator.version()
-    if options.version:
-        print(version.replace("teddertempo", "teddertempo-diff", 1))
-        return 0
     stop_on_signals(runner)
     store = Store(options.output, lasting(options, engine, version), options.goes_on)
     reporter = Reporter(options.json, options.quiet)
@@ -186,7 +156,7 @@ def tell_difference(options: argparse.Namespace) -> int:
     """Whether the module differs as the finding does, as a predicate tells."""
     runner = Runner(options.timeout)
     stop_on_signals(runner)
-    found = differs(options.differs, Path(options.modules[0]), find_program(options.teddertempo), runner)
+    found = differs(options.differs, Path(options.modules[0]), program_of(options.teddertempo), runner)
     return DIFFERS if found else SAME
 
 
@@ -202,15 +172,15 @@ def check(options: argparse.Namespace, engine: list[str], made: Parser) -> None:
         made.error("no ENGINE: it stands behind --")
 
 
-def main(words: list[str]) -> int:
-    sys.stdout.reconfigure(errors="backslashreplace")
-    own, engine = split_engine(words)
+def main() -> int:
+    if isinstance(sys.stdout, io.TextIOWrapper):
+        sys.stdout.reconfigure(errors="backslashreplace")
+    own, engine = split_command(sys.argv[1:])
     made = parser()
     options = made.parse_intermixed_args(own)
-    if not options.version:
-        check(options, engine, made)
+    check(options, engine, made)
     try:
-        return tell_difference(options) if options.differs and not options.version else run(options, engine)
+        return tell_difference(options) if options.differs else run(options, engine)
     except MutatorMisuse as misuse:
         print(misuse, file=sys.stderr)
         return MISUSED

@@ -5,11 +5,11 @@ from __future__ import annotations
 import hashlib
 import json
 import re
-import shutil
 from dataclasses import dataclass
 from pathlib import Path
 from typing import Iterable
 
+from ..program import find_program
 from .processes import Finished, Runner
 
 NOTHING_TO_REWRITE, MISUSED = 2, 64
@@ -79,12 +79,9 @@ class Dose:
         return f"{self.amount:g}%" if self.is_share else f"{self.amount:g}"
 
 
-def find_program(named: str | None) -> str:
-    """The program that is named, else the one beside this one, else the one on the path."""
-    if named:
-        return named
-    beside = Path(__file__).resolve().parents[3] / "bin" / "teddertempo"
-    found = str(beside) if beside.exists() else shutil.which("teddertempo")
+def program_of(named: str | None) -> str:
+    """The program that is named, else the one that is found."""
+    found = named or find_program()
     if not found:
         raise MutatorFailure("teddertempo is neither beside this program nor on the path; --teddertempo names it")
     return found
@@ -148,7 +145,7 @@ class Mutator:
         for line in errors.decode().splitlines():
             report = json.loads(line) if line.startswith("{") else {}
             if report.get("of") == "operators":
-                return report["rewritable"]
+                return int(report["rewritable"])
         return 0
 
     def places(self, module: Path) -> int:

@@ -9,6 +9,7 @@ import subprocess
 import threading
 import time
 from dataclasses import dataclass
+from typing import IO
 
 MOST_OUTPUT = 16 << 20  # bytes of a run, if nothing else is said
 
@@ -35,7 +36,7 @@ class Runner:
         self.seconds = seconds
         self.stopped = threading.Event()
         self.lock = threading.RLock()  # a signal may come while the main thread holds it
-        self.running: set[subprocess.Popen] = set()
+        self.running: set[subprocess.Popen[bytes]] = set()
 
     def stop(self) -> None:
         """Ends what runs, and lets nothing begin any more."""
@@ -58,8 +59,8 @@ class Runner:
         finally:
             end_group(process)
             process.wait()
-            process.stdout.close()
-            process.stderr.close()
+            for pipe in pipes_of(process):
+                pipe.close()
             with self.lock:
                 self.running.discard(process)
         if self.stopped.is_set():
@@ -67,7 +68,7 @@ class Runner:
         return Finished(process.returncode, output, errors, cause == "time", cause == "output")
 
 
-def end_group(process: subprocess.Popen) -> None:
+def end_group(process: subprocess.Popen[bytes]) -> None:
     """Ends a process that wasn't waited for yet, with all in its group."""
     if process.returncode is None:
         try:
@@ -76,28 +77,35 @@ def end_group(process: subprocess.Popen) -> None:
             pass
 
 
-def has_ended(process: subprocess.Popen) -> bool:
+def has_ended(process: subprocess.Popen[bytes]) -> bool:
     """Whether a process has ended; it is still to be waited for, so that its number stays its own."""
     return os.waitid(os.P_PID, process.pid, os.WEXITED | os.WNOHANG | os.WNOWAIT) is not None
 
 
-def read_all(process: subprocess.Popen, deadline: float, most: int) -> tuple[bytes, bytes, str | None]:
+def pipes_of(process: subprocess.Popen[bytes]) -> tuple[IO[bytes], IO[bytes]]:
+    """What a process writes to, which was begun with pipes."""
+    assert process.stdout is not None and process.stderr is not None
+    return process.stdout, process.stderr
+
+
+def read_all(process: subprocess.Popen[bytes], deadline: float, most: int) -> tuple[bytes, bytes, str | None]:
     """What a process writes until it ends, and which bound ended it, `time` or `output`. Its children may hold its pipes for longer."""
-    texts = {process.stdout: bytearray(), process.stderr: bytearray()}
+    pipes = {pipe.fileno(): pipe for pipe in pipes_of(process)}
+    texts = {number: bytearray() for number in pipes}
     cause = None
     with selectors.DefaultSelector() as selector:
-        for pipe in texts:
-            os.set_blocking(pipe.fileno(), False)
-            selector.register(pipe, selectors.EVENT_READ)
+        for number in pipes:
+            os.set_blocking(number, False)
+            selector.register(number, selectors.EVENT_READ)
         while cause is None:
             ended = has_ended(process)
             ready = selector.select(0 if ended else min(0.05, max(0.0, deadline - time.monotonic()))) if selector.get_map() else []
             for key, _ in ready:
-                piece = key.fileobj.read(1 << 16)
+                piece = pipes[key.fd].read(1 << 16)
                 if piece:
-                    texts[key.fileobj] += piece
+                    texts[key.fd] += piece
                 elif piece == b"":
-                    selector.unregister(key.fileobj)
+                    selector.unregister(key.fd)
             if sum(map(len, texts.values())) > most:
                 cause = "output"
             elif ended and not ready:
@@ -106,4 +114,5 @@ def read_all(process: subprocess.Popen, deadline: float, most: int) -> tuple[byt
                 cause = "time"
             elif not selector.get_map() and not ended:
                 time.sleep(0.0005)
-    return bytes(texts[process.stdout]), bytes(texts[process.stderr]), cause
+    output, errors = map(bytes, texts.values())
+    return output, errors, cause

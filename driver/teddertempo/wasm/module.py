@@ -6,11 +6,15 @@ from __future__ import annotations
 from dataclasses import dataclass
 from functools import cached_property, lru_cache
 from itertools import groupby
+from typing import TypeVar, Union
 
 from .binary import items, number, sized
 from .immediates import Space
 from .operators import NAMING, Body, encode_body
 from .types import DefinedType, FunctionType, GlobalType, Limits, TableType, TypeGroup, ValueType
+
+Item = TypeVar("Item")
+ImportType = Union[int, TableType, Limits, GlobalType]
 
 HEAD = b"\0asm\1\0\0\0"
 KINDS = (Space.FUNCTION, Space.TABLE, Space.MEMORY, Space.GLOBAL, Space.TAG)
@@ -26,7 +30,7 @@ class Import:
     module: bytes
     name: bytes
     kind: Space
-    type: int | TableType | Limits | GlobalType
+    type: ImportType
 
     def encoded(self) -> bytes:
         attribute = b"\0" if self.kind is Space.TAG else b""
@@ -37,7 +41,7 @@ class Import:
 @dataclass(frozen=True, eq=False)
 class Function:
     """A function of the module's own: the index of its type, the types of its locals, and its body; or the bytes of its code entry,
-    where these can't be decoded. Two functions are equal where they are the same."""
+    where these can't be decoded. The body is empty until the code section is read. Two functions are equal where they are the same."""
 
     type: int
     locals: tuple[ValueType, ...]
@@ -88,13 +92,14 @@ class Export:
 
 @dataclass(frozen=True)
 class Element:
-    """A segment of elements, which are functions by their indices, or expressions where the flags say so."""
+    """A segment of elements, which are functions by their indices, or expressions if the flags say so. Its offset is empty if it isn't
+    active."""
 
     PASSIVE, NAMES_TABLE, HAS_EXPRESSIONS = 1, 2, 4
 
     flags: int
     table: int
-    offset: Body | None
+    offset: Body
     type: ValueType | None
     functions: tuple[int, ...] = ()
     expressions: tuple[Body, ...] = ()
@@ -116,13 +121,13 @@ class Element:
 
 @dataclass(frozen=True)
 class Data:
-    """A segment of bytes, which go to a memory at the start where it is active."""
+    """A segment of bytes, which go to a memory at the start if it is active; else its offset is empty."""
 
     PASSIVE, NAMES_MEMORY = 1, 2
 
     flags: int
     memory: int
-    offset: Body | None
+    offset: Body
     content: bytes
 
     def is_active(self) -> bool:
@@ -130,7 +135,7 @@ class Data:
 
     def encoded(self) -> bytes:
         memory = number(self.memory) if self.flags == self.NAMES_MEMORY else b""
-        return number(self.flags) + memory + (encode_body(self.offset) if self.is_active() else b"") + sized(self.content)
+        return number(self.flags) + memory + encode_body(self.offset) + sized(self.content)
 
 
 @dataclass(frozen=True)
@@ -187,19 +192,19 @@ class Module:
         """How many things of a kind are imported."""
         return sum(each.kind is kind for each in self.imports)
 
-    def types_of(self, kind: Space, own: tuple) -> tuple:
-        """The types of all things of a kind, those of imported ones before those of the module's own."""
-        return (*(each.type for each in self.imports if each.kind is kind), *own)
+    def imported_types(self, kind: Space, form: type[Item]) -> tuple[Item, ...]:
+        """The types of what is imported of a kind, which have the form that types of that kind have."""
+        return tuple(each.type for each in self.imports if each.kind is kind and isinstance(each.type, form))
 
     @cached_property
     def context(self) -> Context:
         return context_of(
             tuple(each for group in self.types for each in group.types),
-            self.types_of(Space.FUNCTION, tuple(each.type for each in self.functions)),
-            self.types_of(Space.TABLE, tuple(each.type for each in self.tables)),
-            self.types_of(Space.MEMORY, self.memories),
-            self.types_of(Space.GLOBAL, tuple(each.type for each in self.globals)),
-            self.types_of(Space.TAG, self.tags),
+            (*self.imported_types(Space.FUNCTION, int), *(each.type for each in self.functions)),
+            (*self.imported_types(Space.TABLE, TableType), *(each.type for each in self.tables)),
+            (*self.imported_types(Space.MEMORY, Limits), *self.memories),
+            (*self.imported_types(Space.GLOBAL, GlobalType), *(each.type for each in self.globals)),
+            (*self.imported_types(Space.TAG, int), *self.tags),
         )
 
     @cached_property

@@ -6,7 +6,7 @@ from dataclasses import dataclass
 
 from .binary import Reader, Unreadable, number
 from .immediates import (BlockForm, Bytes, Catches, HeapType, Immediate, IndexOf, Label, Labels, MemoryArgument, Number, Relabel, Signed,
-                         Space, ValueTypes, Visit)
+                         Space, ImmediateValue, ValueTypes, Visit, narrowed)
 
 PREFIXES = (0xFB, 0xFC, 0xFD, 0xFE)
 
@@ -104,7 +104,11 @@ class Operator:
     """An operator: its code, behind a prefix by `prefixed`, and what stands behind it."""
 
     code: int
-    values: tuple = ()
+    values: tuple[ImmediateValue, ...] = ()
+
+    def number(self, place: int = 0) -> int:
+        """The number at a place behind the code: an index, a label, or a constant."""
+        return narrowed(self.values[place], int)
 
     def encoded(self) -> bytes:
         head = bytes([self.code]) if self.code < 0x100 else bytes([self.code >> 16]) + number(self.code & 0xFFFF)

@@ -2,13 +2,14 @@
 
 from __future__ import annotations
 
+from dataclasses import replace
 from functools import lru_cache
-from typing import Callable, TypeVar
+from typing import Callable, Iterator, TypeVar
 
 from .binary import Reader, Unreadable
 from .immediates import Space
 from .module import (CODE, CUSTOM, DATA, DATA_COUNT, ELEMENTS, EXPORTS, FUNCTIONS, GLOBALS, HEAD, IMPORTS, KINDS, MEMORIES, ORDER, START,
-                     TABLES, TAGS, TYPES, Data, Element, Export, Extra, Function, Global, Import, Module, Table)
+                     TABLES, TAGS, TYPES, Data, Element, Export, Extra, Function, Global, Import, ImportType, Module, Table)
 from .operators import Body, read_body
 from .types import ValueType, read_global_type, read_limits, read_table_type, read_type_group, read_value_type
 
@@ -16,10 +17,15 @@ Item = TypeVar("Item")
 
 MOST_LOCALS = 50_000
 
+# The sections of what a module asks for, has and offers, without code and segments.
+DECLARING = frozenset((TYPES, IMPORTS, FUNCTIONS, TABLES, MEMORIES, TAGS, GLOBALS, EXPORTS))
+
+MISMATCH = "it has more or fewer code entries than functions"
+
 
 def read_module(data: bytes) -> Module:
     """The module; `Unreadable` where the bytes are none."""
-    return ModuleReader(data).module()
+    return ModuleReader().module(data)
 
 
 @lru_cache(maxsize=1 << 16)
@@ -46,15 +52,22 @@ def read_import(reader: Reader) -> Import:
     if code >= len(KINDS):
         raise Unreadable(f"no kind of imports is known as {code}")
     kind = KINDS[code]
-    read = {Space.FUNCTION: reader.number, Space.TABLE: lambda: read_table_type(reader), Space.MEMORY: lambda: read_limits(reader),
-            Space.GLOBAL: lambda: read_global_type(reader), Space.TAG: lambda: read_tag(reader)}[kind]
-    return Import(module, name, kind, read())
+    return Import(module, name, kind, IMPORT_TYPES[kind](reader))
 
 
 def read_tag(reader: Reader) -> int:
     if reader.byte():
         raise Unreadable("a tag has an attribute that isn't known")
     return reader.number()
+
+
+IMPORT_TYPES: dict[Space, Callable[[Reader], ImportType]] = {
+    Space.FUNCTION: Reader.number,
+    Space.TABLE: read_table_type,
+    Space.MEMORY: read_limits,
+    Space.GLOBAL: read_global_type,
+    Space.TAG: read_tag,
+}
 
 
 def read_table(reader: Reader) -> Table:
@@ -84,7 +97,7 @@ def read_element(reader: Reader) -> Element:
         raise Unreadable("a segment isn't known")
     is_active = not flags & Element.PASSIVE
     table = reader.number() if is_active and flags & Element.NAMES_TABLE else 0
-    offset = read_body(reader) if is_active else None
+    offset = read_body(reader) if is_active else ()
     kind = None
     if flags & (Element.PASSIVE | Element.NAMES_TABLE):
         if flags & Element.HAS_EXPRESSIONS:
@@ -101,55 +114,92 @@ def read_data(reader: Reader) -> Data:
     if flags > 2:
         raise Unreadable("a segment isn't known")
     memory = reader.number() if flags == Data.NAMES_MEMORY else 0
-    offset = read_body(reader) if flags != Data.PASSIVE else None
+    offset = read_body(reader) if flags != Data.PASSIVE else ()
     return Data(flags, memory, offset, reader.sized())
 
 
-def read_all(read: Callable[[Reader], Item]) -> Callable[[Reader], tuple[Item, ...]]:
-    """What reads a section of items."""
-    return lambda reader: reader.items(lambda: read(reader))
+def read_all(reader: Reader, read: Callable[[Reader], Item]) -> tuple[Item, ...]:
+    """All items of a section."""
+    return reader.items(lambda: read(reader))
 
 
-# What a section is of the module, and what reads it.
-SECTIONS: dict[int, tuple[str, Callable[[Reader], object]]] = {
-    TYPES: ("types", read_all(read_type_group)),
-    IMPORTS: ("imports", read_all(read_import)),
-    FUNCTIONS: ("kinds", read_all(Reader.number)),
-    TABLES: ("tables", read_all(read_table)),
-    MEMORIES: ("memories", read_all(read_limits)),
-    TAGS: ("tags", read_all(read_tag)),
-    GLOBALS: ("globals", read_all(read_global)),
-    EXPORTS: ("exports", read_all(read_export)),
-    START: ("start", Reader.number),
-    ELEMENTS: ("elements", read_all(read_element)),
-    DATA_COUNT: ("counts_data", lambda reader: reader.number() >= 0),
-    CODE: ("codes", read_all(Reader.sized)),
-    DATA: ("data", read_all(read_data)),
+def read_functions(reader: Reader) -> tuple[Function, ...]:
+    """The functions by their types; their code is in a section of its own."""
+    return tuple(Function(kind, (), ()) for kind in read_all(reader, Reader.number))
+
+
+def read_codes(reader: Reader, functions: tuple[Function, ...]) -> tuple[Function, ...]:
+    """The functions with their code."""
+    entries = read_all(reader, Reader.sized)
+    if len(entries) != len(functions):
+        raise Unreadable(MISMATCH)
+    return tuple(with_code(function, entry) for function, entry in zip(functions, entries))
+
+
+def with_code(function: Function, entry: bytes) -> Function:
+    read = read_code(entry)
+    return Function(function.type, (), (), entry) if read is None else Function(function.type, *read)
+
+
+# What a section makes of the module that was read before it.
+SECTIONS: dict[int, Callable[[Module, Reader], Module]] = {
+    TYPES: lambda module, reader: replace(module, types=read_all(reader, read_type_group)),
+    IMPORTS: lambda module, reader: replace(module, imports=read_all(reader, read_import)),
+    FUNCTIONS: lambda module, reader: replace(module, functions=read_functions(reader)),
+    TABLES: lambda module, reader: replace(module, tables=read_all(reader, read_table)),
+    MEMORIES: lambda module, reader: replace(module, memories=read_all(reader, read_limits)),
+    TAGS: lambda module, reader: replace(module, tags=read_all(reader, read_tag)),
+    GLOBALS: lambda module, reader: replace(module, globals=read_all(reader, read_global)),
+    EXPORTS: lambda module, reader: replace(module, exports=read_all(reader, read_export)),
+    START: lambda module, reader: replace(module, start=reader.number()),
+    ELEMENTS: lambda module, reader: replace(module, elements=read_all(reader, read_element)),
+    DATA_COUNT: lambda module, reader: replace(module, counts_data=reader.number() >= 0),
+    CODE: lambda module, reader: replace(module, functions=read_codes(reader, module.functions)),
+    DATA: lambda module, reader: replace(module, data=read_all(reader, read_data)),
 }
+
+
+def sections_of(data: bytes) -> Iterator[tuple[int, bytes]]:
+    """The sections, each a code and its content."""
+    if data[: len(HEAD)] != HEAD:
+        raise Unreadable("it doesn't begin as a module does")
+    reader = Reader(data)
+    reader.take(len(HEAD))
+    while reader.has_more():
+        yield reader.byte(), reader.sized()
+
+
+def with_section(module: Module, code: int, content: bytes) -> Module:
+    reader = Reader(content)
+    made = SECTIONS[code](module, reader)
+    reader.end()
+    return made
+
+
+def read_declarations(data: bytes) -> Module:
+    """The module without code and segments; `Unreadable` if another section can't be decoded."""
+    module = Module()
+    for code, content in sections_of(data):
+        if code in DECLARING:
+            module = with_section(module, code, content)
+    return module
 
 
 class ModuleReader:
     """Decodes a module section by section."""
 
-    def __init__(self, data: bytes):
-        self.data = data
-        self.parts: dict = {}
+    def __init__(self) -> None:
+        self.made = Module()
         self.extras: list[Extra] = []
         self.last = CUSTOM
 
-    def module(self) -> Module:
-        reader = Reader(self.data)
-        if self.data[:8] != HEAD:
-            raise Unreadable("it doesn't begin as a module does")
-        reader.take(8)
-        while reader.has_more():
-            code = reader.byte()
-            self.section(code, reader.sized())
-        kinds, codes = self.parts.pop("kinds", ()), self.parts.pop("codes", ())
-        if len(kinds) != len(codes):
-            raise Unreadable("it has more or fewer code entries than functions")
-        functions = tuple(self.function(kind, entry) for kind, entry in zip(kinds, codes))
-        return Module(functions=functions, extras=tuple(self.extras), **self.parts)
+    def module(self, data: bytes) -> Module:
+        for code, content in sections_of(data):
+            self.section(code, content)
+        has_no_code = any(not function.body and function.unread is None for function in self.made.functions)
+        if has_no_code or any(extra.code == CODE for extra in self.extras):
+            raise Unreadable(MISMATCH)
+        return replace(self.made, extras=tuple(self.extras))
 
     def section(self, code: int, content: bytes) -> None:
         """Decodes a section; one that can't be decoded, or stands where it can't, is kept as it is."""
@@ -160,17 +210,8 @@ class ModuleReader:
             self.extras.append(Extra(self.last, code, content))
 
     def decode(self, code: int, content: bytes) -> bool:
-        name, read = SECTIONS[code]
-        reader = Reader(content)
         try:
-            found = read(reader)
-            reader.end()
+            self.made = with_section(self.made, code, content)
         except Unreadable:
             return False
-        self.parts[name] = found
         return True
-
-    @staticmethod
-    def function(kind: int, entry: bytes) -> Function:
-        read = read_code(entry)
-        return Function(kind, (), (), entry) if read is None else Function(kind, *read)

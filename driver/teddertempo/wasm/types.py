@@ -32,7 +32,7 @@ class ValueType:
 
 
 I32, I64, F32, F64, V128 = (ValueType(code) for code in (0x7F, 0x7E, 0x7D, 0x7C, 0x7B))
-FUNCREF = ValueType(0x70)
+FUNCREF, EXTERNREF = ValueType(0x70), ValueType(0x6F)
 PACKED = (0x78, 0x77)
 
 
@@ -141,7 +141,8 @@ class DefinedType:
 
 
 def read_defined_type(reader: Reader) -> DefinedType:
-    form, above = None, ()
+    form: int | None = None
+    above: tuple[int, ...] = ()
     if reader.peek() in (SUB, FINAL_SUB):
         form = reader.byte()
         above = reader.items(reader.number)
@@ -186,6 +187,9 @@ class Limits:
     least: int
     most: int | None = None
     page: int | None = None
+
+    def is_shared(self) -> bool:
+        return bool(self.flags & 2)
 
     def is_wide(self) -> bool:
         return bool(self.flags & 4)

@@ -7,12 +7,13 @@ from itertools import groupby
 from typing import Sequence
 
 from ...wasm.immediates import Space
-from ..indices import Reach, without
 from ...wasm.module import Function, Module
 from ...wasm.operators import (BLOCK, BR, CALL, CLOSES, LOCAL_SET, OPENS, RETURN, RETURN_CALL, RETURN_CALL_INDIRECT, RETURN_CALL_REF, Body,
                          Operator)
+from ..indices import Reach, without
 from ..search import Pass
 from .edits import Edit, edited, with_functions
+from .unused import parameters_of
 
 LEAVES = frozenset((RETURN_CALL, RETURN_CALL_INDIRECT, RETURN_CALL_REF))
 
@@ -46,7 +47,7 @@ def own_callees(module: Module, place: int) -> list[int]:
     first = module.imported(Space.FUNCTION)
     if not 0 <= place < len(module.functions):
         return []
-    called = {operator.values[0] for operator in module.functions[place].body if operator.code == CALL}
+    called = {operator.number() for operator in module.functions[place].body if operator.code == CALL}
     return sorted(index for index in called if index >= first and index != first + place)
 
 
@@ -58,7 +59,7 @@ class Inlining(Pass):
 
     def positions(self, module: Module) -> list[tuple[int, int]]:
         return [(place, at) for place, function in enumerate(module.functions) for at, operator in enumerate(function.body)
-                if operator.code == CALL and is_inlined(module, place, operator.values[0])]
+                if operator.code == CALL and is_inlined(module, place, operator.number())]
 
     def apply(self, module: Module, chosen: Sequence[tuple[int, int]]) -> Module:
         new = {}
@@ -72,23 +73,25 @@ def is_inlined(module: Module, caller: int, index: int) -> bool:
     place = index - module.imported(Space.FUNCTION)
     if not 0 <= place < len(module.functions) or place == caller:
         return False
-    kind = module.context.function_type(module.functions[place].type)
-    return kind is not None and len(kind.results) < 2 and all(operator.code not in LEAVES for operator in module.functions[place].body)
+    own, kind = (module.context.function_type(module.functions[each].type) for each in (caller, place))
+    is_simple = own is not None and kind is not None and len(kind.results) < 2
+    return is_simple and all(operator.code not in LEAVES for operator in module.functions[place].body)
 
 
 def inlined(module: Module, caller: Function, places: Sequence[int]) -> Function:
     """The function with calls in some places written out."""
-    own = module.context.function_type(caller.type)
+    first = parameters_of(module, caller) or 0
     added = list(caller.locals)
     edits = []
     for at in places:
-        callee = module.functions[caller.body[at].values[0] - module.imported(Space.FUNCTION)]
+        callee = module.functions[caller.body[at].number() - module.imported(Space.FUNCTION)]
         kind = module.context.function_type(callee.type)
-        first = len(own.parameters) + len(added)
+        assert kind is not None
+        own = first + len(added)
         added += [*kind.parameters, *callee.locals]
-        sets = tuple(Operator(LOCAL_SET, (first + index,)) for index in reversed(range(len(kind.parameters))))
+        sets = tuple(Operator(LOCAL_SET, (own + index,)) for index in reversed(range(len(kind.parameters))))
         block = Operator(BLOCK, (kind.results[0] if kind.results else None,))
-        edits.append(Edit(at, at + 1, (*sets, block, *as_block(callee.body, first))))
+        edits.append(Edit(at, at + 1, (*sets, block, *as_block(callee.body, own))))
     return replace(caller, locals=tuple(added), body=edited(caller.body, edits))
 
 

@@ -5,10 +5,10 @@ from __future__ import annotations
 from itertools import groupby
 from typing import Sequence
 
-from ..changes import Changer, Stretch
 from ...wasm.immediates import Space
 from ...wasm.module import Function, Module
 from ...wasm.reading import read_module
+from ..changes import Changer, Stretch
 from ..search import Pass
 from ..units import units_of
 

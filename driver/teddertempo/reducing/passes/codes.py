@@ -3,8 +3,8 @@
 from __future__ import annotations
 
 from ...wasm.operators import (END, F32_CONST, F64_CONST, I32_CONST, I64_CONST, I8X16_SPLAT, REF_NULL, UNREACHABLE, Body, Operator)
-from ..signatures import Types
 from ...wasm.types import F32, F64, I32, I64, NULLABLE, V128, ValueType
+from ..signatures import Types
 
 ZEROS = {
     I32: (Operator(I32_CONST, (0,)),),
@@ -27,5 +27,10 @@ def zero_of(kind: ValueType | None) -> Body | None:
 
 def zeros_of(kinds: Types) -> Body | None:
     """Constants of types, one behind the other; none where one has none."""
-    parts = [zero_of(kind) for kind in kinds]
-    return None if None in parts else tuple(operator for part in parts for operator in part)
+    zeros: list[Operator] = []
+    for kind in kinds:
+        zero = zero_of(kind)
+        if zero is None:
+            return None
+        zeros += zero
+    return tuple(zeros)

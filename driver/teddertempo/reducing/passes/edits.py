@@ -44,7 +44,7 @@ def with_functions(module: Module, new: dict[int, Function]) -> Module:
 class EditPass(Pass):
     """A pass that makes edits."""
 
-    def __init__(self):
+    def __init__(self) -> None:
         self.found = lru_cache(maxsize=1 << 14)(self.edits)
 
     def edits(self, context: Context, function: Function) -> Sequence[Edit]:

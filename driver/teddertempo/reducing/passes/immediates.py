@@ -5,12 +5,13 @@ from __future__ import annotations
 from dataclasses import replace
 from typing import Sequence
 
-from ...wasm.immediates import Argument, Space
+from ...wasm.immediates import Argument, Space, Targets, narrowed
 from ...wasm.module import Context, Function, Module
 from ...wasm.operators import BR_TABLE, OPENS, Operator, visit_body
+from ...wasm.types import ValueType
 from ..search import Pass
 from .edits import Edit, EditPass, with_functions
-from .unused import parameters_of, used_locals
+from .unused import used_locals
 
 
 class Immediates(EditPass):
@@ -26,7 +27,7 @@ class Immediates(EditPass):
 def simpler(operator: Operator) -> Operator:
     """The operator with the least immediates of their kind."""
     if operator.code == BR_TABLE:
-        return Operator(BR_TABLE, (operator.values[0][-1:],))
+        return Operator(BR_TABLE, (Targets(narrowed(operator.values[0], Targets)[-1:]),))
     if operator.code in OPENS:
         return Operator(operator.code, (None, *operator.values[1:]))
     values = (Argument(0, value.memory, 0) if isinstance(value, Argument) else value for value in operator.values)
@@ -50,13 +51,13 @@ class MergedLocals(Pass):
 
 def merged(module: Module, function: Function) -> list[tuple[int, int]]:
     """The locals that are used and the first of their type, where that is another one."""
-    count = parameters_of(module, function)
-    if count is None:
+    own = module.context.function_type(function.type)
+    if own is None:
         return []
-    kinds = (*module.context.function_type(function.type).parameters, *function.locals)
+    kinds = (*own.parameters, *function.locals)
     used = sorted(index for index in used_locals(function) if index < len(kinds))
-    firsts: dict = {}
-    for index in (*range(count), *used):
+    firsts: dict[ValueType, int] = {}
+    for index in (*range(len(own.parameters)), *used):
         firsts.setdefault(kinds[index], index)
     return [(index, firsts[kinds[index]]) for index in used if firsts[kinds[index]] != index]
 

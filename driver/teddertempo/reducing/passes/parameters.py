@@ -6,11 +6,11 @@ from dataclasses import replace
 from typing import Sequence
 
 from ...wasm.immediates import Space
-from ..indices import Reach, without
 from ...wasm.module import Function, Module
 from ...wasm.operators import CALL, RETURN_CALL, visit_body
-from ..search import Pass
 from ...wasm.types import DefinedType, FunctionType, TypeGroup
+from ..indices import Reach, Use, without
+from ..search import Pass
 from ..units import units_of
 from .edits import Edit, edited, with_functions
 from .unused import parameters_of, used_locals
@@ -44,7 +44,7 @@ class Parameters(Pass):
         return without(made, unused) if unused else made
 
 
-def other_uses(module: Module) -> list:
+def other_uses(module: Module) -> list[Use]:
     """What of a module isn't a type: all of it stays."""
     return [(Space.FUNCTION, index) for index in range(len(module.context.functions))] + [
         use for use in Reach(module).unused() if use[0] is not Space.TYPE]
@@ -60,14 +60,14 @@ def unused_parameters(module: Module, function: Function) -> list[int]:
 
 def without_operands(module: Module, function: Function, gone: dict[int, set[int]]) -> Function:
     """The function without operands of its calls, by the functions' indices."""
-    calls = {at for at, operator in enumerate(function.body) if operator.code in (CALL, RETURN_CALL) and operator.values[0] in gone}
+    calls = {at for at, operator in enumerate(function.body) if operator.code in (CALL, RETURN_CALL) and operator.number() in gone}
     if not calls:
         return function
     edits = []
     for unit in units_of(module.context, function):
         if unit.last in calls:
             calls.remove(unit.last)
-            dropped = [unit.operands[index] for index in gone[function.body[unit.last].values[0]]]
+            dropped = [unit.operands[index] for index in gone[function.body[unit.last].number()]]
             if any(each.first >= each.behind for each in dropped):
                 raise Unknown
             edits += [Edit(each.first, each.behind, ()) for each in dropped]
@@ -80,6 +80,7 @@ def without_parameters(module: Module, place: int, gone: set[int]) -> Module:
     """The module with fewer parameters of a function, for which it has a type, a new one if need be."""
     function = module.functions[place]
     old = module.context.function_type(function.type)
+    assert old is not None
     kept = [index for index in range(len(old.parameters) + len(function.locals)) if index not in gone]
     new = {index: at for at, index in enumerate(kept)}
     wanted = DefinedType(FunctionType(tuple(old.parameters[index] for index in kept if index < len(old.parameters)), old.results))

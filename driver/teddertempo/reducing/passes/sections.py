@@ -3,16 +3,20 @@
 from __future__ import annotations
 
 from dataclasses import replace
-from typing import Sequence
+from typing import Sequence, Union
 
 from ...wasm.immediates import Space
-from ..indices import renumbered
 from ...wasm.module import CUSTOM, Export, Extra, Function, Global, Import, Module, Table
-from ..names import is_names
 from ...wasm.operators import END, NAME_DATA, Body, Operator
+from ...wasm.types import GlobalType, Limits, TableType
+from ..indices import counts_of, renumbered
+from ..names import is_names
 from ..search import Pass
-from ...wasm.types import Limits, TableType
 from .codes import UNREACHABLE_BODY, zeros_of
+
+
+# What may stand for an import: a tag by the index of its type.
+Own = Union[Function, Table, Limits, Global, int]
 
 
 class Encoding(Pass):
@@ -98,10 +102,10 @@ class OwnImports(Pass):
     name = "imports"
     needs_whole = True
 
-    def positions(self, module: Module) -> list[tuple[Import, Function | Global | Table | Limits | int]]:
+    def positions(self, module: Module) -> list[tuple[Import, Own]]:
         return [(each, own) for each in module.imports for own in own_forms(module, each)]
 
-    def apply(self, module: Module, chosen: Sequence[tuple[Import, object]]) -> Module:
+    def apply(self, module: Module, chosen: Sequence[tuple[Import, Own]]) -> Module:
         owned = {id(each): own for each, own in chosen}
         for place in reversed(range(len(module.imports))):
             own = owned.get(id(module.imports[place]))
@@ -110,28 +114,41 @@ class OwnImports(Pass):
         return module
 
 
-def own_forms(module: Module, item: Import) -> list:
+def own_forms(module: Module, item: Import) -> list[Own]:
     """What may stand for an import."""
-    if item.kind is Space.FUNCTION:
-        kind = module.context.function_type(item.type)
-        zeros = None if kind is None else zeros_of(kind.results)
-        bodies: list[Body] = [UNREACHABLE_BODY] + ([] if zeros is None else [(*zeros, Operator(END))])
-        return [Function(item.type, (), body) for body in bodies]
-    if item.kind is Space.GLOBAL:
+    if isinstance(item.type, int):
+        return [item.type] if item.kind is Space.TAG else [Function(item.type, (), body) for body in own_bodies(module, item.type)]
+    if isinstance(item.type, GlobalType):
         zero = zeros_of((item.type.value,))
         return [] if zero is None else [Global(item.type, (*zero, Operator(END)))]
-    return [Table(item.type) if item.kind is Space.TABLE else item.type]
+    return [Table(item.type) if isinstance(item.type, TableType) else item.type]
 
 
-OWN = {Space.FUNCTION: "functions", Space.TABLE: "tables", Space.MEMORY: "memories", Space.GLOBAL: "globals", Space.TAG: "tags"}
+def own_bodies(module: Module, type: int) -> list[Body]:
+    """The bodies of a function that is imported."""
+    kind = module.context.function_type(type)
+    zeros = None if kind is None else zeros_of(kind.results)
+    return [UNREACHABLE_BODY] if zeros is None else [UNREACHABLE_BODY, (*zeros, Operator(END))]
 
 
-def with_own(module: Module, place: int, own: object) -> Module:
+def with_own(module: Module, place: int, own: Own) -> Module:
     """The module with something of its own, the first of its kind, in the place of an import."""
     kind = module.imports[place].kind
     count = module.imported(kind)
     index = sum(each.kind is kind for each in module.imports[:place])
-    order = [*range(index), count - 1, *range(index, count - 1), *range(count, count + len(getattr(module, OWN[kind])))]
-    imports = (*module.imports[:place], *module.imports[place + 1 :])
-    made = replace(module, imports=imports, **{OWN[kind]: (own, *getattr(module, OWN[kind]))})
+    made = with_first(replace(module, imports=(*module.imports[:place], *module.imports[place + 1 :])), own)
+    order = [*range(index), count - 1, *range(index, count - 1), *range(count, counts_of(made)[kind])]
     return renumbered(made, {kind: dict(enumerate(order))})
+
+
+def with_first(module: Module, own: Own) -> Module:
+    """The module with something before all else of its own of that kind."""
+    if isinstance(own, Function):
+        return replace(module, functions=(own, *module.functions))
+    if isinstance(own, Table):
+        return replace(module, tables=(own, *module.tables))
+    if isinstance(own, Global):
+        return replace(module, globals=(own, *module.globals))
+    if isinstance(own, Limits):
+        return replace(module, memories=(own, *module.memories))
+    return replace(module, tags=(own, *module.tags))

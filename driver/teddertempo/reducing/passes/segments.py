@@ -7,9 +7,9 @@ from itertools import groupby
 from typing import Sequence, Union
 
 from ...wasm.immediates import Space
-from ..indices import Use, without
 from ...wasm.module import Data, Element, Module
 from ...wasm.operators import END, I32_CONST, I64_CONST, Body, Operator
+from ..indices import Use, without
 from ..search import Pass
 
 Segment = Union[Data, Element]
@@ -31,7 +31,9 @@ class Segments(Pass):
 
 
 def segments_of(module: Module, space: Space) -> tuple[Segment, ...]:
-    return module.data if space is Space.DATA else module.elements
+    if space is Space.DATA:
+        return module.data
+    return module.elements
 
 
 def length_of(segment: Segment) -> int:
@@ -50,11 +52,11 @@ def with_segments(module: Module, new: dict[tuple[Space, int], Segment]) -> Modu
     return replace(module, data=data, elements=tuple(new.get((Space.ELEMENT, place), each) for place, each in enumerate(module.elements)))
 
 
-def moved(offset: Body | None, by: int) -> Body | None:
+def moved(offset: Body, by: int) -> Body | None:
     """A constant offset that is greater by a number; none where it isn't constant."""
-    if offset is None or len(offset) != 2 or offset[0].code not in (I32_CONST, I64_CONST):
+    if len(offset) != 2 or offset[0].code not in (I32_CONST, I64_CONST):
         return None
-    return Operator(offset[0].code, (offset[0].values[0] + by,)), Operator(END)
+    return Operator(offset[0].code, (offset[0].number() + by,)), Operator(END)
 
 
 class CutSegments(Pass):
@@ -86,8 +88,8 @@ class LateSegments(CutSegments):
     name = "starts of segments"
 
     def cut(self, segment: Segment, first: int, behind: int) -> Segment | None:
-        offset = moved(segment.offset, behind)
-        if first or (segment.is_active() and offset is None):
+        offset = moved(segment.offset, behind) if segment.is_active() else ()
+        if first or offset is None:
             return None
         return replace(part_of(segment, behind, length_of(segment)), offset=offset)
 
@@ -105,7 +107,7 @@ class ZeroedData(Pass):
         return max(1, count // self.MOST_PARTS)
 
     def apply(self, module: Module, chosen: Sequence[tuple[int, int]]) -> Module:
-        new = {}
+        new: dict[tuple[Space, int], Segment] = {}
         for place, group in groupby(chosen, key=lambda position: position[0]):
             content = bytearray(module.data[place].content)
             for _, at in group:

@@ -6,9 +6,9 @@ from dataclasses import replace
 from typing import Sequence
 
 from ...wasm.immediates import Space
-from ..indices import Reach, Use, without
 from ...wasm.module import Function, Module
 from ...wasm.operators import visit_body
+from ..indices import Reach, Use, without
 from ..search import Pass
 from .edits import with_functions
 
