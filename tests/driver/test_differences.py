@@ -6,7 +6,6 @@ import shlex
 import shutil
 import subprocess
 from dataclasses import dataclass
-from pathlib import Path
 
 import pytest
 from support import RULES, Driver, as_json, findings_in, globals_in, lines_of, running, sleep_of_test

@@ -15,7 +15,7 @@ from collections import deque
 from concurrent.futures import Future, ThreadPoolExecutor
 from dataclasses import dataclass, field
 from functools import partial
-from typing import Any, Callable, Iterator, Optional, Sequence
+from typing import Callable, Generic, Iterator, Optional, Sequence, TypeVar
 
 from ..wasm.module import Module
 from .judge import Judge, Verdict
@@ -36,29 +36,58 @@ def candidate_of(module: Module, data: bytes) -> Candidate:
     return Candidate(module, (len(data), module.operators, module.naming, data))
 
 
+@dataclass(frozen=True)
+class Cursor:
+    """How many positions are chosen at once, and how many come after them, which were tried already."""
+
+    size: int
+    behind: int
+
+
+Proposal = tuple[Cursor, Callable[[], Optional[Module]]]
+Position = TypeVar("Position")
+
+
 class Pass:
-    """What may become smaller of a module: positions, and what the module becomes where they are chosen, if anything."""
+    """Something that may become smaller in a module, at a number of positions."""
 
     name = ""
     needs_whole = False  # whether each place that names an index is to be known
 
-    def positions(self, module: Module) -> Sequence[Any]:
+    def count(self, module: Module) -> int:
+        """How many positions there are."""
+        raise NotImplementedError
+
+    def proposals(self, module: Module, cursor: Cursor) -> Iterator[Proposal]:
+        """Modules from a place on: ranges of positions of one size, from the last ones to the first, then of half that size."""
+        raise NotImplementedError
+
+
+class PositionPass(Pass, Generic[Position]):
+    """A pass by its positions, and by what the module becomes if some are chosen, if anything."""
+
+    def positions(self, module: Module) -> Sequence[Position]:
         raise NotImplementedError
 
     def smallest(self, count: int) -> int:
         """How many of so many positions are chosen at once at least."""
         return 1
 
-    def apply(self, module: Module, chosen: Sequence[Any]) -> Module | None:
+    def apply(self, module: Module, chosen: Sequence[Position]) -> Module | None:
         raise NotImplementedError
 
+    def count(self, module: Module) -> int:
+        return len(self.positions(module))
 
-@dataclass(frozen=True)
-class Cursor:
-    """How many positions are chosen at once, and how many stand behind them, which were tried already."""
-
-    size: int
-    behind: int
+    def proposals(self, module: Module, cursor: Cursor) -> Iterator[Proposal]:
+        positions = self.positions(module)
+        size, behind = min(cursor.size, max(1, len(positions))), cursor.behind
+        while True:
+            for end in range(len(positions) - behind, 0, -size):
+                yield Cursor(size, len(positions) - end), partial(self.apply, module, positions[max(0, end - size) : end])
+            if size <= self.smallest(len(positions)):
+                return
+            size, behind = (size + 1) // 2, 0
 
 
 @dataclass
@@ -83,9 +112,6 @@ class Listener:
 
     def passed(self, report: PassReport, best: Candidate) -> None:
         """A pass came to its end."""
-
-
-Proposal = tuple[Cursor, Callable[[], Optional[Module]]]
 
 
 class Search:
@@ -117,7 +143,7 @@ class Search:
         report = self.reports.setdefault(each.name, PassReport(each.name))
         began, before = time.monotonic(), self.best.size[0]
         try:
-            cursor: Cursor | None = Cursor(max(1, len(each.positions(self.best.module))), 0)
+            cursor: Cursor | None = Cursor(max(1, each.count(self.best.module)), 0)
             while cursor is not None:
                 cursor = self.advance(each, cursor, report)
         finally:
@@ -127,7 +153,7 @@ class Search:
 
     def advance(self, each: Pass, cursor: Cursor, report: PassReport) -> Cursor | None:
         """Takes the first proposal from a place on that is accepted; answers where it stood."""
-        found = self.first(proposals(each, self.best.module, cursor), report)
+        found = self.first(each.proposals(self.best.module, cursor), report)
         if found is None:
             return None
         taken, self.best = found
@@ -164,15 +190,3 @@ class Search:
             return None, Verdict.NOT_MADE
         accepted, verdict = self.judge.judge(candidate.data())
         return (candidate if accepted else None), verdict
-
-
-def proposals(each: Pass, module: Module, cursor: Cursor) -> Iterator[Proposal]:
-    """What a pass proposes from a place on: ranges of positions of one size, from the last ones to the first, then of half that size."""
-    positions = each.positions(module)
-    size, behind = min(cursor.size, max(1, len(positions))), cursor.behind
-    while True:
-        for end in range(len(positions) - behind, 0, -size):
-            yield Cursor(size, len(positions) - end), partial(each.apply, module, positions[max(0, end - size) : end])
-        if size <= each.smallest(len(positions)):
-            return
-        size, behind = (size + 1) // 2, 0

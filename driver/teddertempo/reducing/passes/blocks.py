@@ -7,7 +7,7 @@ from typing import Sequence
 
 from ...wasm.module import Context, Function, Module
 from ...wasm.operators import CLOSES, DROP, ELSE, IF, OPENS, PARTS, Body, Operator
-from ..search import Pass
+from ..search import PositionPass
 from .edits import Edit, EditPass, with_functions
 
 
@@ -84,7 +84,7 @@ class Parts(EditPass):
         return sorted(found, key=lambda edit: edit.behind)
 
 
-class Ranges(Pass):
+class Ranges(PositionPass[tuple[int, int]]):
     """Operators one behind the other go, a block as a whole or not at all."""
 
     name = "operators"

@@ -7,12 +7,12 @@ from typing import Sequence
 
 from ...wasm.module import Function, Module
 from ...wasm.operators import END, Body, Operator
-from ..search import Pass
+from ..search import PositionPass
 from .codes import UNREACHABLE_BODY, zeros_of
 from .edits import with_functions
 
 
-class BodyPass(Pass):
+class BodyPass(PositionPass[tuple[int, Body]]):
     """A pass that puts another body in the place of a function's, many functions at once."""
 
     def body(self, module: Module, function: Function) -> Body | None:

@@ -11,7 +11,7 @@ from ...wasm.module import Function, Module
 from ...wasm.operators import (BLOCK, BR, CALL, CLOSES, LOCAL_SET, OPENS, RETURN, RETURN_CALL, RETURN_CALL_INDIRECT, RETURN_CALL_REF, Body,
                          Operator)
 from ..indices import Reach, without
-from ..search import Pass
+from ..search import PositionPass
 from .edits import Edit, edited, with_functions
 from .unused import parameters_of
 
@@ -25,7 +25,7 @@ def tidied(module: Module, before: Module) -> Module:
     return (without(module, gone) if gone else None) or module
 
 
-class ExportedCallees(Pass):
+class ExportedCallees(PositionPass[tuple[int, int]]):
     """An export names a function that the one calls which it named."""
 
     name = "callees"
@@ -51,7 +51,7 @@ def own_callees(module: Module, place: int) -> list[int]:
     return sorted(index for index in called if index >= first and index != first + place)
 
 
-class Inlining(Pass):
+class Inlining(PositionPass[tuple[int, int]]):
     """A call becomes a block with the body of the function, its parameters and locals among those of the caller."""
 
     name = "inlining"

@@ -9,11 +9,11 @@ from ...wasm.immediates import Space
 from ...wasm.module import Function, Module
 from ...wasm.reading import read_module
 from ..changes import Changer, Stretch
-from ..search import Pass
+from ..search import PositionPass
 from ..units import units_of
 
 
-class Change(Pass):
+class Change(PositionPass[tuple[int, int]]):
     """One of the program's changes: `delete`, `first_operand`, `last_operand` or `draw`."""
 
     def __init__(self, change: str, changer: Changer):

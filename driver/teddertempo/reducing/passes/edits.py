@@ -9,7 +9,7 @@ from typing import Iterable, Sequence
 
 from ...wasm.module import Context, Function, Module
 from ...wasm.operators import Body
-from ..search import Pass
+from ..search import PositionPass
 
 
 @dataclass(frozen=True, eq=False)
@@ -41,7 +41,7 @@ def with_functions(module: Module, new: dict[int, Function]) -> Module:
     return replace(module, functions=tuple(new.get(place, function) for place, function in enumerate(module.functions)))
 
 
-class EditPass(Pass):
+class EditPass(PositionPass[Position]):
     """A pass that makes edits."""
 
     def __init__(self) -> None:

@@ -9,7 +9,7 @@ from ...wasm.immediates import Argument, Space, Targets, narrowed
 from ...wasm.module import Context, Function, Module
 from ...wasm.operators import BR_TABLE, OPENS, Operator, visit_body
 from ...wasm.types import ValueType
-from ..search import Pass
+from ..search import PositionPass
 from .edits import Edit, EditPass, with_functions
 from .unused import used_locals
 
@@ -34,7 +34,7 @@ def simpler(operator: Operator) -> Operator:
     return Operator(operator.code, tuple(values))
 
 
-class MergedLocals(Pass):
+class MergedLocals(PositionPass[tuple[int, int, int]]):
     """A local becomes the first one of its type that is used."""
 
     name = "locals"

@@ -10,7 +10,7 @@ from ...wasm.module import Function, Module
 from ...wasm.operators import CALL, RETURN_CALL, visit_body
 from ...wasm.types import DefinedType, FunctionType, TypeGroup
 from ..indices import Reach, Use, without
-from ..search import Pass
+from ..search import PositionPass
 from ..units import units_of
 from .edits import Edit, edited, with_functions
 from .unused import parameters_of, used_locals
@@ -20,7 +20,7 @@ class Unknown(Exception):
     """A call is where its operands aren't known."""
 
 
-class Parameters(Pass):
+class Parameters(PositionPass[tuple[int, int]]):
     name = "parameters"
     needs_whole = True
 

@@ -11,7 +11,7 @@ from ...wasm.operators import END, NAME_DATA, Body, Operator
 from ...wasm.types import GlobalType, Limits, TableType
 from ..indices import counts_of, renumbered
 from ..names import is_names
-from ..search import Pass
+from ..search import PositionPass
 from .codes import UNREACHABLE_BODY, zeros_of
 
 
@@ -19,7 +19,7 @@ from .codes import UNREACHABLE_BODY, zeros_of
 Own = Union[Function, Table, Limits, Global, int]
 
 
-class Encoding(Pass):
+class Encoding(PositionPass[None]):
     """Numbers that are written in more bytes than they need."""
 
     name = "encoding"
@@ -31,7 +31,7 @@ class Encoding(Pass):
         return module
 
 
-class Exports(Pass):
+class Exports(PositionPass[Export]):
     name = "exports"
 
     def positions(self, module: Module) -> Sequence[Export]:
@@ -41,7 +41,7 @@ class Exports(Pass):
         return replace(module, exports=tuple(each for each in module.exports if each not in chosen))
 
 
-class CustomSections(Pass):
+class CustomSections(PositionPass[Extra]):
     name = "custom sections"
 
     def __init__(self, keeps_names: bool):
@@ -54,7 +54,7 @@ class CustomSections(Pass):
         return replace(module, extras=tuple(each for each in module.extras if each not in chosen))
 
 
-class Sections(Pass):
+class Sections(PositionPass[str]):
     """The start section, and the count of data where no operator needs it."""
 
     name = "start"
@@ -68,7 +68,7 @@ class Sections(Pass):
                        counts_data=module.counts_data and "count" not in chosen)
 
 
-class SmallerLimits(Pass):
+class SmallerLimits(PositionPass[tuple[str, int, Limits]]):
     """Tables and memories of the module's own without a greatest size, or of the size 0."""
 
     name = "limits"
@@ -96,7 +96,7 @@ def smaller_limits(limits: Limits) -> list[Limits]:
     return [each for each in wanted if each != limits]
 
 
-class OwnImports(Pass):
+class OwnImports(PositionPass[tuple[Import, Own]]):
     """What is imported becomes the module's own: a function that answers constants or is unreachable, or a global that is one."""
 
     name = "imports"

@@ -10,13 +10,13 @@ from ...wasm.immediates import Space
 from ...wasm.module import Data, Element, Module
 from ...wasm.operators import END, I32_CONST, I64_CONST, Body, Operator
 from ..indices import Use, without
-from ..search import Pass
+from ..search import PositionPass
 
 Segment = Union[Data, Element]
 Place = tuple[Space, int, int]
 
 
-class Segments(Pass):
+class Segments(PositionPass[Use]):
     """Segments that no operator names go."""
 
     name = "segments"
@@ -59,7 +59,7 @@ def moved(offset: Body, by: int) -> Body | None:
     return Operator(offset[0].code, (offset[0].number() + by,)), Operator(END)
 
 
-class CutSegments(Pass):
+class CutSegments(PositionPass[Place]):
     """Bytes and elements at the end of segments."""
 
     name = "ends of segments"
@@ -94,7 +94,7 @@ class LateSegments(CutSegments):
         return replace(part_of(segment, behind, length_of(segment)), offset=offset)
 
 
-class ZeroedData(Pass):
+class ZeroedData(PositionPass[tuple[int, int]]):
     """Bytes of data that become 0, but not each by itself: they are as many as before."""
 
     name = "zeros"

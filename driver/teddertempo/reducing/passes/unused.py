@@ -9,11 +9,11 @@ from ...wasm.immediates import Space
 from ...wasm.module import Function, Module
 from ...wasm.operators import visit_body
 from ..indices import Reach, Use, without
-from ..search import Pass
+from ..search import PositionPass
 from .edits import with_functions
 
 
-class Unused(Pass):
+class Unused(PositionPass[Use]):
     """Functions, globals, types and all else that has an index."""
 
     name = "unused"
@@ -29,7 +29,7 @@ class Unused(Pass):
         return without(module, gone) if gone else None
 
 
-class UnusedLocals(Pass):
+class UnusedLocals(PositionPass[tuple[int, int]]):
     """Locals that aren't parameters."""
 
     name = "unused locals"
