@@ -29,7 +29,6 @@ SECONDS = 900
 ENGINE = """
 import os, subprocess, sys, time
 sys.path.insert(0, {tools!r})
-sys.dont_write_bytecode = True
 from teddertempo.wasm.reading import read_declarations
 mode, file = sys.argv[1:]
 falls = len(read_declarations(open(file, "rb").read()).globals) > {first}
@@ -129,7 +128,7 @@ class Driver:
 
     def run_mode(self, mode: str, *options: str) -> tuple[Process, Path]:
         timeout = () if "--timeout" in options else ("--timeout", "20")
-        return self.run([self.module], self.engine(mode), *timeout, "--dose", "20", "--seeds", "6", *options)
+        return self.run([self.module], self.engine(mode), *timeout, "--dose", "20", "--seeds", "4", *options)
 
     def rewrite(self, *words: str) -> subprocess.CompletedProcess[bytes]:
         return subprocess.run([str(self.program), *words], capture_output=True, cwd=self.folder)

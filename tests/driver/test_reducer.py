@@ -46,10 +46,12 @@ def test_none_of_equal_bytes_is_tried_twice(reducer: Reducer, small: Path) -> No
 
 
 def test_a_run_that_takes_too_long(reducer: Reducer, request: pytest.FixtureRequest) -> None:
-    seconds = sleep_of_test(request.node.name)
+    """It doesn't accept the module, and is ended with its children."""
+    seconds, slept = sleep_of_test(request.node.name), reducer.folder / "slept"
     module = reducer.compiled("bytes", '(module (memory 1) (data (i32.const 0) "letters and others"))')
-    done, left = reducer.reduced(module, f"{LETTERS} || sleep {seconds}", "--timeout", "2")
+    done, left = reducer.reduced(module, f"{LETTERS} || {{ test ! -e '{slept}' && touch '{slept}' && sleep {seconds}; }}", "--timeout", "5")
     assert done.returncode == 0 and b"letters" in left, done.stderr
+    assert slept.exists()
     assert not running(seconds), "a child is left"
 
 
