@@ -29,6 +29,7 @@ SECONDS = 900
 ENGINE = """
 import os, subprocess, sys, time
 sys.path.insert(0, {tools!r})
+sys.dont_write_bytecode = True
 from teddertempo.wasm.reading import read_declarations
 mode, file = sys.argv[1:]
 falls = len(read_declarations(open(file, "rb").read()).globals) > {first}
