@@ -28,6 +28,7 @@ driver tests/driver.sh
 files tests/files.sh
 rules tests/rules.sh
 package tests/package.sh
+readme tests/readme.sh
 refused_memory tests/refused_memory.sh"
 
 # Names of the table that are asked for, with their commands.
