@@ -76,6 +76,13 @@ module _ (place : Place) (h : IsPlace place) where
   within : unit.start ≤ place.at
   within = unit_within context operators place.at unit h.is
 
+  -- the code is new in the place of the unit
+  there : (K : List Instruction → Type 0) (code : List Instruction) → K code → IsNewAt place code → SomeIsNew place K
+  there K code made new = (unit.start, code, (refl, made), new)
+
+  pub never : (K : List Instruction → Type 0) → ((code : List Instruction) → K code → IsNewAt place code → ⊥) → SomeIsNew place K → ⊥
+  never K none k = none k.1 k.2.1 (subst (λ (s : ℕ). IsNewFrom place s k.1) k.2.0 k.3)
+
   -- what leaves the same, and has another length
   new_size : (code : List Instruction) → LeavesTypes context code (list_of unit.gives) → (length code ≡ place.at + 1 - unit.start → ⊥) → IsNewAt place code
   new_size code leaves differs =
@@ -90,8 +97,8 @@ module _ (place : Place) (h : IsPlace place) where
   -- alone
   pub alone_decided : (b : Bool) (o : Option Instruction) (K : List Instruction → Type 0) → b ≡ is_some o → IfSome o (λ i. K (i ∷ [])) →
       IfSome o (λ i. IsNewAt place (i ∷ [])) → IfNone o ((code : List Instruction) → K code → ⊥) → IsTrue b ↔ SomeIsNew place K
-  alone_decided b None K e made new none = (λ f. absurd (false≢true (sym e ∙ f)), λ k. absurd (none k.0 k.1))
-  alone_decided b (Some i) K e made new none = (λ _. (i ∷ [], made, new), λ _. e)
+  alone_decided b None K e made new none = (λ f. absurd (false≢true (sym e ∙ f)), λ k. absurd (none k.1 k.2.1))
+  alone_decided b (Some i) K e made new none = (λ _. there K (i ∷ []) made new, λ _. e)
 
   pub drawn_decided : (b : Bool) (o : Option Instruction) (most : ℕ) → 0 < most → b ≡ is_some o →
       IfSome o (λ i. (m : ℕ) → 0 < m → MakesDrawn m unit (i ∷ [])) → IfSome o (λ i. IsNewAt place (i ∷ [])) →
@@ -104,53 +111,51 @@ module _ (place : Place) (h : IsPlace place) where
       IfSome o (λ i. (code : List Instruction) → IsBehindAt place i code → K code) →
       IfSome o (λ i. (code : List Instruction) → IsBehindAt place i code → IsNewAt place code) →
       IfNone o ((code : List Instruction) → K code → IsNewAt place code → ⊥) → IsTrue b ↔ SomeIsNew place K
-  behind_decided b None K e made new none = (λ f. absurd (false≢true (sym e ∙ f)), λ k. absurd (none k.0 k.1 k.2))
+  behind_decided b None K e made new none = (λ f. absurd (false≢true (sym e ∙ f)), λ k. absurd (never K none k))
   behind_decided b (Some i) K e made new none =
       let (front, stands) = front_stands context operators unit.start place.at (list_of unit.gives) h.is.is.closed in
       let behind : IsBehindAt place i (front ++ i ∷ []) = record { operands = front; stand = stands; code_is = refl } in
-      (λ _. (front ++ i ∷ [], made (front ++ i ∷ []) behind, new (front ++ i ∷ []) behind), λ _. e)
+      (λ _. there K (front ++ i ∷ []) (made (front ++ i ∷ []) behind) (new (front ++ i ∷ []) behind), λ _. e)
 
   -- ---- an operand
 
+  two_taken : (t u : PrimitiveTypeInfo) → unit.takes ≡ takes.Two t u → AreTwo context operators unit.start unit.last place.at t u
+  two_taken t u taken = (subst (AreTaken context operators unit.start unit.last place.at (instruction_count context.info h.is.instruction)) taken h.is.taken).1
+
+  -- it is shorter
+  operand_new : (s e : ℕ) (t : PrimitiveTypeInfo) (c : IsClosed context operators s e (t ∷ [])) → unit.gives ≡ Some t → unit.start ≤ s → e ≤ place.at →
+      IsNewAt place c.own
+  operand_new s e t c given a b =
+      let inside = h.inside in
+      let some = c.some in
+      let size = stand_length operators s e c.own (omega arith) c.stands in
+      new_size c.own (subst (λ (o : Option PrimitiveTypeInfo). LeavesTypes context c.own (list_of o)) (sym given) c.leaves) (λ same. omega (arith, same))
+
   pub first_decided : (b : Bool) → (IsTrue b ↔ GivesFirst unit) → IsTrue b ↔ SomeIsNew place (MakesFirst operators unit)
-  first_decided b gives = (λ f. there (gives.0 f), λ k. gives.1 (k.1.first, k.1.last, k.1.takes, k.1.gives))
+  first_decided b gives = (λ f. new (gives.0 f), λ k. gives.1 (k.2.1.first, k.2.1.last, k.2.1.takes, k.2.1.gives))
     where
-      there : GivesFirst unit → SomeIsNew place (MakesFirst operators unit)
-      there (first, last, taken, given) =
-          let two = (subst (AreTaken context operators unit.start unit.last place.at (instruction_count context.info h.is.instruction)) taken h.is.taken).1 in
-          let own = two.first.own in
-          let inside = h.inside in
-          let a = two.first.some in
-          let b = two.last.some in
-          let size = stand_length operators unit.start unit.last own (omega arith) two.first.stands in (
-            own,
-            record { first = first; last = last; takes = taken; gives = given; stand = two.first.stands },
-            new_size own (subst (λ (o : Option PrimitiveTypeInfo). LeavesTypes context own (list_of o)) (sym given) two.first.leaves)
-                (λ e. omega (arith, e)),
-          )
+      new : GivesFirst unit → SomeIsNew place (MakesFirst operators unit)
+      new (first, last, taken, given) =
+          let two = two_taken first last taken in
+          let some = two.last.some in
+          there (MakesFirst operators unit) two.first.own (record { first = first; last = last; takes = taken; gives = given; stand = two.first.stands })
+          (operand_new unit.start unit.last first two.first given (omega arith) (omega arith))
 
   pub last_decided : (b : Bool) → (IsTrue b ↔ GivesLast unit) → IsTrue b ↔ SomeIsNew place (MakesLast operators place.at unit)
-  last_decided b gives = (λ f. there (gives.0 f), λ k. gives.1 (k.1.type, k.1.takes, k.1.gives))
+  last_decided b gives = (λ f. new (gives.0 f), λ k. gives.1 (k.2.1.type, k.2.1.takes, k.2.1.gives))
     where
-      there : GivesLast unit → SomeIsNew place (MakesLast operators place.at unit)
-      there (type, taken, given) =
+      new : GivesLast unit → SomeIsNew place (MakesLast operators place.at unit)
+      new (type, taken, given) =
           let (closed, le) = last_closed context operators unit.start unit.last place.at (instruction_count context.info h.is.instruction) unit.takes type
           h.is.taken taken in
-          let own = closed.own in
-          let inside = h.inside in
-          let a = closed.some in
-          let size = stand_length operators unit.last place.at own (omega arith) closed.stands in (
-            own,
-            record { type = type; takes = taken; gives = given; stand = closed.stands },
-            new_size own (subst (λ (o : Option PrimitiveTypeInfo). LeavesTypes context own (list_of o)) (sym given) closed.leaves)
-                (λ e. omega (arith, e)),
-          )
+          there (MakesLast operators place.at unit) closed.own (record { type = type; takes = taken; gives = given; stand = closed.stands })
+          (operand_new unit.last place.at type closed given le (omega arith))
 
   -- ---- two operands
 
   module _ (t : PrimitiveTypeInfo) (taken : unit.takes ≡ takes.Two t t) where
     two : AreTwo context operators unit.start unit.last place.at t t
-    two = (subst (AreTaken context operators unit.start unit.last place.at (instruction_count context.info h.is.instruction)) taken h.is.taken).1
+    two = two_taken t t taken
 
     pub two_within : (unit.start ≤ unit.last) × (unit.last ≤ place.at)
     two_within = let a = two.first.some in let b = two.last.some in (omega arith, omega arith)
@@ -202,33 +207,29 @@ module _ (place : Place) (h : IsPlace place) where
         omega (arith, late, behind)) e
 
     exchanged_new : (first ≡ last → ⊥) → SomeIsNew place (MakesExchanged operators place.at unit)
-    exchanged_new differ = (
-      last ++ first ++ own ∷ [],
-      record {
-        type = t;
-        takes = taken;
-        first = first;
-        first_stands = two.first.stands;
-        last = last;
-        last_stands = two.last.stands;
-        own = own;
-        has = h.is.has;
-        code_is = refl;
-      },
-      record {
-        can = may_stand context operators place.at unit h.is (last ++ first ++ own ∷ [])
-            (behind_both (last ++ first) (both last first two.last.leaves two.first.leaves));
-        differs = λ stands. differ (same_operands (append_cancel_right (first ++ last) (last ++ first) (own ∷ [])
-            (same_instructions (slice_range operators unit.start (place.at + 1)) (first ++ last ++ own ∷ []) (last ++ first ++ own ∷ []) whole stands)));
-      },
-    )
+    exchanged_new differ = there (MakesExchanged operators place.at unit) (last ++ first ++ own ∷ []) (record {
+      type = t;
+      takes = taken;
+      first = first;
+      first_stands = two.first.stands;
+      last = last;
+      last_stands = two.last.stands;
+      own = own;
+      has = h.is.has;
+      code_is = refl;
+    }) (record {
+      can = may_stand context operators place.at unit h.is (last ++ first ++ own ∷ [])
+          (behind_both (last ++ first) (both last first two.last.leaves two.first.leaves));
+      differs = λ stands. differ (same_operands (append_cancel_right (first ++ last) (last ++ first) (own ∷ [])
+          (same_instructions (slice_range operators unit.start (place.at + 1)) (first ++ last ++ own ∷ []) (last ++ first ++ own ∷ []) whole stands)));
+    })
 
     pub exchange_decided : (alike : Bool) →
         ((code : List Instruction) → Stand operators unit.start unit.last code → (IsTrue alike ↔ Stand operators unit.last place.at code)) →
         IsTrue (not alike) ↔ SomeIsNew place (MakesExchanged operators place.at unit)
     exchange_decided alike says =
         unlike alike (SomeIsNew place (MakesExchanged operators place.at unit))
-        (λ same k. turned_stands same k.0 k.1 k.2.differs)
+        (λ same. never (MakesExchanged operators place.at unit) (λ code m new. turned_stands same code m new.differs))
         (λ no. exchanged_new (λ e. no ((says first two.first.stands).1 (subst (Stand operators unit.last place.at) (sym e) two.last.stands))))
       where
         turned_stands : IsTrue alike → (code : List Instruction) → MakesExchanged operators place.at unit code →
@@ -245,36 +246,32 @@ module _ (place : Place) (h : IsPlace place) where
   -- ---- a statement
 
   pub deleted_decided : (b : Bool) → is_some unit.gives ≡ not b → IsTrue b ↔ SomeIsNew place (MakesNoCode unit)
-  deleted_decided b e = where_none b unit.gives (SomeIsNew place (MakesNoCode unit)) e there (λ k. k.1.gives)
+  deleted_decided b e = where_none b unit.gives (SomeIsNew place (MakesNoCode unit)) e new (λ k. k.2.1.gives)
     where
-      there : unit.gives ≡ None → SomeIsNew place (MakesNoCode unit)
-      there none =
-          let le = within in (
-            [],
-            record { gives = none; code_is = refl },
-            new_size [] (subst (λ (o : Option PrimitiveTypeInfo). LeavesTypes context [] (list_of o)) (sym none) refl) (λ size. omega (arith, size, le)),
-          )
+      new : unit.gives ≡ None → SomeIsNew place (MakesNoCode unit)
+      new none =
+          let le = within in
+          there (MakesNoCode unit) [] (record { gives = none; code_is = refl })
+          (new_size [] (subst (λ (o : Option PrimitiveTypeInfo). LeavesTypes context [] (list_of o)) (sym none) refl) (λ size. omega (arith, size, le)))
 
   -- it is closed code that leaves nothing
   statement : unit.gives ≡ None → IsClosed context operators unit.start (place.at + 1) []
   statement none = subst (λ (o : Option PrimitiveTypeInfo). IsClosed context operators unit.start (place.at + 1) (list_of o)) none h.is.is.closed
 
   pub doubled_decided : (b : Bool) → is_some unit.gives ≡ not b → IsTrue b ↔ SomeIsNew place (MakesTwice operators place.at unit)
-  doubled_decided b e = where_none b unit.gives (SomeIsNew place (MakesTwice operators place.at unit)) e there (λ k. k.1.gives)
+  doubled_decided b e = where_none b unit.gives (SomeIsNew place (MakesTwice operators place.at unit)) e new (λ k. k.2.1.gives)
     where
-      there : unit.gives ≡ None → SomeIsNew place (MakesTwice operators place.at unit)
-      there none =
+      new : unit.gives ≡ None → SomeIsNew place (MakesTwice operators place.at unit)
+      new none =
           let closed = statement none in
           let own = closed.own in
           let le = within in
           let inside = h.inside in
           let size = stand_length operators unit.start (place.at + 1) own (omega arith) closed.stands in
-          let twice = length-append own own in (
-            own ++ own,
-            record { gives = none; own = own; stand = closed.stands; code_is = refl },
-            new_size (own ++ own) (subst (λ (o : Option PrimitiveTypeInfo). LeavesTypes context (own ++ own) (list_of o)) (sym none)
-                (both_leave context own own [] [] closed.leaves closed.leaves)) (λ long. omega (arith, long, size, twice, le)),
-          )
+          let twice = length-append own own in
+          there (MakesTwice operators place.at unit) (own ++ own) (record { gives = none; own = own; stand = closed.stands; code_is = refl })
+          (new_size (own ++ own) (subst (λ (o : Option PrimitiveTypeInfo). LeavesTypes context (own ++ own) (list_of o)) (sym none)
+          (both_leave context own own [] [] closed.leaves closed.leaves)) (λ long. omega (arith, long, size, twice, le)))
 
   -- ---- a copy
 
@@ -284,12 +281,10 @@ module _ (place : Place) (h : IsPlace place) where
       let copied = place.copied.code.now in
       let given : IsGiven context copied (Some unit.gives) = subst (IsGiven context copied) gives.1 h.copied in
       unlike alike (SomeIsNew place (MakesCopy copied))
-      (λ same k. k.2.differs (subst (Stand operators unit.start (place.at + 1)) (sym k.1.code_is) (says.0 same)))
-      (λ no. (
-        copied,
-        record { some = gives.0; code_is = refl },
-        record { can = may_stand context operators place.at unit h.is copied given; differs = λ stands. no (says.1 stands) },
-      ))
+      (λ same. never (MakesCopy copied) (λ code m new. new.differs
+      (subst (Stand operators unit.start (place.at + 1)) (sym m.code_is) (says.0 same))))
+      (λ no. there (MakesCopy copied) copied (record { some = gives.0; code_is = refl })
+      (record { can = may_stand context operators place.at unit h.is copied given; differs = λ stands. no (says.1 stands) }))
 
   -- ---- two statements
 
@@ -376,12 +371,3 @@ module _ (place : Place) (h : IsPlace place) where
             (subst (Stand operators before.start (place.at + 1))
             (ap (λ (x : List Instruction). m.first ++ x) twice ∙ (ap (λ (x : List Instruction). x ++ m.first) (sym twice) ∙ sym m.code_is))
             (both_stand operators before.start unit.start (place.at + 1) m.first m.own w (omega arith) first m.own_stands)))
-
-  -- ---- in the place of the unit
-
-  pub in_unit : (b : Bool) (K : List Instruction → Type 0) → (IsTrue b ↔ SomeIsNew place K) →
-      IsTrue b ↔ ((start : ℕ) × (code : List Instruction) × ((start ≡ unit.start) × K code) × IsNewFrom place start code)
-  in_unit b K decided = (
-    λ f. let (code, made, new) = decided.0 f in (unit.start, code, (refl, made), new),
-    λ k. decided.1 (k.1, k.2.1, subst (λ (s : ℕ). IsNewFrom place s k.1) k.2.0 k.3),
-  )

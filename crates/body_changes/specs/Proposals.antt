@@ -58,9 +58,9 @@ IsNewAt place code = IsNewFrom place place.unit.start code
 abbrev pub IsBehindAt : Place → (other : Instruction) → List Instruction → Type 0
 IsBehindAt place other code = IsBehindOperands (operators_of place) place.at place.unit other code
 
--- such code is new there
+-- such code is new in the place of the unit
 abbrev pub SomeIsNew : Place → (IsMade : List Instruction → Type 0) → Type 0
-SomeIsNew place IsMade = (code : List Instruction) × IsMade code × IsNewAt place code
+SomeIsNew place IsMade = (start : ℕ) × (code : List Instruction) × ((start ≡ place.unit.start) × IsMade code) × IsNewFrom place start code
 
 -- the change makes something new
 abbrev pub MakesNew : Place → (most : ℕ) → (words : List ℕ) → Change → Type 0
