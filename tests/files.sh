@@ -252,6 +252,31 @@ no_name() {
     ends 1 "new/: can't be written: No such file or directory" rewrite in.wasm -o new/ && has_names . in.wasm
 }
 
+# A file size limit is a failed write, if the signal for it is ignored.
+size_limit() {
+    cp "$work/other" out || return 1
+    (trap '' XFSZ && ulimit -f 1 && ends 1 "out: can't be written: File too large" rewrite in.wasm -o out) || return 1
+    is_other out && has_names . in.wasm out
+}
+
+# A command line on a terminal, whose input ends at once. What it writes there is in the file for messages.
+on_terminal() { timeout "$1" script -qec "$2" /dev/null < /dev/null > "$work/message" || true; }
+
+says_that_it_reads() {
+    on_terminal 20 "'$program' > out"
+    grep -q "reading a module from standard input; teddertempo --help" "$work/message" || return 1
+    on_terminal 20 "'$program' --seed 7 in.wasm > out" && is_new out && [ ! -s "$work/message" ]
+}
+
+# A run without an end, for three seconds.
+shows_progress() {
+    local task=$1 unit=$2
+    on_terminal 3 "'$program' $task --count 100000000 '$work/large.wasm' -o out"
+    cat "$work/message"
+    grep -q "^teddertempo: [1-9][0-9]* $unit in [1-9] s" "$work/message" || return 1
+    on_terminal 3 "'$program' $task --quiet --count 100000000 '$work/large.wasm' -o out" && [ ! -s "$work/message" ]
+}
+
 judge "an input with the name OUTPUT.new" input_has_name out.new
 judge "an input with the name OUTPUT.new-0" input_has_name out.new-0
 judge "an input that is OUTPUT" input_is_output
@@ -279,6 +304,14 @@ judge "no name" no_name
 judge "an argument that isn't UTF-8" not_utf8
 for task in --list --blocks; do judge "$task whose reader goes" reader_goes "$task"; done
 judge "a module whose reader has gone" reader_has_gone
+judge "a file size limit" size_limit
+if command -v script > /dev/null; then
+    judge "no arguments on a terminal" says_that_it_reads
+    judge "progress of rewrites" shows_progress "" rewrites
+    judge "progress of changes" shows_progress --change changes
+else
+    echo "terminals aren't tested: that needs script of bsdutils"
+fi
 
 # Nothing is made in a folder where the user, or the other user whose command stands in front, may write nothing.
 no_permission() {

@@ -215,8 +215,8 @@ for name in $modules $newer; do
 done
 
 # Each rule alone, once on each module.
-rules=$("$program" --help | tr -d '\n' | sed -n 's/.*\[possible values: \([a-z_0-9, ]*\)\].*/\1/p' | tr -d ',')
-if [ -z "$rules" ]; then fail "$program --help" "no names of rules found"; fi
+rules=$("$program" --list-rules | sed -n 's/^[0-9][0-9]* \([^ ]*\).*/\1/p')
+if [ -z "$rules" ]; then fail "$program --list-rules" "no names of rules found"; fi
 exact_rules=$(exact_rules_of "$program" | tr '\n' ' ')
 if [ -z "$exact_rules" ]; then fail "$program --list-rules=json" "no rules found that need --exact"; fi
 for name in $modules $newer; do

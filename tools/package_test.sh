@@ -3,7 +3,8 @@
 #   - the archive, unpacked into an empty folder: the programs run, teddertempo-diff finds an engine that falls over rewrites and none
 #     where there is none, teddertempo-reduce leaves what a predicate asks for, the C example is linked by pkg-config alone and
 #     rewrites a module, header and library have one version, the shared library exports the calls of the header and changes a module,
-#     the mutator for AFL++ answers the calls that AFL++ makes, and man pages and completions have the options that the programs have;
+#     the mutator for AFL++ answers the calls that AFL++ makes, and man pages, completions and docs/REFERENCE.md have the options that the
+#     programs have;
 #   - the Debian package: installed, the same programs, example and libraries; then removed, and nothing of it is left.
 # Before, each place of tools/package/versions.sh has the version of the file VERSION. The last line is `N passed, N failed`.
 #
@@ -79,7 +80,7 @@ done
 # All that the tests use, beside the packages, stands in one folder.
 mkdir "$work/here"
 cp examples/c/mutate.c examples/afl/calls.py tests/modules/numbers.wasm "$work/here/"
-cp crates/peephole_run/stdin crates/peephole_run/stdout "$work/here/"
+cp crates/peephole_run/stdin crates/peephole_run/stdout docs/REFERENCE.md "$work/here/"
 tar -C "$work" -xzf "$packages/$name.tar.gz"
 cd "$work/here"
 
@@ -215,6 +216,15 @@ completions_have_options() {
     diff of_programs of_completions
 }
 
+# The options of the table in docs/REFERENCE.md.
+table_has_options() {
+    "$1" --help > help || return 1
+    options_in help > of_program
+    sed -n '/^| Option |/,/^$/s/^| \(`[^|]*\) |.*/\1/p' REFERENCE.md > rows
+    options_in rows > of_table
+    diff of_program of_table
+}
+
 page_is_set() { man --warnings -E UTF-8 -l -Tutf8 -Z "$1" 2>&1 > /dev/null | tee warnings && test ! -s warnings; }
 
 unpacked=$work/$name
@@ -240,6 +250,7 @@ done
 judge "the options of the man page" page_has_options "$share/man/man1/teddertempo.1" "$unpacked/bin/teddertempo" --none
 judge "the options of the driver's" page_has_options "$share/man/man1/teddertempo-diff.1" "$unpacked/bin/teddertempo-diff" --reach
 judge "the options of the reducer's" page_has_options "$share/man/man1/teddertempo-reduce.1" "$unpacked/bin/teddertempo-reduce" --none
+judge "the options of docs/REFERENCE.md" table_has_options "$unpacked/bin/teddertempo"
 for page in "$share"/man/man1/*.1; do
     if command -v man > /dev/null; then judge "the man page ${page##*/}" page_is_set "$page"; fi
 done

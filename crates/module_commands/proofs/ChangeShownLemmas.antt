@@ -14,18 +14,18 @@ use Rattle.module_commands.proofs.TurnLemmas.{appends_nothing}
 use Rattle.module_commands.specs.declared.changing.ChangeShower.{ChangeShower}
 
 -- what a watcher that shows changes makes of one
-abbrev pub showing : SeeingChange ChangeShower
+abbrev pub showing : {P : Type 0} → SeeingChange (ChangeShower P)
 showing before old new made after = ShowsOneChange before made after
 
 -- where nothing has failed behind them all, nothing had before
-unfailed : (scope : Scope) (from : StandingOfChanges ChangeShower) (made : List MadeChange) (to : StandingOfChanges ChangeShower) →
+unfailed : {P : Type 0} (scope : Scope) (from : StandingOfChanges (ChangeShower P)) (made : List MadeChange) (to : StandingOfChanges (ChangeShower P)) →
     SeesEachChange showing scope from made to →
     to.watcher.failed ≡ false → from.watcher.failed ≡ false
 unfailed scope from [] to seen none = subst (λ s. s.watcher.failed ≡ false) seen none
 unfailed scope from (m ∷ made) to seen none = seen.1.seen.never (unfailed scope seen.0 made to seen.2 none)
 
 -- nothing is shown
-kept : (scope : Scope) (from : StandingOfChanges ChangeShower) (made : List MadeChange) (to : StandingOfChanges ChangeShower) →
+kept : {P : Type 0} (scope : Scope) (from : StandingOfChanges (ChangeShower P)) (made : List MadeChange) (to : StandingOfChanges (ChangeShower P)) →
     SeesEachChange showing scope from made to →
     to.watcher.failed ≡ false → from.watcher.wanted ≡ false → to.watcher.text.items ≡ from.watcher.text.items
 kept scope from [] to seen none wanted = ap (λ s. s.watcher.text.items) seen
@@ -35,7 +35,7 @@ kept scope from (m ∷ made) to seen none wanted =
     (seen.1.seen.grows (unfailed scope seen.0 made to seen.2 none))
 
 -- each is shown
-grown : (scope : Scope) (from : StandingOfChanges ChangeShower) (made : List MadeChange) (to : StandingOfChanges ChangeShower) →
+grown : {P : Type 0} (scope : Scope) (from : StandingOfChanges (ChangeShower P)) (made : List MadeChange) (to : StandingOfChanges (ChangeShower P)) →
     SeesEachChange showing scope from made to →
     to.watcher.failed ≡ false → from.watcher.wanted ≡ true →
     (text : List ℕ) × (to.watcher.text.items ≡ from.watcher.text.items ++ text) × ShowsChanges made text
@@ -48,7 +48,7 @@ grown scope from (m ∷ made) to seen none wanted =
     (own ++ more.0, (more.1 ∙ ap (λ text. text ++ more.0) one.1) ∙ append_assoc from.watcher.text.items own more.0, (one.0, more.0, refl, more.2))
 
 -- What is shown of all of them.
-pub are_shown : (scope : Scope) (from : StandingOfChanges ChangeShower) (made : List MadeChange) (to : StandingOfChanges ChangeShower) (show : Bool) →
+pub are_shown : {P : Type 0} (scope : Scope) (from : StandingOfChanges (ChangeShower P)) (made : List MadeChange) (to : StandingOfChanges (ChangeShower P)) (show : Bool) →
     SeesEachChange showing scope from made to → to.watcher.failed ≡ false → from.watcher.wanted ≡ show → from.watcher.text.items ≡ [] →
     AreShown show made to.watcher.text.items
 are_shown scope from made to false seen none wanted empty = kept scope from made to seen none wanted ∙ empty

@@ -136,7 +136,7 @@ GrowsByChange false made old new = new ≡ old
 GrowsByChange true made old new = (drawn : List ℕ) × (new ≡ old ++ (first_line made ++ drawn))
 
 -- so it has where nothing failed
-pub record ShowsOneChange (before : ChangeShower) (made : MadeChange) (after : ChangeShower) : Type 0 where
+pub record ShowsOneChange {P : Type 0} (before : ChangeShower P) (made : MadeChange) (after : ChangeShower P) : Type 0 where
   pub wanted : after.wanted ≡ before.wanted
   pub never : after.failed ≡ false → before.failed ≡ false
   pub grows : after.failed ≡ false → GrowsByChange before.wanted made before.text.items after.text.items

@@ -11,6 +11,7 @@ use crate::change_report::changes_report;
 use crate::ending::Ending;
 use crate::failure::Failure;
 use crate::mutating::stripped;
+use crate::progress::Progress;
 use crate::reporting::report_module;
 use crate::writing::{show, write_bytes};
 use module_changes::{
@@ -26,20 +27,22 @@ use std::alloc::Global;
 use std::io::Write;
 use wasm_module::ModuleFault;
 
-/// Keeps what is shown of the changes that it sees, where that is asked for.
+/// Keeps what is shown of the changes that it sees, if that is asked for, and counts them.
 #[derive(Drop)]
-pub struct ChangeShower {
+pub struct ChangeShower<P> {
     /// Whether anything is shown.
     pub wanted: bool,
     /// What is shown so far.
     pub text: Vec<u8>,
     /// Whether no memory was left for some of it.
     pub failed: bool,
+    /// Counts the changes.
+    pub progress: P,
 }
 
-impl ChangeShower {
+impl<P: Progress + Drop> ChangeShower<P> {
     // Nothing is shown yet.
-    fn new(alloc: Global, wanted: bool) -> ChangeShower
+    fn new(alloc: Global, wanted: bool, progress: P) -> ChangeShower<P>
         ensures wanted { result.wanted ≡ wanted }
         ensures text { result.text.items ≡ [] }
         ensures failed { result.failed ≡ false }
@@ -48,6 +51,7 @@ impl ChangeShower {
             wanted,
             text: Vec::new(alloc),
             failed: false,
+            progress,
         }
     }
 
@@ -63,12 +67,13 @@ impl ChangeShower {
     }
 }
 
-impl Watch for ChangeShower {
+impl<P: Progress + Drop> Watch for ChangeShower<P> {
     ghost use Rattle.module_commands.specs.Changing.{ShowsOneChange};
 
     ghost saw = { λ before old new made after. ShowsOneChange before made after };
 
     fn see(&mut self, alloc: Global, old: &[u8], new: &[u8], made: MadeChange) {
+        self.progress.count();
         if !self.wanted || self.failed {
             return;
         }
@@ -120,7 +125,12 @@ fn failure_by(refusal: Refusal) -> Failure
 // The module changed as many times as the options say, by their changes, with a generator made from their seed, and what is shown of the
 // changes where the options ask for it.
 #[tactic(auto, using(crate::proofs::FaultsLemmas::changing_fails))]
-fn drawn(alloc: Global, bytes: &[u8], options: &Options) -> Result<ChangeOutcome, Failure>
+fn drawn<P: Progress + Drop>(
+    alloc: Global,
+    bytes: &[u8],
+    options: &Options,
+    progress: P,
+) -> Result<ChangeOutcome, Failure>
     requires { options.now.place ≡ None }
     ensures outcome { IfOk result (λ o. IsChangedAs options.now o.count bytes.now
         o.module.made.items o.module.stopped o.module.bytes.items) }
@@ -133,7 +143,7 @@ fn drawn(alloc: Global, bytes: &[u8], options: &Options) -> Result<ChangeOutcome
         Err(reason) => return Err(Failure::Nothing(reason)),
     };
     let scope = options.change_scope();
-    let mut shower = ChangeShower::new(alloc, options.show);
+    let mut shower = ChangeShower::new(alloc, options.show, progress);
     let mut generator = StdRng::seed_from_u64(options.seed);
     match change_module(alloc, bytes, &mut generator, &scope, count, &mut shower) {
         Ok(new) => {
@@ -178,7 +188,12 @@ fn placed(
 }
 
 // The module changed as the options say, and what is shown of the changes where they ask for it.
-fn changed(alloc: Global, bytes: &[u8], options: &Options) -> Result<ChangeOutcome, Failure>
+fn changed<P: Progress + Drop>(
+    alloc: Global,
+    bytes: &[u8],
+    options: &Options,
+    progress: P,
+) -> Result<ChangeOutcome, Failure>
     ensures outcome { IfOk result (λ o. IsChangedAs options.now o.count bytes.now
         o.module.made.items o.module.stopped o.module.bytes.items) }
     ensures shown { IfOk result (λ o.
@@ -187,7 +202,7 @@ fn changed(alloc: Global, bytes: &[u8], options: &Options) -> Result<ChangeOutco
 {
     match options.place {
         Some(at) => placed(alloc, bytes, options, at),
-        None => drawn(alloc, bytes, options),
+        None => drawn(alloc, bytes, options, progress),
     }
 }
 
@@ -253,16 +268,17 @@ fn is_told(options: &Options) -> bool
 /// Writes the module changed as many times as the options say, by their changes, with a generator made from their seed, or at the
 /// operators that they name: it is valid where it was. Where the options say so, its custom sections that name places in the code are dropped then. Where the options ask for
 /// it, the notes tell of the module first, then show the changes, and report them and the sizes. What is told of them is made before the
-/// module is written, so that nothing is written where memory is refused to it.
+/// module is written, so that nothing is written where memory is refused to it. `progress` counts the changes that are drawn.
 ///
 /// `Nothing` as `count_of_dose` refuses, and where the module that is to be told of can't be read; `Unchanged` as `change_module` or
 /// `change_at` refuses.
-pub fn write_changed<W: Write, E: Write>(
+pub fn write_changed<W: Write, E: Write, P: Progress + Drop>(
     alloc: Global,
     options: &Options,
     bytes: &[u8],
     output: &mut W,
     notes: &mut E,
+    progress: P,
 ) -> Result<Ending, Failure>
     ensures changed { IfOk result (λ ending. WritesChanged options.now bytes.now ending
         (W.contents output.old) (W.contents output.new)) }
@@ -276,7 +292,7 @@ pub fn write_changed<W: Write, E: Write>(
         → W.contents output.new ≡ W.contents output.old) }
 {
     report_asked_module(alloc, bytes, options, notes)?;
-    let new = changed(alloc, bytes, options)?;
+    let new = changed(alloc, bytes, options, progress)?;
     let told = told_of(alloc, bytes, options, &new)?;
     write_bytes(output, &new.module.bytes)?;
     show(notes, is_told(options), &told)?;

@@ -12,12 +12,11 @@ ghost use Rattle.module_commands.specs.Writes.{IsCommandOutcome, IsWrittenAs, st
 ghost use Rattle.module_commands.specs.declared.failure.Failure.TheVariants.{Memory};
 
 use crate::failure::Failure;
+use crate::progress::Progress;
 use crate::showing::Shower;
 use module_options::Options;
 use module_rewrites::laws::rewritten_modules_do_as_before;
-use module_rewrites::{
-    MutationError, Reason, RewrittenModule, Watch, count_of_dose, rewrite_module,
-};
+use module_rewrites::{MutationError, Reason, RewrittenModule, count_of_dose, rewrite_module};
 use rand::rngs::StdRng;
 use rand_core::SeedableRng;
 use std::alloc::Global;
@@ -154,15 +153,15 @@ fn left(
 /// What is written of the module, rewritten as many times as the options say, by their rules, with a generator made from their seed:
 /// it is valid where it was, and does what it did. Where rewrites are to make it smaller, and no rule applies, or none that is drawn
 /// makes it so, it is the module as it is. Where the options say so, its custom sections that name places in the code are dropped then.
-/// What is shown of the rewrites where the options ask for it; `watch` sees each of them, too.
+/// What is shown of the rewrites where the options ask for it; `progress` counts them.
 ///
 /// `Nothing` as `count_of_dose` and `rewrite_module` refuse, but where the module is written as it is.
 #[tactic(auto, using(crate::proofs::OutcomeLemmas::rewritten_outcome, crate::proofs::OutcomeLemmas::reason_in, crate::proofs::OutcomeLemmas::gives_up_in, crate::proofs::OutcomeLemmas::counting_fails))]
-pub fn rewritten<P: Watch + Drop>(
+pub fn rewritten<P: Progress + Drop>(
     alloc: Global,
     bytes: &[u8],
     options: &Options,
-    watch: P,
+    progress: P,
 ) -> Result<Outcome, Failure>
     ensures outcome { IfOk result (λ o. IsCommandOutcome options.now o.count bytes.now
         o.module.made.items o.module.stopped o.module.bytes.items) }
@@ -175,7 +174,7 @@ pub fn rewritten<P: Watch + Drop>(
         Ok(count) => count,
         Err(reason) => return Err(Failure::Nothing(reason)),
     };
-    let mut shower = Shower::new(alloc, options.show, watch);
+    let mut shower = Shower::new(alloc, options.show, progress);
     let mut generator = StdRng::seed_from_u64(options.seed);
     match rewrite_module(alloc, bytes, &mut generator, &scope, count, &mut shower) {
         Ok(new) => {

@@ -26,6 +26,7 @@ use crate::front::{is_component, is_text};
 use crate::input::read_input;
 use crate::listing::list_rewrites;
 use crate::mutating::rewritten;
+use crate::progress::Progress;
 use crate::reporting::report_module;
 use crate::rules::list_rules;
 use crate::sharing::check_exact;
@@ -34,18 +35,17 @@ use crate::stats::rewrites_report;
 use crate::writing::{show, write_bytes};
 use device_tally::Tally;
 use module_options::{Options, Task};
-use module_rewrites::Watch;
 use std::alloc::Global;
 use std::io::{Read, Write};
 
 // Writes the module rewritten, and what is shown of the rewrites.
-fn write_rewritten<W: Write, E: Write, P: Watch + Drop>(
+fn write_rewritten<W: Write, E: Write, P: Progress + Drop>(
     alloc: Global,
     options: &Options,
     bytes: &[u8],
     output: &mut W,
     notes: &mut E,
-    watch: P,
+    progress: P,
 ) -> Result<Ending, Failure>
     ensures shown { IfOk result (λ ending. ShowsMutated options.now bytes.now ending
         (W.contents output.old) (W.contents output.new) (E.contents notes.old)
@@ -55,7 +55,7 @@ fn write_rewritten<W: Write, E: Write, P: Watch + Drop>(
     ensures kept { IfErr result (λ e. e ≢ Output
         → W.contents output.new ≡ W.contents output.old) }
 {
-    let new = rewritten(alloc, bytes, options, watch)?;
+    let new = rewritten(alloc, bytes, options, progress)?;
     write_bytes(output, &new.module.bytes)?;
     show(notes, options.show, &new.shown)?;
     Ok(ending_of(&new.module.stopped))
@@ -63,13 +63,13 @@ fn write_rewritten<W: Write, E: Write, P: Watch + Drop>(
 
 // The same, and reports: first on the module, so also where no rule applies, and on the rewrites behind that. What is said of the
 // rewrites is made before the module is written, so that nothing is written where memory is refused to it.
-fn write_reported<W: Write, E: Write, P: Watch + Drop>(
+fn write_reported<W: Write, E: Write, P: Progress + Drop>(
     alloc: Global,
     options: &Options,
     bytes: &[u8],
     output: &mut W,
     notes: &mut E,
-    watch: P,
+    progress: P,
 ) -> Result<Ending, Failure>
     ensures reported { IfOk result (λ ending. ReportsMutated options.now bytes.now ending
         (W.contents output.old) (W.contents output.new) (E.contents notes.old)
@@ -79,7 +79,7 @@ fn write_reported<W: Write, E: Write, P: Watch + Drop>(
         → W.contents output.new ≡ W.contents output.old) }
 {
     report_module(alloc, bytes, options, notes)?;
-    let new = rewritten(alloc, bytes, options, watch)?;
+    let new = rewritten(alloc, bytes, options, progress)?;
     let report = rewrites_report(alloc, bytes, &new.module, options.form(), new.count)?;
     write_bytes(output, &new.module.bytes)?;
     notes.write_all(&new.shown)?;
@@ -88,13 +88,13 @@ fn write_reported<W: Write, E: Write, P: Watch + Drop>(
 }
 
 // Writes the module rewritten, with what is shown and reported where the options ask for it.
-fn rewrite<W: Write, E: Write, P: Watch + Drop>(
+fn rewrite<W: Write, E: Write, P: Progress + Drop>(
     alloc: Global,
     options: &Options,
     bytes: &[u8],
     output: &mut W,
     notes: &mut E,
-    watch: P,
+    progress: P,
 ) -> Result<Ending, Failure>
     ensures written { IfOk result (λ ending. WritesMutated options.now bytes.now ending
         (W.contents output.old) (W.contents output.new)) }
@@ -111,9 +111,9 @@ fn rewrite<W: Write, E: Write, P: Watch + Drop>(
         → W.contents output.new ≡ W.contents output.old) }
 {
     if options.stats {
-        return write_reported(alloc, options, bytes, output, notes, watch);
+        return write_reported(alloc, options, bytes, output, notes, progress);
     }
-    write_rewritten(alloc, options, bytes, output, notes, watch)
+    write_rewritten(alloc, options, bytes, output, notes, progress)
 }
 
 // All bytes of the input, which are neither a component nor a text, nor, where what runs the module is to be exact, those of one of
@@ -145,15 +145,15 @@ fn take_module<R: Read>(
 }
 
 /// Reads all of the input, unless rules or changes are listed, and does what the options ask for: what it writes goes to the output, and what it
-/// reports and shows to the notes. What it lists and reports has the form that they ask for. Each rewrite is shown to `watch`, too.
+/// reports and shows to the notes. What it lists and reports has the form that they ask for. `progress` counts the rewrites and changes that are drawn.
 /// Fails as the task fails, and as the input can't be read or the output written.
-pub fn run<R: Read, W: Write, E: Write, P: Watch + Drop>(
+pub fn run<R: Read, W: Write, E: Write, P: Progress + Drop>(
     alloc: Global,
     options: &Options,
     input: &mut Tally<R>,
     output: &mut W,
     notes: &mut E,
-    watch: P,
+    progress: P,
 ) -> Result<Ending, Failure>
     // What is written is the input rewritten as the seed chooses, valid where that was; what stands round each rewrite runs as
     // before, and its functions do what they did. Where the options say so, custom sections that name places in the code are dropped.
@@ -235,11 +235,11 @@ pub fn run<R: Read, W: Write, E: Write, P: Watch + Drop>(
         Task::Changes => list_changes(alloc, options.form(), output),
         Task::Rewrite => {
             let bytes = take_module(alloc, options.exact, input)?;
-            rewrite(alloc, options, &bytes, output, notes, watch)
+            rewrite(alloc, options, &bytes, output, notes, progress)
         }
         Task::Change => {
             let bytes = take_module(alloc, options.exact, input)?;
-            write_changed(alloc, options, &bytes, output, notes)
+            write_changed(alloc, options, &bytes, output, notes, progress)
         }
         Task::List => {
             let bytes = take_module(alloc, options.exact, input)?;

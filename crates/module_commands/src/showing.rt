@@ -3,11 +3,12 @@ ghost use Rattle.std.specs.Prelude.{◌≡◌, [], false, IfOk, IfErr};
 ghost use Rattle.module_commands.specs.declared.failure.Failure.TheVariants.{Memory};
 
 use crate::failure::Failure;
+use crate::progress::Progress;
 use module_rewrites::{MadeRewrite, Watch};
 use module_showing::write_shown;
 use std::alloc::Global;
 
-/// Keeps what is shown of the rewrites that it sees, where that is asked for, and hands each on.
+/// Keeps what is shown of the rewrites that it sees, if that is asked for, and counts them.
 #[derive(Drop)]
 pub struct Shower<P> {
     /// Whether anything is shown.
@@ -16,13 +17,13 @@ pub struct Shower<P> {
     pub text: Vec<u8>,
     /// Whether no memory was left for some of it.
     pub failed: bool,
-    /// Who sees the rewrites too.
-    pub next: P,
+    /// Counts the rewrites.
+    pub progress: P,
 }
 
-impl<P: Watch + Drop> Shower<P> {
+impl<P: Progress + Drop> Shower<P> {
     /// Nothing is shown yet.
-    pub fn new(alloc: Global, wanted: bool, next: P) -> Shower<P>
+    pub fn new(alloc: Global, wanted: bool, progress: P) -> Shower<P>
         ensures wanted { result.wanted ≡ wanted }
         ensures text { result.text.items ≡ [] }
         ensures failed { result.failed ≡ false }
@@ -31,7 +32,7 @@ impl<P: Watch + Drop> Shower<P> {
             wanted,
             text: Vec::new(alloc),
             failed: false,
-            next,
+            progress,
         }
     }
 
@@ -47,13 +48,13 @@ impl<P: Watch + Drop> Shower<P> {
     }
 }
 
-impl<P: Watch + Drop> Watch for Shower<P> {
+impl<P: Progress + Drop> Watch for Shower<P> {
     ghost use Rattle.module_commands.specs.Shown.{ShowsOne};
 
     ghost saw = { λ before old new made after. ShowsOne before made after };
 
     fn see(&mut self, alloc: Global, old: &[u8], new: &[u8], made: MadeRewrite) {
-        self.next.see(alloc, old, new, made);
+        self.progress.count();
         if !self.wanted || self.failed {
             return;
         }

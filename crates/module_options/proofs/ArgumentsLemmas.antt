@@ -18,6 +18,11 @@ pub versioned : (a b c d : Command) (version about after : Bor Text) (app : App)
 versioned a b c d version about after app is with_v with_a with_h =
     ap app_of_fields with_h ∙ (ap app_of_fields with_a ∙ (ap app_of_fields with_v ∙ ap with_version is))
 
+-- a heading of the help
+pub headed : (a b : Command) (heading : Bor Text) (app : App) → app_of a ≡ app →
+    out-Command b ≡ record (out-Command a) { current_help_heading = Some heading } → app_of b ≡ app
+headed a b heading app is with_h = ap app_of_fields with_h ∙ is
+
 -- one argument more
 pub one_more : (old new : Command) (a : Arg) (r : Rule) (app : App) → app_of old ≡ app → AddsArg old a new → a.global ≡ false → rule_of a ≡ r →
     app_of new ≡ with_rule app r

@@ -1,2 +1,3 @@
 pub mod ArgumentsLemmas
+pub mod ConflictsLemmas
 pub mod OptionsLemmas

@@ -42,23 +42,6 @@ use Rattle.module_options.specs.declared.misuse.Misuse.{Misuse}
 use Rattle.module_options.specs.declared.misuse.Misuse.TheVariants.{Memory, UnknownRule}
 use Rattle.module_options.specs.declared.options.Options.{Options}
 
-equal_texts : (a b : Text) → a ≡ b → bytes_eq a b ≡ true
-equal_texts a b e = (bytes_eq-Decides a b).1 e
-
-other_texts : (r : Bool) (P : Type 0) → (r ≡ true → P) → (P → ⊥) → r ≡ false
-other_texts true P h never = absurd (never (h refl))
-other_texts false P h never = refl
-
--- a flag
-pub set_by : (E : Type 0) (text : Option Text) (r : Option Bool) → (text ≡ None → r ≡ None) →
-    ((t : Text) → text ≡ Some t → ReadsOne {T = Bool} {E = E} ParsesBool t r) → unwrap_or r false ≡ option_map_or (λ t. bytes_eq t (codes "true")) text false
-set_by E None r none some = ap (λ (o : Option Bool). unwrap_or o false) (none refl)
-set_by E (Some t) (Some true) none some = sym (equal_texts t true_text (some t refl))
-set_by E (Some t) (Some false) none some =
-    let is : t ≡ false_text = some t refl in
-    sym (ap (λ (x : Text). bytes_eq x (codes "true")) is)
-set_by E (Some t) None none some = sym (other_texts (bytes_eq t true_text) (t ≡ true_text) (bytes_eq-Decides t true_text).0 (some t refl).1.0)
-
 -- a number
 pub number_by : {E : Type 0} (gives : List ℕ → Result ℕ E → Type 0) → ((bs : List ℕ) (r : Result ℕ E) → gives bs r → ParsesUnsigned 64 10 bs r) →
     (text : Option Text) (r : Option ℕ) → (text ≡ None → r ≡ None) → ((t : Text) → text ≡ Some t → ReadsOne gives t r) → IsNumberOf text r

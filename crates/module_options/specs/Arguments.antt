@@ -61,10 +61,9 @@ naming name names = record (valued name (Names names)) { action = Some Append }
 abbrev pub arguments : (names : Bor (List (Bor Text))) → List Rule
 arguments names =
     input_rule ∷ output_rule ∷ seed_rule ∷ count_rule ∷ valued (codes "function") number ∷ naming (codes "rule") names
-    ∷ naming (codes "not-rule") names ∷ flag (codes "shrink") ∷ flag (codes "exact") ∷ valued (codes "max-size") number
-    ∷ flag (codes "list") ∷ flag (codes "blocks") ∷ rules_rule ∷ change_rule ∷ valued (codes "from") number
-    ∷ valued (codes "to") number ∷ flag (codes "list-changes") ∷ flag (codes "stats") ∷ flag (codes "reach") ∷ flag (codes "json") ∷ flag (codes "show")
-    ∷ flag (codes "strip-debug") ∷ flag (codes "quiet") ∷ []
+    ∷ naming (codes "not-rule") names ∷ flag (codes "exact") ∷ flag (codes "shrink") ∷ valued (codes "max-size") number ∷ change_rule
+    ∷ valued (codes "from") number ∷ valued (codes "to") number ∷ flag (codes "strip-debug") ∷ flag (codes "list") ∷ flag (codes "blocks") ∷ rules_rule
+    ∷ flag (codes "list-changes") ∷ flag (codes "stats") ∷ flag (codes "reach") ∷ flag (codes "show") ∷ flag (codes "json") ∷ flag (codes "quiet") ∷ []
 
 -- The command line, where the rules have these names.
 abbrev pub command_line : (names : Bor (List (Bor Text))) → App

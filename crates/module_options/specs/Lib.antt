@@ -1,4 +1,5 @@
 pub mod Arguments
+pub mod Conflicts
 pub mod Flags
 pub mod Form
 pub mod Front

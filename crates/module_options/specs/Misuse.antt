@@ -1,20 +1,20 @@
 -- Why a command line says no options (this project).
-use Rattle.std.specs.Prelude.{◌≡◌, true, List, None, codes, IfSome}
+use Rattle.std.specs.Prelude.{◌≡◌, true, List, None, Some, codes, IfSome}
 use Rattle.clap.specs.Walk.{Row, all_of}
 use Rattle.clap.specs.declared.error.kind.ErrorKind.{ErrorKind}
 use Rattle.clap.specs.declared.error.kind.ErrorKind.TheVariants.{ArgumentConflict, InvalidValue, MissingRequiredArgument, OutOfMemory, ValueValidation}
-use Rattle.module_options.specs.Flags.{first_of, flags_of, exclude, tell_nothing, ignore}
+use Rattle.module_options.specs.Conflicts.{conflict}
+use Rattle.module_options.specs.Flags.{first_of, flags_of, tell_nothing}
 use Rattle.module_options.specs.Named.{NamesNone, NamesNoChange, IsUnplaced}
 use Rattle.module_options.specs.Task.{form_named}
 use Rattle.module_options.specs.Values.{have_plus, IsSeedOf, IsNoDose}
 use Rattle.module_options.specs.declared.misuse.Misuse.{Misuse}
-use Rattle.module_options.specs.declared.misuse.Misuse.TheVariants.{Conflict, Ignored, NothingToTell, Plus, NoSeed, NoCount, NoForm}
+use Rattle.module_options.specs.declared.misuse.Misuse.TheVariants.{Conflict, NothingToTell, Plus, NoSeed, NoCount, NoForm}
 use Rattle.module_options.specs.declared.misuse.Misuse.TheVariants.{UnknownRule, UnknownChange, Unplaced, Memory}
 
 -- Why they are none.
 abbrev pub AreMisused : List Row → Misuse → Type 0
-AreMisused rows Conflict = exclude (flags_of rows) ≡ true
-AreMisused rows Ignored = ignore (flags_of rows) rows ≡ true
+AreMisused rows (Conflict one other) = conflict rows ≡ Some (one.now, other.now)
 AreMisused rows NothingToTell = tell_nothing (flags_of rows) ≡ true
 AreMisused rows Plus = have_plus rows ≡ true
 AreMisused rows NoSeed = IfSome (first_of (codes "seed") rows) (λ text. IsSeedOf text None)
@@ -27,8 +27,7 @@ AreMisused rows Memory = Unit {0}
 
 -- how that is told
 abbrev pub kind_for : Misuse → ErrorKind
-kind_for Conflict = ArgumentConflict
-kind_for Ignored = ArgumentConflict
+kind_for (Conflict one other) = ArgumentConflict
 kind_for NothingToTell = MissingRequiredArgument
 kind_for Plus = ValueValidation
 kind_for NoSeed = ValueValidation

@@ -1,4 +1,4 @@
-//! The command line: its arguments, as clap reads them and tells of them in its help.
+//! The command line: its arguments, as clap reads them, and its help, of at most 60 lines of 100 characters.
 ghost use Rattle.std.specs.Prelude.{◌≡◌, codes, false, IfOk};
 ghost use Rattle.clap.specs.Simple.{app_of};
 ghost use Rattle.clap.specs.Walk.{rule_of};
@@ -13,7 +13,7 @@ fn input_argument<'a>(alloc: Global) -> Arg<'a>
 {
     Arg::new(alloc, "input")
         .value_name("INPUT")
-        .help("The module; standard input where none is named, or -")
+        .help("The module [default: standard input, also for -]")
 }
 
 fn output_argument<'a>(alloc: Global) -> Arg<'a>
@@ -24,7 +24,7 @@ fn output_argument<'a>(alloc: Global) -> Arg<'a>
         .short('o')
         .long("output")
         .value_name("OUTPUT")
-        .help("What is written goes there; to standard output where none is named, or -")
+        .help("The file to write [default: standard output, also for -]")
 }
 
 fn seed_argument<'a>(alloc: Global) -> Arg<'a>
@@ -32,7 +32,7 @@ fn seed_argument<'a>(alloc: Global) -> Arg<'a>
     ensures local { result.global ≡ false }
 {
     Arg::new(alloc, "seed").long("seed").value_name("N").help(
-        "The seed of the generator that draws the places, and rules or changes, also as 0x and hexadecimal digits [default: 0]",
+        "Seed of the random choices, decimal or hexadecimal (0x1f) [default: 0]",
     )
 }
 
@@ -41,7 +41,8 @@ fn count_argument<'a>(alloc: Global) -> Arg<'a>
     ensures local { result.global ≡ false }
 {
     Arg::new(alloc, "count").long("count").value_name("K").help(
-        "How many rewrites or changes are made, one after another: a number, a percentage of the operators as 20%, or each, which is 100%; fewer where none can be made any more [default: 1; with --shrink until none that is drawn makes the module smaller]",
+        "Number of rewrites or changes, or a share of the operators: 20%, or each\n\
+             (100%) [default: 1; with --shrink until none makes the module smaller]",
     )
 }
 
@@ -53,7 +54,7 @@ fn function_argument<'a>(alloc: Global) -> Arg<'a>
         .long("function")
         .value_name("N")
         .value_parser(value_parser!(usize))
-        .help("Only the function with this index, imported ones counted first")
+        .help("Only the function with this index; imported functions count first")
 }
 
 fn rule_argument<'a>(alloc: Global, names: &'a [&'a str]) -> Arg<'a>
@@ -65,9 +66,8 @@ fn rule_argument<'a>(alloc: Global, names: &'a [&'a str]) -> Arg<'a>
         .value_name("NAME")
         .action(ArgAction::Append)
         .value_parser(names)
-        .help(
-            "Only the rules that are named so, each by an option of its own; all rules where none is named",
-        )
+        .hide_possible_values(true)
+        .help("Only this rule; may be given several times [default: all rules]")
 }
 
 fn other_argument<'a>(alloc: Global, names: &'a [&'a str]) -> Arg<'a>
@@ -80,7 +80,7 @@ fn other_argument<'a>(alloc: Global, names: &'a [&'a str]) -> Arg<'a>
         .action(ArgAction::Append)
         .value_parser(names)
         .hide_possible_values(true)
-        .help("Not the rules that are named so, each by an option of its own")
+        .help("All rules but this one; may be given several times")
 }
 
 fn size_argument<'a>(alloc: Global) -> Arg<'a>
@@ -91,7 +91,7 @@ fn size_argument<'a>(alloc: Global) -> Arg<'a>
         .long("max-size")
         .value_name("BYTES")
         .value_parser(value_parser!(usize))
-        .help("The most bytes that the new module may have")
+        .help("Discards rewrites and changes that make the module larger")
 }
 
 fn change_argument<'a>(alloc: Global) -> Arg<'a>
@@ -104,7 +104,8 @@ fn change_argument<'a>(alloc: Global) -> Arg<'a>
         .num_args(0..=1)
         .default_missing_value("any")
         .help(
-            "Changes the module instead, so that it stays valid and computes something else, by the change of that name, as in --change=delete [default: any]",
+            "Changes the module instead: it stays valid, and computes something else;\n\
+             the name comes after =, as in --change=delete [default: any]",
         )
 }
 
@@ -116,9 +117,7 @@ fn from_argument<'a>(alloc: Global) -> Arg<'a>
         .long("from")
         .value_name("OPERATOR")
         .value_parser(value_parser!(usize))
-        .help(
-            "With --change=NAME and --function: that change of each operator of the function from this one on of which it makes anything, counted from 0 [default: 0]",
-        )
+        .help("First operator to change, with --change=NAME and --function [default: 0]")
 }
 
 fn to_argument<'a>(alloc: Global) -> Arg<'a>
@@ -129,7 +128,7 @@ fn to_argument<'a>(alloc: Global) -> Arg<'a>
         .long("to")
         .value_name("OPERATOR")
         .value_parser(value_parser!(usize))
-        .help("The last one of these [default: the last operator]")
+        .help("Last operator to change [default: the last one of the function]")
 }
 
 // A flag with the name.
@@ -143,50 +142,6 @@ fn flag_argument<'a>(alloc: Global, name: &'a str, help: &'a str) -> Arg<'a>
         .help(help)
 }
 
-fn shrink_argument<'a>(alloc: Global) -> Arg<'a>
-    ensures rule { rule_of result ≡ flag (codes "shrink") }
-    ensures local { result.global ≡ false }
-{
-    flag_argument(
-        alloc,
-        "shrink",
-        "Only rewrites that leave no more instructions and make the module smaller; the module as it is where there is none",
-    )
-}
-
-fn exact_argument<'a>(alloc: Global) -> Arg<'a>
-    ensures rule { rule_of result ≡ flag (codes "exact") }
-    ensures local { result.global ≡ false }
-{
-    flag_argument(
-        alloc,
-        "exact",
-        "Rules on floats, vectors and memories too: the module does as before where what runs it does on these what the standard says",
-    )
-}
-
-fn list_argument<'a>(alloc: Global) -> Arg<'a>
-    ensures rule { rule_of result ≡ flag (codes "list") }
-    ensures local { result.global ≡ false }
-{
-    flag_argument(
-        alloc,
-        "list",
-        "Writes no module, but a line for each rewrite that there is; with --change for each change of an operator",
-    )
-}
-
-fn blocks_argument<'a>(alloc: Global) -> Arg<'a>
-    ensures rule { rule_of result ≡ flag (codes "blocks") }
-    ensures local { result.global ≡ false }
-{
-    flag_argument(
-        alloc,
-        "blocks",
-        "Writes no module, but a line for each block of each function",
-    )
-}
-
 fn rules_argument<'a>(alloc: Global) -> Arg<'a>
     ensures rule { rule_of result ≡ rules_rule }
     ensures local { result.global ≡ false }
@@ -196,96 +151,17 @@ fn rules_argument<'a>(alloc: Global) -> Arg<'a>
         .value_name("FORM")
         .num_args(0..=1)
         .default_missing_value("text")
-        .help(
-            "Reads no module, and writes all rules with their lines, as text, json or markdown [default: text]",
-        )
-}
-
-fn changes_argument<'a>(alloc: Global) -> Arg<'a>
-    ensures rule { rule_of result ≡ flag (codes "list-changes") }
-    ensures local { result.global ≡ false }
-{
-    flag_argument(
-        alloc,
-        "list-changes",
-        "Reads no module, and writes a line for each change",
-    )
-}
-
-fn stats_argument<'a>(alloc: Global) -> Arg<'a>
-    ensures rule { rule_of result ≡ flag (codes "stats") }
-    ensures local { result.global ≡ false }
-{
-    flag_argument(
-        alloc,
-        "stats",
-        "Reports functions, rewrites or changes and sizes on standard error, and why there are no more",
-    )
-}
-
-fn reach_argument<'a>(alloc: Global) -> Arg<'a>
-    ensures rule { rule_of result ≡ flag (codes "reach") }
-    ensures local { result.global ≡ false }
-{
-    flag_argument(
-        alloc,
-        "reach",
-        "The same, and how much of the module the rules reach, which takes as long as a list",
-    )
-}
-
-fn json_argument<'a>(alloc: Global) -> Arg<'a>
-    ensures rule { rule_of result ≡ flag (codes "json") }
-    ensures local { result.global ≡ false }
-{
-    flag_argument(
-        alloc,
-        "json",
-        "Writes what is listed or reported as JSON, one object a line",
-    )
-}
-
-fn show_argument<'a>(alloc: Global) -> Arg<'a>
-    ensures rule { rule_of result ≡ flag (codes "show") }
-    ensures local { result.global ≡ false }
-{
-    flag_argument(
-        alloc,
-        "show",
-        "Shows each rewrite or change that is made on standard error: the function, the block, and the tree before and after",
-    )
-}
-
-fn strip_argument<'a>(alloc: Global) -> Arg<'a>
-    ensures rule { rule_of result ≡ flag (codes "strip-debug") }
-    ensures local { result.global ≡ false }
-{
-    flag_argument(
-        alloc,
-        "strip-debug",
-        "Drops the custom sections that name places in the code, which are others once it is rewritten",
-    )
-}
-
-fn quiet_argument<'a>(alloc: Global) -> Arg<'a>
-    ensures rule { rule_of result ≡ flag (codes "quiet") }
-    ensures local { result.global ≡ false }
-{
-    flag_argument(
-        alloc,
-        "quiet",
-        "Tells nothing on standard error but what is asked for, and why it fails",
-    )
+        .help("Lists the rules instead, as text, json or markdown [default: text]")
 }
 
 // The exit statuses, and how the program is used.
 const AFTER_HELP: &str = "\
 Exit status:
-  0   what was asked for is written
-  1   the module is refused, or input, output or memory fails
+  0   the requested output is written
+  1   the module is rejected, or input, output or memory fails
   2   no rule applies, nothing can be changed, or the module has no function of its own
-  3   none of the functions can be read, or there is none with that index
-  64  the options can't be read
+  3   no function can be read, or --function names none of the module's own
+  64  the options can't be used, or a module would be written to a terminal
 
 Examples:
   teddertempo module.wasm -o rewritten.wasm --seed 7 --count 20
@@ -300,30 +176,75 @@ pub fn command<'a>(alloc: Global, names: &'a [&'a str]) -> Result<Command<'a>, A
     Command::new(alloc, "teddertempo")
         .version("0.3.0")
         .about(
-            "Rewrites instructions of a WebAssembly module without changing what it computes, or changes it so that it stays valid",
+            "Rewrites instructions of a WebAssembly module without changing what it computes, or changes the\n\
+             module so that it stays valid",
         )
         .after_help(AFTER_HELP)
         .arg(input_argument(alloc))?
         .arg(output_argument(alloc))?
+        .next_help_heading("What to rewrite")
         .arg(seed_argument(alloc))?
         .arg(count_argument(alloc))?
         .arg(function_argument(alloc))?
         .arg(rule_argument(alloc, names))?
         .arg(other_argument(alloc, names))?
-        .arg(shrink_argument(alloc))?
-        .arg(exact_argument(alloc))?
+        .arg(flag_argument(
+            alloc,
+            "exact",
+            "Also rules on floats, vectors and memory, for engines that compute there\n\
+             as the standard says",
+        ))?
+        .arg(flag_argument(
+            alloc,
+            "shrink",
+            "Only rewrites that make the module smaller; without one it is unchanged",
+        ))?
         .arg(size_argument(alloc))?
-        .arg(list_argument(alloc))?
-        .arg(blocks_argument(alloc))?
-        .arg(rules_argument(alloc))?
         .arg(change_argument(alloc))?
         .arg(from_argument(alloc))?
         .arg(to_argument(alloc))?
-        .arg(changes_argument(alloc))?
-        .arg(stats_argument(alloc))?
-        .arg(reach_argument(alloc))?
-        .arg(json_argument(alloc))?
-        .arg(show_argument(alloc))?
-        .arg(strip_argument(alloc))?
-        .arg(quiet_argument(alloc))
+        .next_help_heading("What to write")
+        .arg(flag_argument(
+            alloc,
+            "strip-debug",
+            "Drops the custom sections that refer to places in the code",
+        ))?
+        .arg(flag_argument(
+            alloc,
+            "list",
+            "Lists the possible rewrites instead, or with --change the changes",
+        ))?
+        .arg(flag_argument(
+            alloc,
+            "blocks",
+            "Lists the basic blocks of the functions instead",
+        ))?
+        .arg(rules_argument(alloc))?
+        .arg(flag_argument(alloc, "list-changes", "Lists the kinds of changes instead"))?
+        .next_help_heading("What to report")
+        .arg(flag_argument(
+            alloc,
+            "stats",
+            "Reports functions, rewrites or changes, and sizes on standard error",
+        ))?
+        .arg(flag_argument(
+            alloc,
+            "reach",
+            "The same, and how much of the module the rules can rewrite; as slow as --list",
+        ))?
+        .arg(flag_argument(
+            alloc,
+            "show",
+            "Shows the code before and after each rewrite or change on standard error",
+        ))?
+        .arg(flag_argument(
+            alloc,
+            "json",
+            "Writes lists and reports as JSON, one object a line",
+        ))?
+        .arg(flag_argument(
+            alloc,
+            "quiet",
+            "Writes nothing to standard error but reports, and why the run fails",
+        ))
 }

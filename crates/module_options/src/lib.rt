@@ -4,6 +4,7 @@
 #![tactic(auto)]
 
 mod arguments;
+mod conflicts;
 mod flags;
 mod form;
 mod front;

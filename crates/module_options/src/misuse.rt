@@ -3,17 +3,18 @@ ghost use Rattle.std.specs.Prelude.{◌≡◌};
 ghost use Rattle.module_options.specs.Misuse.{kind_for};
 ghost use Rattle.module_options.specs.declared.misuse.Misuse.TheVariants.{Memory};
 
-use crate::flags::{EXCLUDED, IGNORED, NOTHING_TO_TELL};
+use crate::flags::text_of;
+use crate::nearest::text_on_unknown;
+use body_changes::CHANGES;
+use clap::ArgMatches;
 use clap::error::ErrorKind;
-use std::alloc::{AllocError, AllocFailed};
+use std::alloc::{AllocError, AllocFailed, Global};
 
 /// Why the matches of a command line are no options.
 #[derive(Clone, Copy, Debug, PartialEq, Eq)]
 pub enum Misuse {
-    /// Flags exclude each other.
-    Conflict,
-    /// An option is given that the task ignores.
-    Ignored,
+    /// These two options can't be used together.
+    Conflict(&'static str, &'static str),
     /// JSON is asked for, and nothing that is written in it.
     NothingToTell,
     /// A plus stands before a number.
@@ -55,8 +56,7 @@ pub fn kind_for(misuse: Misuse) -> ErrorKind
     ensures { result ≡ kind_for misuse }
 {
     match misuse {
-        Misuse::Conflict => ErrorKind::ArgumentConflict,
-        Misuse::Ignored => ErrorKind::ArgumentConflict,
+        Misuse::Conflict(_, _) => ErrorKind::ArgumentConflict,
         Misuse::NothingToTell => ErrorKind::MissingRequiredArgument,
         Misuse::Plus => ErrorKind::ValueValidation,
         Misuse::NoSeed => ErrorKind::ValueValidation,
@@ -69,24 +69,52 @@ pub fn kind_for(misuse: Misuse) -> ErrorKind
     }
 }
 
-/// What the user is told.
-pub fn text_for(misuse: Misuse) -> &'static str {
-    match misuse {
-        Misuse::Conflict => EXCLUDED,
-        Misuse::Ignored => IGNORED,
-        Misuse::NothingToTell => NOTHING_TO_TELL,
-        Misuse::Plus => "a plus stands before a number: leave it out",
+// The option as the command line has it.
+fn option_text(alloc: Global, name: &str) -> Result<String, AllocError> {
+    if name == "input" {
+        format!(in alloc; "INPUT")
+    } else {
+        format!(in alloc; "--{name}")
+    }
+}
+
+// The message on a name that is no change's.
+fn change_text(alloc: Global, matches: &ArgMatches<'_>) -> Result<String, AllocError> {
+    let name = text_of(matches, "change").unwrap_or("");
+    let mut names = Vec::new(alloc);
+    for change in CHANGES {
+        names.push(change.name())?;
+    }
+    let given = format!(in alloc; "--change={name}")?;
+    text_on_unknown(alloc, &given, name, "change", &names)
+}
+
+/// The message.
+pub fn text_for(
+    alloc: Global,
+    misuse: Misuse,
+    matches: &ArgMatches<'_>,
+) -> Result<String, AllocError> {
+    let text = match misuse {
+        Misuse::Conflict(one, other) => {
+            let one = option_text(alloc, one)?;
+            let other = option_text(alloc, other)?;
+            return format!(in alloc; "{one} and {other} can't be used together");
+        }
+        Misuse::UnknownChange => return change_text(alloc, matches),
+        Misuse::NothingToTell =>
+            "--json needs --list, --blocks, --list-changes, --stats or --reach",
+        Misuse::Plus => "a number has no plus: leave it out",
         Misuse::NoSeed =>
-            "--seed is no number below 2^64 in decimal digits, or behind 0x in hexadecimal ones",
+            "--seed needs a number below 2^64, decimal, or hexadecimal with 0x in front",
         Misuse::NoCount =>
-            "--count is no number from 1 to 2^64 - 1, no percentage of 1% or more, as in 20%, and not each",
+            "--count needs a number from 1 to 2^64 - 1, a percentage from 1% on, as in 20%, or each",
         Misuse::NoForm =>
             "--list-rules has the forms text, json and markdown, as in --list-rules=json",
         Misuse::UnknownRule => "--rule names no rule",
-        Misuse::UnknownChange =>
-            "--change names no change, as in --change=delete: --list-changes names them all",
         Misuse::Unplaced =>
-            "--from and --to name operators of a function: they want --change with a name, as in --change=delete, and --function",
+            "--from and --to need --change with a name, as in --change=delete, and --function",
         Misuse::Memory => "no memory is left",
-    }
+    };
+    String::from_str(alloc, text)
 }

@@ -1,29 +1,16 @@
-//! What is told of a name that is no rule's: the rules that have the nearest names.
+//! The message on a name that is no rule's or change's: it suggests the nearest one.
 
 use std::alloc::{AllocError, Global};
 use std::convert::AsStr;
 use strsim::levenshtein;
 
-/// How many names are told.
-const TOLD: usize = 3;
-
-// The name that a word gives to `--rule` or `--not-rule`, itself or by the word behind it.
-fn name_given<'a>(word: &'a str, next: Option<&'a str>) -> Option<&'a str> {
-    if word == "--rule" || word == "--not-rule" {
-        return next;
-    }
-    if let Some(name) = word.strip_prefix("--rule=") {
-        return Some(name);
-    }
-    word.strip_prefix("--not-rule=")
-}
-
-// The word behind the one with the number.
-fn word_behind<S: AsStr>(words: &[S], at: usize) -> Option<&str> {
-    let rest = words.get(at..)?;
-    match rest {
-        [_, next, ..] => Some(next.as_str()),
-        _ => None,
+// The option that names a rule, and the name, which the next word has if there is no `=`.
+fn rule_named<'a>(word: &'a str, next: &'a str) -> Option<(&'a str, &'a str)> {
+    let (option, name) = word.split_once('=').unwrap_or((word, next));
+    if option == "--rule" || option == "--not-rule" {
+        Some((option, name))
+    } else {
+        None
     }
 }
 
@@ -37,40 +24,47 @@ fn is_known(names: &[&str], name: &str) -> bool {
     false
 }
 
-/// The first name that the words give to `--rule` or `--not-rule` and that is none of these.
-pub fn unknown_name<'a, S: AsStr>(names: &[&str], words: &'a [S]) -> Option<&'a str> {
+/// The first use of `--rule` or `--not-rule` in the words with none of these names: the option, and the name, which may be missing.
+pub fn unknown_rule<'a, S: AsStr>(names: &[&str], words: &'a [S]) -> Option<(&'a str, &'a str)> {
     for at in 0..words.len() {
-        if let Some(name) = name_given(words[at].as_str(), word_behind(words, at)) {
+        let next = words.get(at + 1).map_or("", |next| next.as_str());
+        if let Some((option, name)) = rule_named(words[at].as_str(), next) {
             if !is_known(names, name) {
-                return Some(name);
+                return Some((option, name));
             }
         }
     }
     None
 }
 
-// The names with how many edits lead from this one to each of them, the fewest first.
-fn by_distance<'a>(
+// The nearest of the names, if at most a third of the letters have to change.
+fn nearest<'a>(
     alloc: Global,
     names: &'a [&'a str],
     unknown: &str,
-) -> Result<Vec<(usize, &'a str)>, AllocError> {
-    let mut found = Vec::new(alloc);
+) -> Result<Option<&'a str>, AllocError> {
+    let mut found = None;
+    let mut fewer_than = unknown.len().max(3) / 3 + 1;
     for name in names {
-        found.push((levenshtein(alloc, unknown, name)?, *name))?;
+        let edits = levenshtein(alloc, unknown, name)?;
+        if edits < fewer_than {
+            found = Some(*name);
+            fewer_than = edits;
+        }
     }
-    found.sort()?;
     Ok(found)
 }
 
-/// The sentence on a name that is none of these: it tells the three that are nearest.
-pub fn sentence_on(alloc: Global, names: &[&str], unknown: &str) -> Result<String, AllocError> {
-    let mut text = format!(in alloc;
-        "no rule is named '{unknown}'; --help names them all, and the nearest are"
-    )?;
-    for (_, name) in by_distance(alloc, names, unknown)?.iter().take(TOLD) {
-        text.push_str(" ")?;
-        text.push_str(name)?;
+/// The message on a name of that kind, which an option gives, and which is none of these.
+pub fn text_on_unknown(
+    alloc: Global,
+    option: &str,
+    unknown: &str,
+    kind: &str,
+    names: &[&str],
+) -> Result<String, AllocError> {
+    match nearest(alloc, names, unknown)? {
+        Some(name) => format!(in alloc; "{option}: no such {kind}; did you mean {name}?"),
+        None => format!(in alloc; "{option}: no such {kind}; --list-{kind}s lists them"),
     }
-    Ok(text)
 }

@@ -1,13 +1,14 @@
 //! The values of options: numbers, doses and files.
 ghost use Rattle.std.specs.Prelude.{◌≡◌, ◌↔◌, codes, option_map, string_bytes, IfErr, IfOk, IsTrue};
 ghost use Rattle.clap.specs.Matches.{found_of};
+ghost use Rattle.clap.specs.Takes.{is_given};
 ghost use Rattle.clap.specs.Walk.{one_of, rows_of};
 ghost use Rattle.module_rewrites.specs.Dose.{IsOneOrMore};
-ghost use Rattle.module_options.specs.Flags.{first_of, is_set};
+ghost use Rattle.module_options.specs.Flags.{first_of};
 ghost use Rattle.module_options.specs.Misuse.{AreMisused};
 ghost use Rattle.module_options.specs.Values.{IsDose, IsNumberOf, IsPercentageOf, IsSeed, IsSeedOf, TextSaysDose, default_dose, file_of, has_plus, have_plus};
 
-use crate::flags::{is_set, text_of};
+use crate::flags::{is_given, text_of};
 use crate::front::begins_with;
 use crate::misuse::Misuse;
 use clap::ArgMatches;
@@ -146,13 +147,13 @@ fn is_one_or_more(dose: Dose) -> bool
 /// How many rewrites are made.
 pub fn dose_of(matches: &ArgMatches<'_>) -> Result<Dose, Misuse>
     ensures dose { IfOk result (IsDose
-        (is_set (codes "shrink") (rows_of (found_of matches.now)))
+        (is_given (codes "shrink") (rows_of (found_of matches.now)))
         (first_of (codes "count") (rows_of (found_of matches.now)))) }
     ensures some { IfOk result IsOneOrMore }
     ensures misuse { IfErr result (AreMisused (rows_of (found_of matches.now))) }
 {
     let Some(text) = text_of(matches, "count") else {
-        return Ok(default_dose(is_set(matches, "shrink")));
+        return Ok(default_dose(is_given(matches, "shrink")));
     };
     let Some(dose) = dose_from(text) else {
         return Err(Misuse::NoCount);

@@ -8,10 +8,11 @@ ghost use Rattle.module_options.specs.Options as options;
 ghost use Rattle.module_options.specs.Misuse.{AreMisused};
 
 use crate::arguments::command;
-use crate::flags::{exclude, flags_of, ignore, is_set, reports, tell_nothing};
+use crate::conflicts::conflict;
+use crate::flags::{flags_of, is_given, reports, tell_nothing};
 use crate::misuse::{Misuse, kind_for, text_for};
 use crate::named::{changes_of, place_of, wanted_rules};
-use crate::nearest::{sentence_on, unknown_name};
+use crate::nearest::{text_on_unknown, unknown_rule};
 use crate::options::Options;
 use crate::task::task_of;
 use crate::values::{dose_of, file_of, have_plus, seed_of, size_of};
@@ -20,19 +21,16 @@ use clap::{ArgMatches, Command, Error};
 use std::alloc::{AllocError, Global};
 use std::convert::AsStr;
 
-/// The options that the matches of a command line are, or why they are none: no memory is left, flags exclude each other, an option is
-/// ignored, nothing is there to be told as JSON, or a value can't be read.
+/// The options that the matches of a command line are, or why they are none: no memory is left, two options can't be used together,
+/// nothing is there to be told as JSON, or a value can't be read.
 pub fn options_from(alloc: Global, matches: &ArgMatches<'_>) -> Result<Options, Misuse>
     ensures options { IfOk result (options.AreOptions (rows_of (found_of matches.now))) }
     ensures misuse { IfErr result (AreMisused (rows_of (found_of matches.now))) }
 {
+    if let Some((one, other)) = conflict(matches) {
+        return Err(Misuse::Conflict(one, other));
+    }
     let flags = flags_of(matches);
-    if exclude(flags) {
-        return Err(Misuse::Conflict);
-    }
-    if ignore(flags, matches) {
-        return Err(Misuse::Ignored);
-    }
     if tell_nothing(flags) {
         return Err(Misuse::NothingToTell);
     }
@@ -54,8 +52,8 @@ pub fn options_from(alloc: Global, matches: &ArgMatches<'_>) -> Result<Options, 
         changes,
         place,
         max_size: size_of(matches, "max-size").unwrap_or(usize::MAX),
-        shrink: is_set(matches, "shrink"),
-        exact: is_set(matches, "exact"),
+        shrink: is_given(matches, "shrink"),
+        exact: is_given(matches, "exact"),
         stats: reports(flags),
         reach: flags.reach,
         json: flags.json,
@@ -65,7 +63,7 @@ pub fn options_from(alloc: Global, matches: &ArgMatches<'_>) -> Result<Options, 
     })
 }
 
-// The word as clap reads it: `--change` without a name is asked for by its own name, so that the word behind it is none.
+// The word as clap reads it: `--change` without a name gets the name `any`, so that the word after it is none.
 fn spelled(word: &str) -> &str
     ensures { result.now ≡ options.spelled word.now }
 {
@@ -88,7 +86,7 @@ fn spelled_words<'a, S: AsStr>(alloc: Global, words: &'a [S]) -> Result<Vec<&'a 
     Ok(list)
 }
 
-// An error of clap, told anew where a name is no rule's.
+// An error of clap; of an unknown rule with a message that suggests the nearest one.
 fn told_anew<S: AsStr>(
     alloc: Global,
     command: &mut Command<'_>,
@@ -101,10 +99,11 @@ fn told_anew<S: AsStr>(
     if error.kind() != ErrorKind::InvalidValue {
         return Ok(error);
     }
-    match unknown_name(names, words) {
+    match unknown_rule(names, words) {
         None => Ok(error),
-        Some(name) => {
-            let text = sentence_on(alloc, names, name)?;
+        Some((option, name)) => {
+            let given = format!(in alloc; "{option} {name}")?;
+            let text = text_on_unknown(alloc, given.as_str().trim_end(), name, "rule", names)?;
             command.error(ErrorKind::InvalidValue, &text)
         }
     }
@@ -112,10 +111,8 @@ fn told_anew<S: AsStr>(
 
 /// The options that the words of the command line say, the program's own name first. `names` are those of the rules.
 ///
-/// An error where they say none, with clap's text: an unknown rule is told with the nearest three names; and for `--help` and
-/// `--version`, with what is to be printed. A count that is none, or 0, is an error too, and so are flags that exclude each other, options that
-/// the task ignores, a plus before a number, and `--json` where nothing is written in it. `--change` has its name behind `=` alone: the
-/// word behind it is none.
+/// Errors: what clap refuses, with its text, and of an unknown rule with the nearest name; what `options_from` refuses; and `--help` and
+/// `--version`, with what is to be printed. `--change` has its name after `=` alone: the word after it is none.
 pub fn options_of<'a, S: AsStr>(
     alloc: Global,
     names: &'a [&'a str],
@@ -136,6 +133,9 @@ pub fn options_of<'a, S: AsStr>(
     };
     match options_from(alloc, &matches) {
         Ok(options) => Ok(options),
-        Err(misuse) => Err(command.error(kind_for(misuse), text_for(misuse))?),
+        Err(misuse) => {
+            let text = text_for(alloc, misuse, &matches)?;
+            Err(command.error(kind_for(misuse), &text)?)
+        }
     }
 }

@@ -2,7 +2,7 @@
 
 use crate::beside::Beside;
 use crate::destination::{Destination, destination_of};
-use crate::progress::Progress;
+use crate::progress::ProgressLine;
 use crate::trouble::Trouble;
 use crate::watched_output::WatchedOutput;
 use device_tally::Tally;
@@ -23,7 +23,7 @@ fn run_watched<R: Read, W: Write + Drop>(
         return Err(Failure::Memory);
     };
     let mut notes = rt.stderr();
-    let progress = Progress::new(rt, options.quiet);
+    let progress = ProgressLine::new(rt, options);
     run(
         rt.alloc(),
         options,

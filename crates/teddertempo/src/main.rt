@@ -36,6 +36,7 @@ use module_commands::{Ending, Failure};
 use module_options::{Options, options_of};
 use rewrite_rules::rule_names;
 use std::env::Env;
+use std::io::IsTerminal;
 use std::process::ExitCode;
 use std::{env, io};
 
@@ -109,6 +110,15 @@ fn tell_ending(rt: &impl Eprint, options: &Options, ending: Ending) {
     }
 }
 
+// Says that a module is read from the terminal, if there are no arguments and standard input is one.
+fn tell_reading(rt: &HostRuntime, words: &[String]) {
+    if words.len() <= 1 && rt.stdin().is_terminal() {
+        let _ = eprintln!(rt;
+            "teddertempo: reading a module from standard input; teddertempo --help lists the options"
+        );
+    }
+}
+
 fn main(rt: HostRuntime) -> ExitCode {
     let _held = hold_standard_files(&rt);
     let alloc = rt.alloc();
@@ -123,6 +133,7 @@ fn main(rt: HostRuntime) -> ExitCode {
         Ok(options) => options,
         Err(error) => return refuse(&rt, &error),
     };
+    tell_reading(&rt, &words);
     match run_on_files(&rt, &options) {
         Ok(ending) => {
             if !options.quiet {

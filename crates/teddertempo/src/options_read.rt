@@ -121,7 +121,7 @@ a.wasm --list-rules | ArgumentConflict
 --change=melt | InvalidValue
 --change=delete --function 2 --from 3 | Change 0 1 Some(2) delete all
 --change=delete --function 2 --to 9 --max-size 70 --stats | Change 0 1 Some(2) stats delete all
---from 3 --to 9 | ArgumentConflict
+--from 3 --to 9 | MissingRequiredArgument
 --list --function 2 --from 3 | ArgumentConflict
 --change=delete --from 3 --to 9 | MissingRequiredArgument
 --change --function 2 --from 3 | MissingRequiredArgument
@@ -161,6 +161,33 @@ a.wasm -o b.wasm | Rewrite 0 1 None all
 - --output=- | Rewrite 0 1 None all
 a.wasm b.wasm | UnknownArgument
 --melt | UnknownArgument
+";
+
+/// Command lines, and the message of the error.
+const MESSAGES: &str = "
+--seed 7 --list-rules | --seed and --list-rules can't be used together
+--list --blocks | --blocks and --list can't be used together
+--list-rules --list | --list and --list-rules can't be used together
+--list-rules --list-changes | --list-changes and --list-rules can't be used together
+--list --stats --show | --stats and --list can't be used together
+--list --max-size 9 --strip-debug | --max-size and --list can't be used together
+--blocks --shrink | --shrink and --blocks can't be used together
+--change --exact | --exact and --change can't be used together
+--change=delete --reach | --reach and --change can't be used together
+--list-changes a.wasm | INPUT and --list-changes can't be used together
+--list-rules --function 0 | --function and --list-rules can't be used together
+--json --list-rules=json | --json and --list-rules can't be used together
+--change=delete --list --function 2 --from 3 | --from and --list can't be used together
+--change=delete --function 2 --to 3 --show | --show and --to can't be used together
+--change=delete --function 2 --to 3 --from 1 --count 2 | --count and --from can't be used together
+--from 3 | --from and --to need --change with a name, as in --change=delete, and --function
+--json | --json needs --list, --blocks, --list-changes, --stats or --reach
+--rule comute | --rule comute: no such rule; did you mean commute?
+--rule fold --not-rule=ad_zero | --not-rule ad_zero: no such rule; did you mean add_zero?
+--rule melt | --rule melt: no such rule; --list-rules lists them
+--seed 7 --rule | --rule: no such rule; --list-rules lists them
+--change=delte | --change=delte: no such change; did you mean delete?
+--change=melt | --change=melt: no such change; --list-changes lists them
 ";
 
 /// The options of the words of a command line behind the program's name.
@@ -249,10 +276,35 @@ fn reads_options(rt: HostRuntime) -> Result<(), Fail> {
         panic!(rt; "a percentage with a blank");
     };
     assert!(rt; error.kind() == ErrorKind::ValueValidation);
-    let Err(error) = options(alloc, "--rule ad_zero") else {
-        panic!(rt; "a rule of no name");
+    Ok(())
+}
+
+#[test]
+fn tells_what_is_wrong(rt: HostRuntime) -> Result<(), Fail> {
+    let alloc = rt.alloc();
+    for case in MESSAGES.trim().lines() {
+        let (line, message) = case.split_once('|').ok_or("no message")?;
+        let Err(error) = options(alloc, line) else {
+            panic!(rt; "{case}");
+        };
+        let text = format!(in alloc; "{error}")?;
+        let wanted = format!(in alloc; "error:{message}\n")?;
+        assert!(rt; text.starts_with(wanted.as_str()), "{case}");
+    }
+    Ok(())
+}
+
+/// The help has at most 60 lines of 100 characters, and no names of rules.
+#[test]
+fn helps_on_one_page(rt: HostRuntime) -> Result<(), Fail> {
+    let alloc = rt.alloc();
+    let Err(error) = options(alloc, "--help") else {
+        panic!(rt; "no help");
     };
     let text = format!(in alloc; "{error}")?;
-    assert!(rt; text.contains("'ad_zero'; --help names them all, and the nearest are add_zero"));
+    assert!(rt; text.lines().count() <= 60 && !text.contains("turn_comparison"));
+    for line in text.lines() {
+        assert!(rt; line.chars().count() <= 100, "{line}");
+    }
     Ok(())
 }

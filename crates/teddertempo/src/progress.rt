@@ -1,46 +1,49 @@
-//! What is told of a run that takes long.
+//! The line about a run that takes long.
 
-use module_rewrites::{MadeRewrite, Watch};
-use std::alloc::Global;
+use module_commands::Progress;
+use module_options::{Options, Task};
 use std::io::IsTerminal;
 use std::time::Instant;
 
-/// Tells on standard error, where that is a terminal, how many rewrites are made: behind a second, and then each time that a run has
-/// taken twice as long.
+/// Writes to standard error, if that is a terminal, how many rewrites or changes are made: after a second, and then each time that the
+/// run has taken twice as long.
 #[derive(Drop)]
-pub struct Progress<'a> {
+pub struct ProgressLine<'a> {
     rt: &'a HostRuntime,
-    /// When the run began; none where nothing is told.
+    /// When the run began; none if nothing is written.
     began: Option<Instant>,
-    /// How many seconds it has to take before something is told.
+    /// How many seconds it has to take before something is written.
     seconds: u64,
-    /// How many rewrites are made.
+    /// How many rewrites or changes are made.
     made: usize,
+    /// What they are called.
+    unit: &'static str,
 }
 
-impl<'a> Progress<'a> {
-    /// A run that begins now; one that is quiet tells nothing.
-    pub fn new(rt: &'a HostRuntime, quiet: bool) -> Progress<'a> {
-        let began = if !quiet && rt.stderr().is_terminal() {
+impl<'a> ProgressLine<'a> {
+    /// A run that begins now; a quiet one writes nothing.
+    pub fn new(rt: &'a HostRuntime, options: &Options) -> ProgressLine<'a> {
+        let began = if !options.quiet && rt.stderr().is_terminal() {
             Instant::now(rt).ok()
         } else {
             None
         };
-        Progress {
+        let unit = match options.task {
+            Task::Change => "changes",
+            _ => "rewrites",
+        };
+        ProgressLine {
             rt,
             began,
             seconds: 1,
             made: 0,
+            unit,
         }
     }
 }
 
-impl<'a> Watch for Progress<'a> {
-    ghost use Rattle.std.specs.Prelude.{⊤};
-
-    ghost saw = { λ _ _ _ _ _. ⊤ };
-
-    fn see(&mut self, _alloc: Global, _old: &[u8], _new: &[u8], _made: MadeRewrite) {
+impl<'a> Progress for ProgressLine<'a> {
+    fn count(&mut self) {
         self.made = self.made.saturating_add(1);
         let Some(began) = self.began else {
             return;
@@ -53,7 +56,7 @@ impl<'a> Watch for Progress<'a> {
             return;
         }
         self.seconds = seconds.saturating_mul(2);
-        let made = self.made;
-        let _ = eprintln!(self.rt; "teddertempo: {made} rewrites in {seconds} s");
+        let (made, unit) = (self.made, self.unit);
+        let _ = eprintln!(self.rt; "teddertempo: {made} {unit} in {seconds} s");
     }
 }

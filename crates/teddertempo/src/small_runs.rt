@@ -6,13 +6,21 @@ use crate::small_modules::module_of;
 use device_tally::Tally;
 use failing_devices::{FailingReader, FailingWriter};
 use module_changes::Refusal;
-use module_commands::{Ending, Failure, run};
-use module_rewrites::{Reason, Unwatched};
+use module_commands::{Ending, Failure, Progress, run};
+use module_rewrites::Reason;
 use std::alloc::Global;
 use std::io::Write;
 use std::process::Abort;
 use std::str::Lines;
 use std::test::Fail;
+
+/// Counts nothing.
+#[derive(Drop)]
+struct Uncounted;
+
+impl Progress for Uncounted {
+    fn count(&mut self) {}
+}
 
 /// Runs: the words of the command line, the module, and the outcome; then what is written behind `>`, a module or a line, and
 /// behind `!` the lines that are reported.
@@ -512,7 +520,7 @@ fn is_run(rt: &impl Abort, alloc: Global, case: &str) -> Result<(), Fail> {
         &mut module,
         &mut output,
         &mut notes,
-        Unwatched,
+        Uncounted,
     );
     let ended = format!(in alloc; "{result:?}")?;
     assert!(rt; ended.as_str() == outcome.trim(), "{case}");
@@ -555,7 +563,7 @@ fn lists_rules(rt: HostRuntime) -> Result<(), Fail> {
         &mut input,
         &mut output,
         &mut notes,
-        Unwatched,
+        Uncounted,
     );
     assert!(rt; result == Ok(Ending::Whole) && notes.is_empty() && !input.failed());
     assert!(rt; output.starts_with(RULES.as_bytes()));
@@ -575,7 +583,7 @@ fn fails(rt: HostRuntime) -> Result<(), Fail> {
         &mut input,
         &mut output,
         &mut notes,
-        Unwatched,
+        Uncounted,
     );
     assert!(rt; result == Err(Failure::Input) && output.is_empty() && input.failed());
     let mut module = Tally::new(SUM.as_slice());
@@ -586,7 +594,7 @@ fn fails(rt: HostRuntime) -> Result<(), Fail> {
         &mut module,
         &mut sink,
         &mut notes,
-        Unwatched,
+        Uncounted,
     );
     assert!(rt; result == Err(Failure::Output));
     let mut bad = Tally::new(b"\0asn\x01\0\0\0".as_slice());
@@ -596,7 +604,7 @@ fn fails(rt: HostRuntime) -> Result<(), Fail> {
         &mut bad,
         &mut output,
         &mut notes,
-        Unwatched,
+        Uncounted,
     ) else {
         panic!(rt; "a module of another magic number");
     };

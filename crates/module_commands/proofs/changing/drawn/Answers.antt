@@ -7,7 +7,7 @@ use Rattle.module_commands.proofs.ChangeShownLemmas.{are_shown}
 use Rattle.module_commands.proofs.changing.drawn.Goals as goal
 
 pub returns-in_ok-module-in-Ok-change_module-clause-shown : goal.returns-in_ok-module-in-Ok-change_module-clause-shown
-returns-in_ok-module-in-Ok-change_module-clause-shown c =
+returns-in_ok-module-in-Ok-change_module-clause-shown g c =
     let show = c.args.options.now.show in
     let made = c.in-Ok-change_module.new.made.items in
     let shown = c.in_ok-shown-in-Ok-change_module.shown.items in
