@@ -139,8 +139,7 @@ fn offset_by(reason: Reason) -> usize
 
 /// Why nothing is rewritten, for this reason.
 pub fn refusal_by(reason: Reason) -> Refusal
-    ensures outcome { result.outcome ≡ outcome_by reason }
-    ensures offset { result.offset ≡ offset_by reason }
+    ensures { result ≡ record { outcome = outcome_by reason; offset = offset_by reason } }
 {
     Refusal {
         outcome: outcome_by(reason),
@@ -175,8 +174,8 @@ fn offset_by_change(refusal: module_changes::Refusal) -> usize
 
 /// Why nothing is changed, for this reason.
 pub fn refusal_by_change(refusal: module_changes::Refusal) -> Refusal
-    ensures outcome { result.outcome ≡ change.outcome_by refusal }
-    ensures offset { result.offset ≡ change.offset_by refusal }
+    ensures { result ≡
+        record { outcome = change.outcome_by refusal; offset = change.offset_by refusal } }
 {
     Refusal {
         outcome: outcome_by_change(refusal),

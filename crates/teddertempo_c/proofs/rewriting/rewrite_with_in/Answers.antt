@@ -1,13 +1,11 @@
 -- A module rewritten by options, and the report.
-use Rattle.std.proofs.Common.{rules}
-use Rattle.teddertempo_c.specs.Reports.{TellsMade}
-use Rattle.teddertempo_c.specs.Writes.{IsPutInBuffer}
-use Rattle.teddertempo_c.proofs.RefusalLemmas.{with_made}
-use Rattle.teddertempo_c.proofs.mutating.mutate_with_in.Goals as goal
+use Rattle.teddertempo_c.specs.Options.{AreBad}
+use Rattle.teddertempo_c.specs.Reports.{IsOutcomeFor, IsRewrittenSo}
+use Rattle.teddertempo_c.proofs.ReportedLemmas.{reported}
+use Rattle.teddertempo_c.proofs.rewriting.rewrite_with_in.Goals as goal
 
-pub returns-in-Ok : goal.returns-in-Ok
-returns-in-Ok c =
-    let put : IsPutInBuffer c.in-Ok.module.bytes.items c.args.buffer.now c.put.result c.put.new.buffer = search rules in
-    let tells : TellsMade c.in-Ok.module.made.items c.report_of.result = search rules in
-    with_made c.args.options.now c.args.size c.args.buffer.now c.args.report.now c.in-Ok.module.made.items c.in-Ok.module.bytes.items c.put.result
-    c.put.new.buffer c.report_of.result c.in-Ok.ensures.made put c.report_of.ensures.outcome tells c.report_of.ensures.size
+pub returns : goal.returns
+returns c =
+    let options = c.args.options.now in let size = c.args.size in let old = c.args.buffer.now in
+    reported (IsRewrittenSo options size old) (IsOutcomeFor options size old) (AreBad options) size old c.attempt-made.result c.report_in.result
+    c.report_in.new.buffer c.report_in.new.report c.attempt-made.ensures.made c.attempt-made.ensures.refused c.report_in.ensures
