@@ -91,6 +91,7 @@ module _ (Bad : Type 0) (size : ℕ) (old : List ℕ) (good : ¬ (IsBadCall Bad 
 module _ (IsDone : (new : List ℕ) → Report → Type 0) (IsOutcome : (offset : ℕ) → Outcome → Type 0) (Bad : Type 0) (size : ℕ) (old : List ℕ) where
   left_is : (refusal : Refusal) → IsNone IsOutcome (IsBadCall Bad size old) refusal → (report : Report) →
       report ≡ report_of refusal.outcome 0 0 0 refusal.offset → Reported IsDone IsOutcome Bad size old 0 old report
+  unfolding tells_none
   left_is refusal is report same = record {
     writes = writes_nothing old;
     tells = tells_none (IsDone (take 0 old) report) (0 ≡ 0) IsOutcome (IsBadCall Bad size old) report refl refusal is same;
@@ -101,6 +102,7 @@ module _ (IsDone : (new : List ℕ) → Report → Type 0) (IsOutcome : (offset 
       IfOk made (IsMade IsDone (IsBadCall Bad size old) (length old)) → IfErr made (IsNone IsOutcome (IsBadCall Bad size old)) →
       MatchResult made (λ m. IsWritten m old result new report) (λ e. IsLeft e old result new report) →
       Reported IsDone IsOutcome Bad size old result new report
+  unfolding tells_done
   reported (Ok m) result new report is none written =
       let done = subst (IsDone m.bytes.items) (sym written.report_is) is.done in
       record {

@@ -109,7 +109,7 @@ pub fn rules_of(alloc: Global, options: &Options) -> Result<Vec<Rule>, AllocErro
 }
 
 // Whether a bit is set that is no rule's.
-fn names_no_rule(words: &[u64]) -> bool
+fn names_no_rule(words: &[u64; 16]) -> bool
     ensures { IsTrue result ↔ NamesNoRule words.now }
 {
     for number in rule_count()..64 * words.len() {
