@@ -1,7 +1,7 @@
 #!/usr/bin/env bash
 # Counts the instructions that rewrites of whole modules take, by callgrind, so that other work on the machine does not move them.
 # One line a measurement:
-#   - a call of teddertempo_mutate from C on each module of tests/modules: the mean over some seeds (8, or SEEDS), of all calls,
+#   - a call of teddertempo_rewrite from C on each module of tests/modules: the mean over some seeds (8, or SEEDS), of all calls,
 #     those that find nothing to rewrite too, each in a process of its own, less what the process takes without the call;
 #   - a run of teddertempo with --list, and one with --blocks, on each of them, less what a run with --version takes;
 #   - one rewrite, and --list, of a function that is one chain of 5,000 operators, and of one of 100,000, and the growth of what an
@@ -47,7 +47,7 @@ int main(int count, char **arguments)
     size = fread(data, 1, ROOM, file);
     fclose(file);
     if (count > 2) {
-        teddertempo_mutate(data, size, ROOM, strtoull(arguments[2], NULL, 10));
+        teddertempo_rewrite(data, size, ROOM, strtoull(arguments[2], NULL, 10));
     }
     free(data);
     return 0;

@@ -1,10 +1,11 @@
 #!/usr/bin/env bash
-# Builds the examples in C, in Rust and for fuzzers over the static library, and runs them:
+# Builds the examples in C, the Rust crate of bindings/rust with its examples, and those for fuzzers over the static library, and runs them:
 #   - the two programs rewrite the modules of tests/modules, and change them, under some seeds (8, or the number that is given), each
 #     with options of its own: both say the same and write the same bytes, which wasm-validate accepts, where it is there; and both
 #     refuse options that are for rewrites alone where they are to change;
 #   - code of one module comes into another, and what is made is valid;
-#   - the header is compiled as C++, the fuzz target with KEEP, and the tests of the Rust crate are run;
+#   - options.c checks the fields of the structures, their defaults and what is refused;
+#   - the header and its initializers are compiled as C++, the fuzz target with KEEP, and the tests of the Rust crate are run;
 #   - the mutator for AFL++, with KEEP too, is called as AFL++ calls it (by Python), trimming too, and what it makes is valid;
 #   - where clang has libFuzzer, 2,000 runs of the fuzz target in C, and of the one in Rust;
 #   - where AFL++ is there, three instances of afl-fuzz for a minute (or AFL_SECONDS; none where that is 0): two over one output
@@ -141,20 +142,34 @@ compile() {
     "$compiler" -std=c99 -Wall -Wextra -Werror -I include "examples/$source" "$@"
 }
 
+# Compiles the header and its initializers as C++.
+compile_in_cpp() {
+    "${CXX:-c++}" -x c++ -std=c++11 -Wall -Wextra -Werror -pedantic -I include -fsyntax-only - <<'END'
+#include <teddertempo.h>
+
+teddertempo_options options = TEDDERTEMPO_OPTIONS_INIT;
+teddertempo_change_options change_options = TEDDERTEMPO_CHANGE_OPTIONS_INIT;
+teddertempo_place place = TEDDERTEMPO_PLACE_INIT;
+teddertempo_report report = TEDDERTEMPO_REPORT_INIT;
+size_t (*const rewrite)(uint8_t *, size_t, size_t, uint64_t) = teddertempo_mutate;
+static_assert(TEDDERTEMPO_ONLY(3) == 4, "the function with the index 3");
+END
+}
+
 judge "c/mutate.c" compile c/mutate.c "${CC:-cc}" -pedantic -O2 "$library" -o "$work/mutate"
 judge "c/splice.c" compile c/splice.c "${CC:-cc}" -pedantic -O2 "$library" -o "$work/splice"
+judge "c/options.c" compile c/options.c "${CC:-cc}" -pedantic -O2 "$library" -o "$work/options"
+judge "the structures, by options.c" "$work/options" tests/modules/numbers.wasm
 judge "c/fuzz.c with KEEP" compile c/fuzz.c "${CC:-cc}" -DKEEP -pedantic -O2 -c -o "$work/keep.o"
 judge "afl/mutator.c" compile afl/mutator.c "${CC:-cc}" -pedantic -O2 -shared -fPIC "$library" -o "$work/teddertempo_afl.so"
 judge "afl/mutator.c with KEEP" compile afl/mutator.c "${CC:-cc}" -DKEEP -pedantic -O2 -shared -fPIC "$library" -o "$work/keep.so"
-if command -v "${CXX:-c++}" > /dev/null; then
-    judge "the header in C++" "${CXX:-c++}" -x c++ -std=c++11 -Wall -Wextra -Werror -fsyntax-only - < include/teddertempo.h
-fi
+if command -v "${CXX:-c++}" > /dev/null; then judge "the header in C++" compile_in_cpp; fi
 export CARGO_TARGET_DIR=$work/target
-cargo=(--quiet --locked --offline --manifest-path examples/rust/Cargo.toml)
-judge "examples/rust" cargo build "${cargo[@]}" --release --all-targets
-judge "the tests of examples/rust" timeout 300 cargo test "${cargo[@]}"
-judge "what examples/rust says without the library" explains
-if command -v pkg-config > /dev/null; then judge "examples/rust by pkg-config" builds_by_pkg_config; fi
+cargo=(--quiet --locked --offline --manifest-path bindings/rust/Cargo.toml)
+judge "bindings/rust" cargo build "${cargo[@]}" --release --all-targets
+judge "the tests of bindings/rust" timeout 300 cargo test "${cargo[@]}"
+judge "what bindings/rust says without the library" explains
+if command -v pkg-config > /dev/null; then judge "bindings/rust by pkg-config" builds_by_pkg_config; fi
 
 : > "$work/count"
 if [ ! -x "$work/mutate" ] || [ ! -x "$work/target/release/examples/mutate" ]; then finish; fi
@@ -211,7 +226,7 @@ if command -v clang > /dev/null && echo 'int LLVMFuzzerTestOneInput(const char *
     cp -r "$work/corpus" "$work/fuzzed"
     judge "2,000 runs of the fuzz target" timeout 300 \
         "$work/fuzz" -runs=2000 -seed=1 -max_len=65536 -artifact_prefix="$work/" "$work/fuzzed"
-    judge "the fuzz target of examples/rust" build_fuzz_rust
+    judge "the fuzz target of bindings/rust" build_fuzz_rust
     cp -r "$work/corpus" "$work/fuzzed_rust"
     judge "2,000 runs of it" timeout 300 \
         "$work/fuzz_rust" -runs=2000 -seed=1 -max_len=65536 -artifact_prefix="$work/" "$work/fuzzed_rust"

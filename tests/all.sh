@@ -6,7 +6,7 @@
 # is a failure.
 #
 # Usage: all.sh [NAME..], of the names in the table below; all of them where none is given. TEDDERTEMPO_BIN names the folder of the
-# programs teddertempo and peephole_run, and TEDDERTEMPO_LIB that of libteddertempo.a and libteddertempo.so.0; what isn't named is proved
+# programs teddertempo and peephole_run, and TEDDERTEMPO_LIB that of libteddertempo.a and libteddertempo.so.1; what isn't named is proved
 # and built first, which needs a Rattle kit. JOBS is how many run at a time (as many as there are cores). PLANTED_SOURCES, PLANTED_BUILD
 # and COVERAGE_BUILD are handed on: where the engines aren't built there yet, half an hour of a core comes on top.
 # Needs what each script says: of Debian wabt, binaryen, clang, libclang-rt-14-dev, llvm-14, afl++, cargo, rustc, cmake, ninja-build,

@@ -1,7 +1,7 @@
 #!/usr/bin/env bash
 # Measures how many edges of a WebAssembly implementation libFuzzer reaches in the same time of a core, from the same modules, by:
 #   bytes   its own mutations of bytes
-#   keep    teddertempo_mutate, which keeps what a module does, alone
+#   keep    teddertempo_rewrite, which keeps what a module does, alone
 #   change  teddertempo_change, which keeps it valid and changes what it does, alone
 #   mix     teddertempo_change and mutations of bytes, each every second time by a coin
 # The implementation is wabt 1.0.32: its reader, validator and interpreter (tests/coverage/target.cc). The modules are those of

@@ -2,7 +2,7 @@
 # Proves and builds the library, and writes
 #   - FOLDER/libteddertempo.a: the library of the crate teddertempo_c with the kit's part by which it takes memory merged in, so that a
 #     program links one archive;
-#   - FOLDER/libteddertempo.so.0: the same as a shared library, which exports the calls of the header and nothing else.
+#   - FOLDER/libteddertempo.so.1: the same as a shared library, which exports the calls of the header and nothing else.
 #
 # Usage: library.sh FOLDER. Needs a Rattle kit, whose rt is on the path, ar and a C compiler. RATTLE_C names the kit's folder of
 # liblibc_c.a, where that isn't the one beside rt.
@@ -43,6 +43,6 @@ END
 
 mapfile -t calls < <(sed -n 's/^[a-z].*[ *]\(teddertempo_[a-z_]*\)(.*/\1/p' "$root/include/teddertempo.h")
 printf '{ global: %s local: *; };\n' "$(printf '%s; ' "${calls[@]}")" > calls.map
-"${CC:-cc}" -shared "${calls[@]/#/-Wl,-u,}" libteddertempo.a -Wl,-soname,libteddertempo.so.0,--version-script=calls.map,--gc-sections,-z,defs \
-    -o libteddertempo.so.0
-mv libteddertempo.{a,so.0} "$folder/"
+"${CC:-cc}" -shared "${calls[@]/#/-Wl,-u,}" libteddertempo.a -Wl,-soname,libteddertempo.so.1,--version-script=calls.map,--gc-sections,-z,defs \
+    -o libteddertempo.so.1
+mv libteddertempo.{a,so.1} "$folder/"

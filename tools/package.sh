@@ -1,7 +1,7 @@
 #!/usr/bin/env bash
 # Proves and builds the programs and the library, and writes into dist/
 #   - teddertempo-VERSION-x86_64-linux.tar.gz, which runs where it is unpacked: the programs teddertempo and peephole_run,
-#     teddertempo-diff and teddertempo-reduce (in Python), libteddertempo.a and libteddertempo.so.0, teddertempo-afl.so for AFL++,
+#     teddertempo-diff and teddertempo-reduce (in Python), libteddertempo.a and libteddertempo.so.1, teddertempo-afl.so for AFL++,
 #     teddertempo.h, teddertempo.pc, man pages, completions, LICENSE and README.md;
 #   - teddertempo_VERSION_amd64.deb, a Debian package of the same.
 # The version is that of the file VERSION; it fails where the header, the Rust crate, CHANGELOG.md, the program or one of the other
@@ -9,7 +9,7 @@
 # Equal commits and equal builds give equal packages.
 #
 # Usage: package.sh, on x86-64 Linux. TEDDERTEMPO_BIN names the folder of programs that are built already, and TEDDERTEMPO_LIB
-# that of libteddertempo.a and libteddertempo.so.0; what isn't named is proved and built first, which needs a Rattle kit, whose rt is on
+# that of libteddertempo.a and libteddertempo.so.1; what isn't named is proved and built first, which needs a Rattle kit, whose rt is on
 # the path. Needs a C compiler.
 set -euo pipefail
 if [ -n "${TEDDERTEMPO_BIN:-}" ]; then TEDDERTEMPO_BIN=$(realpath "$TEDDERTEMPO_BIN"); fi
@@ -68,7 +68,7 @@ if [ -z "${TEDDERTEMPO_LIB:-}" ]; then
     tools/library.sh "$work/built"
     TEDDERTEMPO_LIB=$work/built
 fi
-for file in "$TEDDERTEMPO_BIN"/{teddertempo,peephole_run} "$TEDDERTEMPO_LIB"/libteddertempo.{a,so.0}; do
+for file in "$TEDDERTEMPO_BIN"/{teddertempo,peephole_run} "$TEDDERTEMPO_LIB"/libteddertempo.{a,so.1}; do
     [ -f "$file" ] || fail "needs $file"
 done
 agree "teddertempo --version" "$("$TEDDERTEMPO_BIN/teddertempo" --version | sed -n 's/^teddertempo \([0-9.]*\)$/\1/p')"
@@ -114,11 +114,11 @@ lay_out_completions() {
 lay_out_libraries() {
     local folder=$1
     mkdir -p "$folder/teddertempo"
-    cp "$TEDDERTEMPO_LIB"/libteddertempo.{a,so.0} "$folder/"
+    cp "$TEDDERTEMPO_LIB"/libteddertempo.{a,so.1} "$folder/"
     "${CC:-cc}" -std=c99 -O2 -shared -fPIC -I include examples/afl/mutator.c "$TEDDERTEMPO_LIB/libteddertempo.a" \
         -Wl,--exclude-libs,ALL -o "$folder/teddertempo/teddertempo-afl.so"
     strip --strip-debug --enable-deterministic-archives "$folder/libteddertempo.a"
-    strip --strip-unneeded "$folder/libteddertempo.so.0" "$folder/teddertempo/teddertempo-afl.so"
+    strip --strip-unneeded "$folder/libteddertempo.so.1" "$folder/teddertempo/teddertempo-afl.so"
 }
 
 # The driver and the reducer: what starts them, and their Python package with its version.

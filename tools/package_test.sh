@@ -134,7 +134,7 @@ END
 # The shared library has its soname, and exports what the header declares and nothing else.
 exports_agree() {
     local library=$1 header=$2
-    objdump -p "$library" | grep -x ' *SONAME *libteddertempo.so.0' || return 1
+    objdump -p "$library" | grep -x ' *SONAME *libteddertempo.so.1' || return 1
     objdump -T "$library" | grep ' g .* \.text' | sed 's/.* //' | sort > exported
     sed -n 's/^[a-z].*[ *]\(teddertempo_[a-z_]*\)(.*/\1/p' "$header" | sort > declared
     test -s declared && diff exported declared
@@ -229,7 +229,7 @@ page_is_set() { man --warnings -E UTF-8 -l -Tutf8 -Z "$1" 2>&1 > /dev/null | tee
 
 unpacked=$work/$name
 share=$unpacked/share
-for file in bin/teddertempo bin/peephole_run bin/teddertempo-diff bin/teddertempo-reduce lib/libteddertempo.{a,so.0} \
+for file in bin/teddertempo bin/peephole_run bin/teddertempo-diff bin/teddertempo-reduce lib/libteddertempo.{a,so.1} \
     lib/teddertempo/teddertempo-afl.so lib/pkgconfig/teddertempo.pc include/teddertempo.h share/man/man1/teddertempo{,-diff,-reduce}.1 LICENSE README.md; do
     judge "$file in the archive" test -s "$unpacked/$file"
 done
@@ -239,8 +239,8 @@ export PKG_CONFIG_PATH=$unpacked/lib/pkgconfig
 judge "c/mutate.c by pkg-config" example_links
 judge "the version of header and library" versions_agree
 unset PKG_CONFIG_PATH
-judge "what the shared library exports" exports_agree "$unpacked/lib/libteddertempo.so.0" "$unpacked/include/teddertempo.h"
-judge "the shared library" shared_library_runs "$unpacked/lib/libteddertempo.so.0"
+judge "what the shared library exports" exports_agree "$unpacked/lib/libteddertempo.so.1" "$unpacked/include/teddertempo.h"
+judge "the shared library" shared_library_runs "$unpacked/lib/libteddertempo.so.1"
 judge "the mutator for AFL++" afl_mutator_runs "$unpacked/lib/teddertempo/teddertempo-afl.so"
 judge "teddertempo-diff" driver_runs "$unpacked/bin/teddertempo-diff"
 judge "teddertempo-reduce" reducer_runs "$unpacked/bin/teddertempo-reduce"
@@ -280,7 +280,7 @@ else
     judge "teddertempo-reduce, installed" reducer_runs /usr/bin/teddertempo-reduce
     judge "c/mutate.c by pkg-config, installed" example_links
     judge "the version of header and library, installed" versions_agree
-    judge "the shared library, installed" shared_library_runs libteddertempo.so.0
+    judge "the shared library, installed" shared_library_runs libteddertempo.so.1
     judge "the mutator for AFL++, installed" afl_mutator_runs /usr/lib/x86_64-linux-gnu/teddertempo/teddertempo-afl.so
     judge "removing the Debian package" dpkg --remove teddertempo
     judge "what is left of the Debian package" nothing_is_left

@@ -93,29 +93,31 @@ static int is_module(struct mutator *mutator, const uint8_t *data, size_t size)
 #ifdef KEEP
 static size_t mutate(struct mutator *mutator, size_t max_size, uint64_t count, int is_smaller)
 {
-    struct teddertempo_options options = {sizeof options, 0, {0}, TEDDERTEMPO_ANY_FUNCTION, count, TEDDERTEMPO_ANY_GROWTH, 0, 0};
-    struct teddertempo_report report = {sizeof report, 0, 0, 0, 0, 0};
+    struct teddertempo_options options = TEDDERTEMPO_OPTIONS_INIT;
+    struct teddertempo_report report;
     size_t size;
 
     options.seed = next_word(&mutator->state);
+    options.count = count;
     options.flags = is_smaller ? TEDDERTEMPO_SHRINK : 0;
-    size = teddertempo_mutate_with(mutator->made.data, mutator->made.size, max_size, &options, &report);
+    size = teddertempo_rewrite_with(mutator->made.data, mutator->made.size, max_size, &options, &report);
 #else
 static size_t mutate(struct mutator *mutator, size_t max_size, uint64_t count, int is_smaller)
 {
     static const uint64_t removals = UINT64_C(1) << TEDDERTEMPO_CHANGE_DELETE | UINT64_C(1) << TEDDERTEMPO_CHANGE_FIRST_OPERAND
                                      | UINT64_C(1) << TEDDERTEMPO_CHANGE_LAST_OPERAND;
-    struct teddertempo_change_options options = {sizeof options, 0, 0, TEDDERTEMPO_ANY_FUNCTION, count, TEDDERTEMPO_ANY_GROWTH};
-    struct teddertempo_report report = {sizeof report, 0, 0, 0, 0, 0};
+    struct teddertempo_change_options options = TEDDERTEMPO_CHANGE_OPTIONS_INIT;
+    struct teddertempo_report report;
     size_t size;
 
     options.seed = next_word(&mutator->state);
+    options.count = count;
     options.changes = is_smaller ? removals : 0;
     size = teddertempo_change_with(mutator->made.data, mutator->made.size, max_size, &options, &report);
 #endif
     if (size != 0) {
         mutator->made.size = size;
-        mutator->last = report.rule;
+        mutator->last = report.kind;
         mutator->count = report.made;
         mutator->is_spliced = 0;
     }

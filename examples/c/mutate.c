@@ -23,7 +23,7 @@ enum { EXTRA = 1 << 16, LONGEST_NAME = 64 };
 static const char *const reasons[] = {
     [TEDDERTEMPO_LINKABLE_OBJECT] = "a linkable object",
     [TEDDERTEMPO_UNREADABLE] = "no function can be read",
-    [TEDDERTEMPO_NO_RULE] = "nothing applies",
+    [TEDDERTEMPO_NOTHING_APPLIES] = "nothing applies",
     [TEDDERTEMPO_NO_FUNCTION] = "no function with that index",
     [TEDDERTEMPO_TOO_LARGE] = "nothing fits",
     [TEDDERTEMPO_NO_MEMORY] = "no memory",
@@ -93,9 +93,11 @@ static int is_for_rewrites(const char *option)
            || strcmp(option, "--rule") == 0;
 }
 
-/* Reads an option and its value; 0 where there is no such option, or the value is none for it. */
+/* Reads an option and its value; returns 0 if there is no such option, or the value is none for it. */
 static int read_option(const char *option, const char *value, struct teddertempo_options *options)
 {
+    uint64_t function;
+
     if (strcmp(option, "--seed") == 0) {
         return read_number(value, &options->seed);
     }
@@ -106,18 +108,27 @@ static int read_option(const char *option, const char *value, struct teddertempo
         return read_number(value, &options->percent);
     }
     if (strcmp(option, "--function") == 0) {
-        return read_number(value, &options->function);
+        if (!read_number(value, &function) || function == UINT64_MAX) {
+            return 0;
+        }
+        options->only = TEDDERTEMPO_ONLY(function);
+        return 1;
     }
     if (strcmp(option, "--growth") == 0) {
-        return read_number(value, &options->max_growth);
+        if (!read_number(value, &options->growth)) {
+            return 0;
+        }
+        options->flags &= ~TEDDERTEMPO_NO_GROWTH;
+        options->flags |= options->growth == 0 ? TEDDERTEMPO_NO_GROWTH : 0;
+        return 1;
     }
     return strcmp(option, "--rule") == 0 && add_rule(value, options);
 }
 
-/* Says what a call has made of a module of so many bytes: what was done, and what of it was the last. */
+/* Prints what a call has done with a module of so many bytes, and the rule or change of the last edit. */
 static void tell(const struct teddertempo_report *report, size_t size, size_t new_size, const char *done, const char *last)
 {
-    if (report->outcome == TEDDERTEMPO_REWRITTEN) {
+    if (report->outcome == TEDDERTEMPO_DONE) {
         printf("%zu bytes, now %zu; %s %" PRIu64 ", the last by %s in function %" PRIu64 "\n", size, new_size, done, report->made, last,
                report->function);
     } else if (report->outcome == TEDDERTEMPO_NOT_A_MODULE) {
@@ -130,11 +141,11 @@ static void tell(const struct teddertempo_report *report, size_t size, size_t ne
 /* Rewrites the module as the options say. Returns the new size, or 0. */
 static size_t rewrite(uint8_t *data, size_t size, const struct teddertempo_options *options)
 {
-    struct teddertempo_report report = {sizeof report, 0, 0, 0, 0, 0};
+    struct teddertempo_report report;
     char name[LONGEST_NAME + 1] = "";
-    size_t new_size = teddertempo_mutate_with(data, size, size + EXTRA, options, &report);
+    size_t new_size = teddertempo_rewrite_with(data, size, size + EXTRA, options, &report);
 
-    teddertempo_rule_name(report.rule, name, LONGEST_NAME);
+    teddertempo_rule_name(report.kind, name, LONGEST_NAME);
     tell(&report, size, new_size, "rewrites", name);
     return new_size;
 }
@@ -142,19 +153,25 @@ static size_t rewrite(uint8_t *data, size_t size, const struct teddertempo_optio
 /* Changes it, by those of the options that both have. */
 static size_t change(uint8_t *data, size_t size, const struct teddertempo_options *options)
 {
-    struct teddertempo_change_options asked = {sizeof asked, options->seed, 0, options->function, options->count, options->max_growth};
-    struct teddertempo_report report = {sizeof report, 0, 0, 0, 0, 0};
+    struct teddertempo_change_options asked = TEDDERTEMPO_CHANGE_OPTIONS_INIT;
+    struct teddertempo_report report;
     char name[LONGEST_NAME + 1] = "";
-    size_t new_size = teddertempo_change_with(data, size, size + EXTRA, &asked, &report);
+    size_t new_size;
 
-    teddertempo_change_name(report.rule, name, LONGEST_NAME);
+    asked.seed = options->seed;
+    asked.only = options->only;
+    asked.count = options->count;
+    asked.growth = options->growth;
+    asked.flags = options->flags;
+    new_size = teddertempo_change_with(data, size, size + EXTRA, &asked, &report);
+    teddertempo_change_name(report.kind, name, LONGEST_NAME);
     tell(&report, size, new_size, "changes", name);
     return new_size;
 }
 
 int main(int count, char **arguments)
 {
-    struct teddertempo_options options = {sizeof options, 0, {0}, TEDDERTEMPO_ANY_FUNCTION, 1, TEDDERTEMPO_ANY_GROWTH, 0, 0};
+    struct teddertempo_options options = TEDDERTEMPO_OPTIONS_INIT;
     const char *for_rewrites = NULL;
     uint8_t *data;
     size_t size = 0, new_size;

@@ -20,7 +20,7 @@ struct counts {
     uint64_t cut_off;      /* a call came to its limit of instructions */
     uint64_t asked;        /* a custom mutator was asked for an input */
     uint64_t by_bytes;     /* it left that to libFuzzer's own mutators by a coin */
-    uint64_t not_made;     /* teddertempo_change, or teddertempo_mutate, made none */
+    uint64_t not_made;     /* teddertempo_change, or teddertempo_rewrite, made none */
 };
 
 extern struct counts *counts;

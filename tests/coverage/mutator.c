@@ -8,7 +8,7 @@
 #include "counts.h"
 
 #ifdef KEEP
-#define MUTATE teddertempo_mutate
+#define MUTATE teddertempo_rewrite
 #else
 #define MUTATE teddertempo_change
 #endif

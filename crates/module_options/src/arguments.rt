@@ -174,7 +174,7 @@ pub fn command<'a>(alloc: Global, names: &'a [&'a str]) -> Result<Command<'a>, A
     ensures { IfOk result (λ c. app_of c ≡ command_line names.entry) }
 {
     Command::new(alloc, "teddertempo")
-        .version("0.3.0")
+        .version("0.4.0")
         .about(
             "Rewrites instructions of a WebAssembly module without changing what it computes, or changes the\n\
              module so that it stays valid",

@@ -1,7 +1,6 @@
 -- A module rewritten as is asked for, and what options ask for.
 use Rattle.std.proofs.Common.{◌≡◌, ℕ, Bool, ◌+◌, List, false, Option, None, Result, Ok, Err, ap, arith}
 use Rattle.std.specs.Prelude.{IfOk, IfErr}
-use Rattle.std.proofs.Math.Nat.{min-le_left}
 use Rattle.rewrite_rules.specs.declared.rule.Rule.{Rule}
 use Rattle.module_rewrites.specs.Attempt.{IsForSize, IsReason}
 use Rattle.module_rewrites.specs.Chosen.{GivesUp}
@@ -15,12 +14,14 @@ use Rattle.module_rewrites.specs.declared.attempt.Reason.TheVariants.{NoRule, No
 use Rattle.module_rewrites.specs.declared.dose.Dose.{Dose}
 use Rattle.module_rewrites.specs.declared.dose.Dose.TheVariants.{Times}
 use Rattle.module_rewrites.specs.declared.times.RewrittenModule.{RewrittenModule}
-use Rattle.teddertempo_c.specs.Options.{rules_of, function_of, dose_of, most_of, is_exact, shrinks}
+use Rattle.teddertempo_c.specs.Options.{rules_of, function_of, dose_of, has_flag, most_of}
 use Rattle.teddertempo_c.specs.Reports.{asked_of_options}
 use Rattle.teddertempo_c.specs.Rules.{every_rule}
 use Rattle.teddertempo_c.specs.Writes.{Asked, Fits, IsRefusedFor, IsRewrittenBy, once}
 use Rattle.teddertempo_c.specs.declared.options.Options.{Options}
+use Rattle.teddertempo_c.specs.declared.options.TheConstants.{EXACT, SHRINK}
 use Rattle.teddertempo_c.proofs.FitsLemmas.{fits_mutated}
+use Rattle.teddertempo_c.proofs.OptionsLemmas.{most_le}
 
 module _ (asked : Asked) (count : ℕ) (bytes : List ℕ) (result : Result RewrittenModule Reason)
     (mutates : IfOk result (λ m. Mutates asked.scope count bytes m.made.items m.bytes.items m.stopped)) where
@@ -84,12 +85,12 @@ asked_with options rules function most dose shrinking exact = record {
 }
 
 pub asked_same : (options : Options) (size room : ℕ) (rules : List Rule) (function : Option ℕ) (most : ℕ) (dose : Dose)
-    (shrinking exact : Bool) → rules ≡ rules_of options → function ≡ function_of options → most ≡ most_of options size room → dose ≡ dose_of options →
-    shrinking ≡ shrinks options → exact ≡ is_exact options → asked_with options rules function most dose shrinking exact ≡ asked_of_options options size room
+    (shrinking exact : Bool) → rules ≡ rules_of options → function ≡ function_of options.only → most ≡ most_of options.growth options.flags size room → dose ≡ dose_of options →
+    shrinking ≡ has_flag options.flags SHRINK → exact ≡ has_flag options.flags EXACT → asked_with options rules function most dose shrinking exact ≡ asked_of_options options size room
 asked_same options size room rules function most dose shrinking exact a b c d e f = cc
 
 pub fits_room : (options : Options) (size room : ℕ) (r : Result RewrittenModule Reason) →
-    IfOk r (λ m. Fits (most_of options size room) m.made.items m.bytes.items) → IfOk r (λ m. Fits room m.made.items m.bytes.items)
+    IfOk r (λ m. Fits (most_of options.growth options.flags size room) m.made.items m.bytes.items) → IfOk r (λ m. Fits room m.made.items m.bytes.items)
 fits_room options size room (Ok m) f =
-    let below = min-le_left room (size + options.max_growth) in record { one = f.one; named = f.named; some = f.some; fits = omega (arith, f.fits, below) }
+    let below = most_le options.growth options.flags size room in record { one = f.one; named = f.named; some = f.some; fits = omega (arith, f.fits, below) }
 fits_room options size room (Err e) f = tt

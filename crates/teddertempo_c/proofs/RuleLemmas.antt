@@ -1,14 +1,11 @@
 -- All rules, as a list.
-use Rattle.std.proofs.Common.{◌≡◌, ◌≢◌, ◌<◌, ◌≤◌, ℕ, zero, suc, Bool, true, false, List, [], ◌∷◌, ◌++◌, length, get_or, refl, sym, ap}
+use Rattle.std.proofs.Common.{◌≡◌, ◌<◌, ◌≤◌, ℕ, zero, suc, List, [], ◌∷◌, length, get_or, refl, sym, ap}
 use Rattle.std.proofs.Common.{subst, ◌∙◌, arith, inl, inr}
 use Rattle.std.proofs.Common.{length-append}
-use Rattle.std.specs.Prelude.{cond}
-use Rattle.std.specs.List.{filter}
 use Rattle.std.proofs.Props.{props}
 use Rattle.std.proofs.Math.Nat.{le_refl, le_of_suc-le, lt-suc_self, lt_of_lt_of_le}
 use Rattle.std.proofs.lemmas.Bool.{cases_lt}
 use Rattle.std.proofs.lemmas.List.{same_lists, get_or_at, get_or_append_left}
-use Rattle.std.proofs.lemmas.List.Elements.{filter-append}
 use Rattle.std.proofs.lemmas.Option.{slice_get-get_or}
 use Rattle.rewrite_rules.specs.Names.{names}
 use Rattle.rewrite_rules.specs.Rule.{rule_number, AreAllRules}
@@ -59,49 +56,3 @@ are_every_rule rules all =
     same_lists rules those (all.count ∙ sym long)
     (λ k d l. same_rule (get_or rules k d) (get_or those k d)
     (all.each k (get_or rules k d) (slice_get-get_or rules k d l) ∙ sym (number_below (length names) few k d (omega (arith, all.count, l)))))
-
--- ---- those that pass a test of their numbers
-
-none_in_front : {A : Type 0} (xs ys : List A) → xs ++ ys ≡ [] → xs ≡ []
-none_in_front [] ys e = refl
-none_in_front (x ∷ xs) ys e = absurd cc
-
-none_behind : {A : Type 0} (xs ys : List A) → xs ++ ys ≡ [] → ys ≡ []
-none_behind [] ys e = e
-none_behind (x ∷ xs) ys e = absurd cc
-
-module _ (p : ℕ → Bool) where
-  abbrev passes : Rule → Bool
-  passes rule = p (rule_number rule)
-
-  none_passes : (n : ℕ) (within : n ≤ length names) → ((k : ℕ) → k < n → p k ≡ false) → filter passes (rules_below n within) ≡ []
-  none_passes zero within fails = refl
-  none_passes (suc n) within fails =
-      let before = rules_below n (le_of_suc-le within) in
-      let made : Rule = record { number = n; is_there = lt_of_lt_of_le (lt-suc_self n) within } in
-      filter-append passes before (made ∷ [])
-      ∙ ap (λ xs. xs ++ filter passes (made ∷ [])) (none_passes n (le_of_suc-le within) (λ k l. fails k (omega (arith, l))))
-      ∙ ap (λ b. cond b (made ∷ []) []) (fails n (omega arith))
-
-  one_passes : (n : ℕ) (within : n ≤ length names) (k : ℕ) → k < n → p k ≡ true → filter passes (rules_below n within) ≢ []
-  one_passes zero within k l e none = absurd (omega (arith, l))
-  one_passes (suc n) within k l e none =
-      let before = rules_below n (le_of_suc-le within) in
-      let made : Rule = record { number = n; is_there = lt_of_lt_of_le (lt-suc_self n) within } in
-      let parts = sym (filter-append passes before (made ∷ [])) ∙ none in
-      elim (cases_lt k n) [
-        | inl less ↦ one_passes n (le_of_suc-le within) k less e (none_in_front (filter passes before) (filter passes (made ∷ [])) parts)
-        | inr more ↦
-            let same : k ≡ n = omega (arith, more, l) in
-            let one : cond true (made ∷ []) [] ≡ [] =
-            subst (λ b. cond b (made ∷ []) [] ≡ []) (ap p (sym same) ∙ e) (none_behind (filter passes before) (filter passes (made ∷ [])) parts) in
-            absurd cc
-      ]
-
-  pub all_fail : ((k : ℕ) → k < length names → p k ≡ false) → filter passes every_rule ≡ []
-  unfolding every_rule
-  all_fail fails = none_passes (length names) (le_refl (length names)) fails
-
-  pub one_of_all : (k : ℕ) → k < length names → p k ≡ true → filter passes every_rule ≢ []
-  unfolding every_rule
-  one_of_all k l e = one_passes (length names) (le_refl (length names)) k l e

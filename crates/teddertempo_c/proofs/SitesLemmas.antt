@@ -1,16 +1,22 @@
 -- The rows of a module's sites.
-use Rattle.std.proofs.Common.{◌≡◌, ℕ, suc, ◌+◌, ◌-◌, ◌<◌, ◌≤◌, List, [], ◌∷◌, ◌++◌, length, min, take, drop, get_or, sym, ap, ◌∙◌, subst, append_assoc, arith}
+use Rattle.std.proofs.Common.{◌≡◌, ℕ, suc, ◌+◌, ◌-◌, ◌<◌, ◌≤◌, List, [], ◌∷◌, ◌++◌, length, min, take, drop, get_or, refl, sym, ap, ◌∙◌, subst, append_assoc, arith}
 use Rattle.std.specs.Prelude.{◌^◌}
 use Rattle.std.proofs.lemmas.List.{drop_min, map_more, take_min}
 use Rattle.std.proofs.Math.Nat.{min_comm}
 use Rattle.wasm_types.specs.Module.{Module}
 use Rattle.wasm_module.specs.Module.{Layout}
 use Rattle.body_changes.specs.declared.change.Change.{Change}
+use Rattle.module_rewrites.specs.declared.attempt.Reason.{Reason}
+use Rattle.module_rewrites.specs.declared.attempt.Reason.TheVariants as reasons
+use Rattle.module_rewrites.specs.declared.mutation.MutationError.TheVariants as mutations
 use Rattle.module_changes.specs.Sites.{AreSitesOf}
 use Rattle.module_changes.specs.declared.sites.Site.{Site}
 use Rattle.teddertempo_c.specs.ChangeOptions.{change_number}
-use Rattle.teddertempo_c.specs.Sites.{site_rows_of, AreRows, HoldsRows}
+use Rattle.teddertempo_c.specs.Outcome.{offset_by, outcome_by}
+use Rattle.teddertempo_c.specs.Sites.{site_rows_of, AreRows, HoldsRows, IsOutcome, IsWhyNone}
+use Rattle.teddertempo_c.specs.declared.change_options.ChangeOptions.{ChangeOptions}
 use Rattle.teddertempo_c.specs.declared.sites.SiteRow.{SiteRow}
+use Rattle.teddertempo_c.proofs.OutcomeLemmas.{by_fault}
 
 -- one row more
 pub next_row : (function : ℕ) (sites : List Site) (k : ℕ) (d : Site) (old rows new : List SiteRow) (r : SiteRow) → k < length sites →
@@ -50,3 +56,18 @@ holds_rows rows old new count result is put size = record {
       ∙ ap (λ xs. xs ++ drop (min (length rows) (length old)) old) (take_min (length old) rows)
       ∙ ap (λ xs. take (length old) rows ++ xs) (drop_min (length rows) old);
 }
+
+-- why nothing is listed
+module _ (options : ChangeOptions) (bytes : List ℕ) where
+  pub by_why : (reason : Reason) → IsWhyNone options bytes reason → IsOutcome options bytes (offset_by reason) (outcome_by reason)
+  by_why (reasons.Refused (mutations.Read e)) h =
+      by_fault (IsOutcome options bytes) bytes (λ offset h. h) (λ offset h. h) refl e.kind e.offset h
+  by_why (reasons.Refused mutations.Memory) h = refl
+  by_why (reasons.Refused (mutations.Write e)) h = absurd h
+  by_why (reasons.Refused mutations.TooLong) h = absurd h
+  by_why (reasons.Refused mutations.NotSmaller) h = absurd h
+  by_why (reasons.NoFunction function) h = (refl, (reasons.NoFunction function, h))
+  by_why (reasons.UnknownImport e) h = (refl, (reasons.UnknownImport e, h))
+  by_why reasons.NoRule h = absurd h
+  by_why reasons.NoOwnFunction h = absurd h
+  by_why (reasons.Unreadable e) h = absurd h

@@ -8,7 +8,7 @@ use Rattle.module_rewrites.specs.declared.attempt.Reason.{Reason}
 use Rattle.module_rewrites.specs.declared.attempt.Reason.TheVariants as reasons
 use Rattle.module_rewrites.specs.declared.mutation.MutationError.TheVariants as mutations
 use Rattle.module_rewrites.specs.declared.times.MadeRewrite.{MadeRewrite}
-use Rattle.teddertempo_c.specs.Writes.{Fits, IsPutInBuffer, IsRefusedFor, IsRewrittenBy, MutatesOnce, WritesFront, once}
+use Rattle.teddertempo_c.specs.Writes.{Fits, IsPutInBuffer, IsRefusedFor, IsRewrittenBy, RewritesOnce, WritesFront, once}
 
 module _ (bytes old : List ℕ) (result : ℕ) (new : List ℕ) (put : IsPutInBuffer bytes old result new) where
   pub front_is : take result new ≡ bytes
@@ -33,7 +33,7 @@ writes_nothing old = record { inside = omega arith; whole = refl; behind = refl;
 module _ (seed size : ℕ) (old : List ℕ) where
   pub once_made : (made : List MadeRewrite) (bytes : List ℕ) (result : ℕ) (new : List ℕ) → size ≤ length old →
       IsRewrittenBy (once seed (length old)) (take size old) made bytes → Fits (length old) made bytes → IsPutInBuffer bytes old result new →
-      MutatesOnce seed size old result new
+      RewritesOnce seed size old result new
   once_made made bytes result new inside is fits put = record {
     writes = writes_front bytes old result new put fits.fits fits.some;
     rewritten = λ some. record {
@@ -44,11 +44,11 @@ module _ (seed size : ℕ) (old : List ℕ) where
     refused = λ none. absurd (omega (arith, put.size, fits.some));
   }
 
-  pub once_outside : length old < size → MutatesOnce seed size old 0 old
+  pub once_outside : length old < size → RewritesOnce seed size old 0 old
   once_outside outside = record { writes = writes_nothing old; rewritten = λ some. absurd (some refl); refused = λ none. inl outside }
 
   -- memory is wanting
-  pub once_memory : MutatesOnce seed size old 0 old
+  pub once_memory : RewritesOnce seed size old 0 old
   once_memory =
       let e : ModuleError = record { kind = faults.Memory; offset = 0 } in
       record {
@@ -57,5 +57,5 @@ module _ (seed size : ℕ) (old : List ℕ) where
         refused = λ none. inr (reasons.Refused (mutations.Read e), record { is = of_memory; gives_up = λ for_size. absurd for_size });
       }
 
-  pub once_refused : (reason : Reason) → IsRefusedFor (once seed (length old)) (take size old) reason → MutatesOnce seed size old 0 old
+  pub once_refused : (reason : Reason) → IsRefusedFor (once seed (length old)) (take size old) reason → RewritesOnce seed size old 0 old
   once_refused reason why = record { writes = writes_nothing old; rewritten = λ some. absurd (some refl); refused = λ none. inr (reason, why) }

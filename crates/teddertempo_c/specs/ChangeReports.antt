@@ -1,5 +1,5 @@
 -- What a call that changes a module by options leaves in the buffer, and what it reports (this project).
-use Rattle.std.specs.Prelude.{◌≡◌, false, true, ℕ, ◌≤◌, List, [], ◌∷◌, ◌++◌, Option, length, take}
+use Rattle.std.specs.Prelude.{◌≡◌, false, true, ℕ, List, [], ◌∷◌, ◌++◌, Option, length, take}
 use Rattle.rand_core.specs.Stream.{Stream}
 use Rattle.wasm_sections.specs.declared.fault.ModuleFault.TheVariants as faults
 use Rattle.wasm_module.specs.Fault.{IsModuleFault}
@@ -14,12 +14,11 @@ use Rattle.module_rewrites.specs.Attempt.{RefusesIndexOf}
 use Rattle.module_rewrites.specs.Seeded.{seeded}
 use Rattle.module_rewrites.specs.declared.attempt.Reason.{Reason}
 use Rattle.teddertempo_c.specs.ChangeOptions.{AreBad, change_number, count_of, scope_of_change_options}
-use Rattle.teddertempo_c.specs.Changes.{HasSize}
 use Rattle.teddertempo_c.specs.Outcome.{IsNoModule, offset_by_fault, outcome_by_fault}
 use Rattle.teddertempo_c.specs.Reported.{Reported}
 use Rattle.teddertempo_c.specs.declared.change_options.ChangeOptions.{ChangeOptions}
 use Rattle.teddertempo_c.specs.declared.outcome.Outcome.{Outcome}
-use Rattle.teddertempo_c.specs.declared.outcome.Outcome.TheVariants.{Rewritten, NotAModule, LinkableObject, Unreadable, NoRule, NoFunction}
+use Rattle.teddertempo_c.specs.declared.outcome.Outcome.TheVariants.{Done, NotAModule, LinkableObject, Unreadable, NothingApplies, NoFunction}
 use Rattle.teddertempo_c.specs.declared.outcome.Outcome.TheVariants.{TooLarge, NoMemory, BadOptions}
 use Rattle.teddertempo_c.specs.declared.report.Report.{Report}
 
@@ -36,23 +35,22 @@ pub record TellsChanges (made : List MadeChange) (report : Report) : Type 0 wher
   pub last : MadeChange
   pub made_are : made ≡ before ++ last ∷ []
   pub function : report.function ≡ last.function
-  pub change : report.rule ≡ change_number last.change
+  pub change : report.kind ≡ change_number last.change
   pub offset : report.offset ≡ 0
 
--- The first `size` bytes were a module, and the first ones now, the result says how many, are that module changed as the report says.
-pub record IsChangedSo (options : ChangeOptions) (size : ℕ) (old : List ℕ) (result : ℕ) (new : List ℕ) (report : Report) : Type 0 where
-  pub inside : size ≤ length old
+-- The first `size` bytes of the old ones are a module, and the new ones are that module changed as the options and the report say.
+pub record IsChangedSo (options : ChangeOptions) (size : ℕ) (old new : List ℕ) (report : Report) : Type 0 where
   pub made : List MadeChange
-  pub is : IsChangedBySeed options size (length old) (take size old) made (take result new)
+  pub is : IsChangedBySeed options size (length old) (take size old) made new
   pub tells : TellsChanges made report
 
 -- Why nothing of the module is changed; the offset is that of its fault, or 0. Nothing is said of a want of memory.
 abbrev pub IsOutcome : Scope → (bytes : List ℕ) → Stream → (offset : ℕ) → Outcome → Type 0
-IsOutcome scope bytes s offset Rewritten = ⊥
+IsOutcome scope bytes s offset Done = ⊥
 IsOutcome scope bytes s offset NotAModule = IsNoModule bytes offset
 IsOutcome scope bytes s offset LinkableObject = IsModuleFault bytes faults.Linkable offset
 IsOutcome scope bytes s offset Unreadable = ⊥
-IsOutcome scope bytes s offset NoRule = (offset ≡ 0) × ChangeGivesUp scope bytes false s
+IsOutcome scope bytes s offset NothingApplies = (offset ≡ 0) × ChangeGivesUp scope bytes false s
 IsOutcome scope bytes s offset NoFunction = (offset ≡ 0) × ((reason : Reason) × RefusesIndexOf scope.function bytes reason)
 IsOutcome scope bytes s offset TooLarge = (offset ≡ 0) × ChangeGivesUp scope bytes true s
 IsOutcome scope bytes s offset NoMemory = offset ≡ 0
@@ -63,26 +61,17 @@ abbrev pub IsOutcomeFor : ChangeOptions → (size : ℕ) → (old : List ℕ) �
 IsOutcomeFor options size old = IsOutcome (scope_of_change_options options size (length old)) (take size old) (seeded options.seed)
 
 -- what the call does and reports
-abbrev pub ChangesWith : ChangeOptions → (size : ℕ) → (old : List ℕ) → (result : ℕ) → (new : List ℕ) → (before report : Report) → Type 0
-ChangesWith options size old result new before report =
-    Reported (IsChangedSo options size old result new) (IsOutcomeFor options size old) (AreBad options before.struct_size size (length old))
-    old result new before report
+abbrev pub ChangesWith : ChangeOptions → (size : ℕ) → (old : List ℕ) → (result : ℕ) → (new : List ℕ) → Report → Type 0
+ChangesWith options size old = Reported (IsChangedSo options size old) (IsOutcomeFor options size old) (AreBad options) size old
 
 -- ---- for private functions
-
--- the options are good, and the first `size` bytes are a module, which changes make these bytes of
-pub record IsAttempt (options : ChangeOptions) (report_size size : ℕ) (buffer : List ℕ) (made : List MadeChange) (new : List ℕ) : Type 0 where
-  pub inside : size ≤ length buffer
-  pub good : AreBad options report_size size (length buffer) → ⊥
-  pub is : IsChangedBySeed options size (length buffer) (take size buffer) made new
-  pub fits : HasSize (length buffer) new
 
 -- what a refusal comes to
 abbrev pub outcome_by : Refusal → Outcome
 outcome_by (refusals.Read e) = outcome_by_fault e.kind
 outcome_by (refusals.NoFunction function) = NoFunction
 outcome_by (refusals.UnknownImport e) = NoFunction
-outcome_by refusals.NoChange = NoRule
+outcome_by refusals.NoChange = NothingApplies
 outcome_by refusals.TooLarge = TooLarge
 outcome_by refusals.Memory = NoMemory
 

@@ -13,16 +13,16 @@ use Rattle.module_rewrites.specs.declared.mutation.MutationError.{MutationError}
 use Rattle.module_rewrites.specs.declared.mutation.MutationError.TheVariants as mutations
 use Rattle.teddertempo_c.specs.Writes.{Asked, IsRefusedFor}
 use Rattle.teddertempo_c.specs.declared.outcome.Outcome.{Outcome}
-use Rattle.teddertempo_c.specs.declared.outcome.Outcome.TheVariants.{Rewritten, NotAModule, LinkableObject, Unreadable, NoRule, NoFunction}
+use Rattle.teddertempo_c.specs.declared.outcome.Outcome.TheVariants.{Done, NotAModule, LinkableObject, Unreadable, NothingApplies, NoFunction}
 use Rattle.teddertempo_c.specs.declared.outcome.Outcome.TheVariants.{TooLarge, NoMemory, BadOptions}
 
 -- the header's constants
 abbrev pub outcome_number : Outcome → ℕ
-outcome_number Rewritten = 0
+outcome_number Done = 0
 outcome_number NotAModule = 1
 outcome_number LinkableObject = 2
 outcome_number Unreadable = 3
-outcome_number NoRule = 4
+outcome_number NothingApplies = 4
 outcome_number NoFunction = 5
 outcome_number TooLarge = 6
 outcome_number NoMemory = 7
@@ -64,11 +64,11 @@ IsWithoutRule reason = ⊥
 
 -- Why nothing of the module is rewritten; the offset is that of its fault, or 0. Nothing is said of a want of memory.
 abbrev pub IsOutcome : Asked → (bytes : List ℕ) → (offset : ℕ) → Outcome → Type 0
-IsOutcome asked bytes offset Rewritten = ⊥
+IsOutcome asked bytes offset Done = ⊥
 IsOutcome asked bytes offset NotAModule = IsNoModule bytes offset
 IsOutcome asked bytes offset LinkableObject = IsModuleFault bytes faults.Linkable offset
 IsOutcome asked bytes offset Unreadable = (offset ≡ 0) × ((e : FunctionError) × IsRefusedFor asked bytes (reasons.Unreadable e))
-IsOutcome asked bytes offset NoRule = (offset ≡ 0) × ((reason : Reason) × IsWithoutRule reason × IsRefusedFor asked bytes reason)
+IsOutcome asked bytes offset NothingApplies = (offset ≡ 0) × ((reason : Reason) × IsWithoutRule reason × IsRefusedFor asked bytes reason)
 IsOutcome asked bytes offset NoFunction = (offset ≡ 0) × ((reason : Reason) × RefusesIndexOf asked.scope.function bytes reason)
 IsOutcome asked bytes offset TooLarge = (offset ≡ 0) × IsRefusedAsTooLarge asked bytes
 IsOutcome asked bytes offset NoMemory = offset ≡ 0
@@ -108,8 +108,8 @@ offset_by_refusal e = 0
 
 -- what a reason comes to
 abbrev pub outcome_by : Reason → Outcome
-outcome_by reasons.NoRule = NoRule
-outcome_by reasons.NoOwnFunction = NoRule
+outcome_by reasons.NoRule = NothingApplies
+outcome_by reasons.NoOwnFunction = NothingApplies
 outcome_by (reasons.Unreadable e) = Unreadable
 outcome_by (reasons.NoFunction function) = NoFunction
 outcome_by (reasons.UnknownImport e) = NoFunction

@@ -1,19 +1,25 @@
 -- A call that lists the operators of a module's functions of which changes make anything (this project).
-use Rattle.std.specs.Prelude.{◌≡◌, ◌⊎◌, ⊤, ◌↔◌, ℕ, zero, suc, ◌+◌, ◌^◌, ◌<◌, ◌≤◌, List, [], ◌++◌, length, map, take, drop}
+use Rattle.std.specs.Prelude.{◌≡◌, ⊤, ◌↔◌, ℕ, zero, suc, ◌+◌, ◌^◌, ◌<◌, ◌≤◌, List, [], ◌++◌, length, map, take, drop}
 use Rattle.wasm_types.specs.Module.{Module}
+use Rattle.wasm_sections.specs.declared.fault.ModuleFault.TheVariants as faults
 use Rattle.wasm_module.specs.Fault.{IsModuleFault}
 use Rattle.wasm_module.specs.Module.{Layout, IsModule}
 use Rattle.body_changes.specs.declared.change.Change.{Change}
 use Rattle.module_rewrites.specs.Attempt.{RefusesIndexOf}
 use Rattle.module_rewrites.specs.Mutated.{IsChosen}
 use Rattle.module_rewrites.specs.declared.attempt.Reason.{Reason}
-use Rattle.module_rewrites.specs.declared.attempt.Reason.TheVariants.{NoFunction, UnknownImport, Refused}
-use Rattle.module_rewrites.specs.declared.mutation.MutationError.TheVariants.{Read, Memory}
+use Rattle.module_rewrites.specs.declared.attempt.Reason.TheVariants as reasons
+use Rattle.module_rewrites.specs.declared.mutation.MutationError.TheVariants as mutations
 use Rattle.module_changes.specs.Sites.{AreSitesOf}
 use Rattle.module_changes.specs.declared.sites.Site.{Site}
-use Rattle.teddertempo_c.specs.ChangeOptions.{change_number, changes_of, function_of}
+use Rattle.teddertempo_c.specs.ChangeOptions.{AreBad, change_number, changes_of}
+use Rattle.teddertempo_c.specs.Options.{function_of}
+use Rattle.teddertempo_c.specs.Outcome.{IsNoModule}
+use Rattle.teddertempo_c.specs.Reported.{Tells, report_of}
 use Rattle.teddertempo_c.specs.declared.change_options.ChangeOptions.{ChangeOptions}
-use Rattle.teddertempo_c.specs.declared.change_options.TheConstants.{CHANGE_OPTIONS_SIZE}
+use Rattle.teddertempo_c.specs.declared.outcome.Outcome.{Outcome}
+use Rattle.teddertempo_c.specs.declared.outcome.Outcome.TheVariants.{Done, NotAModule, LinkableObject, NoFunction, NoMemory}
+use Rattle.teddertempo_c.specs.declared.report.Report.{Report}
 use Rattle.teddertempo_c.specs.declared.sites.SiteRow.{SiteRow}
 
 -- ---- the rows
@@ -38,7 +44,7 @@ pub record SitesAreListed (options : ChangeOptions) (bytes : List ℕ) (rows : L
   pub from : ℕ
   pub count : ℕ
   pub chosen : (n : ℕ) →
-      ((from ≤ n) × (n < from + count)) ↔ ((n < length layout.entries) × IsChosen (function_of options) (layout.imported_functions + n))
+      ((from ≤ n) × (n < from + count)) ↔ ((n < length layout.entries) × IsChosen (function_of options.only) (layout.imported_functions + n))
   pub rows_are : AreRows (changes_of options) bytes info layout from count rows
 
 -- ---- the call
@@ -48,21 +54,32 @@ pub record HoldsRows (rows old : List SiteRow) (result : ℕ) (new : List SiteRo
   pub size : result ≡ length rows
   pub is : new ≡ take (length old) rows ++ drop (length rows) old
 
--- the options are smaller than this version's, or a bit is set that is none of the fourteen changes'
-abbrev pub AreBad : ChangeOptions → Type 0
-AreBad options = (options.struct_size < CHANGE_OPTIONS_SIZE) ⊎ (16384 ≤ options.changes)
+-- The rows are those of the sites; the room holds as many as fit; and the report says how many there are.
+pub record IsListed (options : ChangeOptions) (bytes : List ℕ) (old : List SiteRow) (result : ℕ) (new : List SiteRow) (report : Report) : Type 0 where
+  pub rows : List SiteRow
+  pub listed : SitesAreListed options bytes rows
+  pub holds : HoldsRows rows old result new
+  pub report_is : report ≡ report_of Done 0 0 (length rows) 0
 
--- why nothing is listed: the bytes are no module, or it has no such function, or for want of memory
+-- Why nothing is listed; the offset is that of the module's fault, or 0. Nothing is said of a want of memory.
+abbrev pub IsOutcome : ChangeOptions → (bytes : List ℕ) → (offset : ℕ) → Outcome → Type 0
+IsOutcome options bytes offset NotAModule = IsNoModule bytes offset
+IsOutcome options bytes offset LinkableObject = IsModuleFault bytes faults.Linkable offset
+IsOutcome options bytes offset NoFunction = (offset ≡ 0) × ((reason : Reason) × RefusesIndexOf (function_of options.only) bytes reason)
+IsOutcome options bytes offset NoMemory = offset ≡ 0
+IsOutcome options bytes offset outcome = ⊥
+
+-- What the call does and reports: it lists the sites, or the result is 0, and the room is as it was.
+abbrev pub ListsSites : ChangeOptions → (bytes : List ℕ) → (old : List SiteRow) → (result : ℕ) → (new : List SiteRow) → Report → Type 0
+ListsSites options bytes old result new report =
+    Tells (IsListed options bytes old result new report) ((result ≡ 0) × (new ≡ old)) (IsOutcome options bytes) (AreBad options) report
+
+-- ---- for private functions
+
+-- why there are no rows: the bytes are no module, or it has no such function, or for want of memory
 abbrev pub IsWhyNone : ChangeOptions → (bytes : List ℕ) → Reason → Type 0
-IsWhyNone options bytes (Refused (Read e)) = IsModuleFault bytes e.kind e.offset
-IsWhyNone options bytes (Refused Memory) = ⊤
-IsWhyNone options bytes (NoFunction function) = RefusesIndexOf (function_of options) bytes (NoFunction function)
-IsWhyNone options bytes (UnknownImport e) = RefusesIndexOf (function_of options) bytes (UnknownImport e)
+IsWhyNone options bytes (reasons.Refused (mutations.Read e)) = IsModuleFault bytes e.kind e.offset
+IsWhyNone options bytes (reasons.Refused mutations.Memory) = ⊤
+IsWhyNone options bytes (reasons.NoFunction function) = RefusesIndexOf (function_of options.only) bytes (reasons.NoFunction function)
+IsWhyNone options bytes (reasons.UnknownImport e) = RefusesIndexOf (function_of options.only) bytes (reasons.UnknownImport e)
 IsWhyNone options bytes reason = ⊥
-
--- What the call does: it lists the sites; or nothing, since the options are bad, or for such a reason, and the room is as it was.
-pub data ListsSites (options : ChangeOptions) (bytes : List ℕ) (old : List SiteRow) (result : ℕ) (new : List SiteRow) : Type 0 where
-  listed : (rows : List SiteRow) → ¬ (AreBad options) → SitesAreListed options bytes rows → HoldsRows rows old result new →
-      ListsSites options bytes old result new
-  bad : AreBad options → result ≡ 0 → new ≡ old → ListsSites options bytes old result new
-  refused : (reason : Reason) → ¬ (AreBad options) → IsWhyNone options bytes reason → result ≡ 0 → new ≡ old → ListsSites options bytes old result new

@@ -61,7 +61,7 @@ abbrev pub IsNotRewritten : (seed size : ℕ) → (old : List ℕ) → Type 0
 IsNotRewritten seed size old = (length old < size) ⊎ ((reason : Reason) × IsRefusedFor (once seed (length old)) (take size old) reason)
 
 -- What the simple call does: it writes a rewritten module to the front of the buffer, or answers 0 and writes nothing.
-pub record MutatesOnce (seed size : ℕ) (old : List ℕ) (result : ℕ) (new : List ℕ) : Type 0 where
+pub record RewritesOnce (seed size : ℕ) (old : List ℕ) (result : ℕ) (new : List ℕ) : Type 0 where
   pub writes : WritesFront old result new
   pub rewritten : result ≢ 0 → IsRewrittenOnce seed size old result new
   pub refused : result ≡ 0 → IsNotRewritten seed size old

@@ -1,18 +1,21 @@
 //! A module rewritten, or why nothing of it is.
-ghost use Rattle.std.specs.Prelude.{◌≡◌, length, IfOk, IfErr};
+ghost use Rattle.std.specs.Prelude.{◌≡◌, ◌<◌, All, IfErr, IfOk, IsTrue, Some, length};
 ghost use Rattle.module_rewrites.specs.Dose.{IsOneOrMore};
-ghost use Rattle.teddertempo_c.specs.Options.{AreBad, rules_of};
-ghost use Rattle.teddertempo_c.specs.Reported.{IsNone};
-ghost use Rattle.teddertempo_c.specs.Reports.{IsAttempt, IsOutcomeFor, asked_of_options};
+ghost use Rattle.rewrite_rules.specs.Names.{rule_of};
+ghost use Rattle.teddertempo_c.specs.Options.{AreBad, are_zero, rules_of};
+ghost use Rattle.teddertempo_c.specs.Outcome.{outcome_number};
+ghost use Rattle.teddertempo_c.specs.Reported.{IsBadCall, IsMade, IsNone};
+ghost use Rattle.teddertempo_c.specs.Reports.{IsOutcomeFor, IsRewrittenSo, TellsRewrites, asked_of_options};
 ghost use Rattle.teddertempo_c.specs.Rules.{every_rule};
-ghost use Rattle.teddertempo_c.specs.Writes.{Fits, IsRefusedFor, IsRewrittenBy, once};
+ghost use Rattle.teddertempo_c.specs.Writes.{Fits, HasRule, IsOfSomeRule, IsRefusedFor, IsRewrittenBy, once};
 
 use crate::options::{
-    Options, are_bad, dose_of, function_of, is_exact, most_of, rules_of, shrinks,
+    EXACT, Options, SHRINK, are_bad, dose_of, function_of, has_flag, most_of, rules_of,
 };
-use crate::outcome::{Outcome, Refusal, refusal_by};
+use crate::outcome::{Outcome, Refusal, refusal_by, without_place};
+use crate::report::{Made, Report, report_of};
 use module_rewrites::{
-    Dose, Reason, RewrittenModule, Scope, Unwatched, count_of_dose, rewrite_module,
+    Dose, MadeRewrite, Reason, RewrittenModule, Scope, Unwatched, count_of_dose, rewrite_module,
 };
 use rand::rngs::StdRng;
 use rand_core::SeedableRng;
@@ -68,14 +71,6 @@ pub fn rewritten_once(
     rewritten(alloc, bytes, seed, &scope, Dose::Times(1))
 }
 
-/// An outcome that no place in the module belongs to.
-pub fn without_place(outcome: Outcome) -> Refusal
-    ensures outcome { result.outcome ≡ outcome }
-    ensures offset { result.offset ≡ 0 }
-{
-    Refusal { outcome, offset: 0 }
-}
-
 // The module rewritten by these rules, and for the rest as the options say.
 fn rewritten_by(
     alloc: Global,
@@ -94,30 +89,57 @@ fn rewritten_by(
 {
     let scope = Scope {
         rules,
-        function: function_of(options),
-        max_size: most_of(options, bytes.len(), room),
-        shrinking: shrinks(options),
-        exact: is_exact(options),
+        function: function_of(options.only),
+        max_size: most_of(options.growth, options.flags, bytes.len(), room),
+        shrinking: has_flag(options.flags, SHRINK),
+        exact: has_flag(options.flags, EXACT),
     };
     rewritten(alloc, bytes, options.seed, &scope, dose_of(options))
 }
 
-/// The module that the first `size` bytes of the buffer are, rewritten as the options say, or why nothing of it is. The caller's report
-/// has `report_size` bytes.
-#[tactic(auto, using(crate::proofs::RefusalLemmas::attempt_so, crate::proofs::RefusalLemmas::refusal_so, crate::proofs::RefusalLemmas::refusal_memory, crate::proofs::RefusalLemmas::refusal_bad))]
+// The number of the rule that a row of the table is of.
+fn rule_number(row: usize) -> u32
+    requires { IsOfSomeRule row }
+    ensures { rule_of row ≡ Some result }
+{
+    match Rule::of_row(row) {
+        Some(rule) => rule.number() as u32,
+        None => 0,
+    }
+}
+
+// The report on these rewrites.
+fn report_of_rewrites(made: &[MadeRewrite]) -> Report
+    requires some { 0 < length made.now }
+    requires named { All HasRule made.now }
+    ensures outcome { result.outcome ≡ outcome_number Outcome.Done }
+    ensures tells { TellsRewrites made.now result }
+    ensures reserved { IsTrue (are_zero result.reserved) }
+{
+    let last = made[made.len() - 1];
+    report_of(
+        Outcome::Done,
+        rule_number(last.rewrite.row),
+        last.function,
+        made.len(),
+        0,
+    )
+}
+
+/// The module that the first `size` bytes of the buffer are, rewritten as the options say, and the report on it, or why nothing of it is.
+#[tactic(auto, using(crate::proofs::ReportedLemmas::none_bad, crate::proofs::ReportedLemmas::none_memory))]
 pub fn attempt(
     alloc: Global,
     buffer: &[u8],
     size: usize,
     options: &Options,
-    report_size: u64,
-) -> Result<RewrittenModule, Refusal>
-    ensures made { IfOk result (λ m.
-        IsAttempt options.now report_size size buffer.now m.made.items m.bytes.items) }
-    ensures refused { IfErr result (λ e. IsNone (IsOutcomeFor options.now size buffer.now)
-        (AreBad options.now report_size size (length buffer.now)) e.outcome e.offset) }
+) -> Result<Made, Refusal>
+    ensures made { IfOk result (IsMade (IsRewrittenSo options.now size buffer.now)
+        (IsBadCall (AreBad options.now) size buffer.now) (length buffer.now)) }
+    ensures refused { IfErr result (IsNone (IsOutcomeFor options.now size buffer.now)
+        (IsBadCall (AreBad options.now) size buffer.now)) }
 {
-    if are_bad(options, report_size, size, buffer.len()) {
+    if size > buffer.len() || are_bad(options) {
         return Err(without_place(Outcome::BadOptions));
     }
     let rules = match rules_of(alloc, options) {
@@ -125,7 +147,10 @@ pub fn attempt(
         Err(_) => return Err(without_place(Outcome::NoMemory)),
     };
     match rewritten_by(alloc, &buffer[..size], options, &rules, buffer.len()) {
-        Ok(module) => Ok(module),
+        Ok(module) => Ok(Made {
+            report: report_of_rewrites(&module.made),
+            bytes: module.bytes,
+        }),
         Err(reason) => Err(refusal_by(reason)),
     }
 }

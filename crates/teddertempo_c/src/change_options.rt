@@ -1,36 +1,37 @@
 //! What a caller asks for of a call that changes a module.
 ghost use Rattle.std.specs.Prelude.{◌≡◌, ◌↔◌, ◌<◌, IfOk, IsTrue};
 ghost use Rattle.std.specs.List.{filter};
-ghost use Rattle.teddertempo_c.specs.ChangeOptions.{AreBad, allows, change_number, changes_of, count_of, function_of, most_of};
+ghost use Rattle.teddertempo_c.specs.ChangeOptions.{AreBad, allows, change_number, changes_of, count_of};
 
-use crate::options::has_bit;
-use crate::report::REPORT_SIZE;
+use crate::options::{NO_GROWTH, has_bit, is_misused};
 use body_changes::{CHANGES, Change};
 use std::alloc::{AllocError, Global};
 use std::mem::size_of;
 
-/// What a call is to do. C passes a pointer to one: it is `struct teddertempo_change_options` of the header.
+/// What a call does. C passes a pointer to one: it is `struct teddertempo_change_options` of the header. All zero is the default.
 #[repr(C)]
 #[derive(Clone, Copy)]
 pub struct ChangeOptions {
-    /// How many bytes the caller's structure has. A later version has more fields, behind these.
-    pub struct_size: u64,
-    /// What the generator is made from: equal modules, options and sizes of the buffer give equal bytes.
+    /// The seed of the generator: equal modules, options and sizes of the buffer give equal bytes.
     pub seed: u64,
-    /// Bit i says whether the change with the number i may be made. Where it is 0, every change may.
+    /// Bit i says whether the change with the number i may be made. If it is 0, every change may.
     pub changes: u64,
-    /// The only function that is changed, by its index among all functions of the module, imported ones first; `u64::MAX`: any.
-    pub function: u64,
+    /// 0: any function is changed; n + 1: only the function with the index n among all functions of the module, imported ones first.
+    pub only: u64,
     /// How many changes are made, one after another; 0 counts as 1.
     pub count: u64,
-    /// How many bytes more than the old module a new one may have at most; `u64::MAX`: as many as the buffer has room for.
-    pub max_growth: u64,
+    /// How many bytes larger than the old module the new one may be; 0: as large as the buffer.
+    pub growth: u64,
+    /// `NO_GROWTH` or 0. Other bits are of later versions.
+    pub flags: u64,
+    /// Fields of later versions: 0.
+    pub reserved: [u64; 8],
 }
 
-/// How many bytes they have.
-pub const CHANGE_OPTIONS_SIZE: u64 = 48;
+const _: () = prove!(size_of::<ChangeOptions>() == 112);
 
-const _: () = prove!(size_of::<ChangeOptions>() == 48);
+/// A bit for each change.
+pub const ALL_CHANGES: u64 = (1 << CHANGES.len()) - 1;
 
 /// The header's constant.
 pub fn change_number(change: Change) -> u32
@@ -85,26 +86,12 @@ pub fn changes_of(alloc: Global, options: &ChangeOptions) -> Result<Vec<Change>,
     allowed(alloc, options, &CHANGES)
 }
 
-/// Whether nothing can be done: the caller's options, or its report, which has `report_size` bytes, are smaller than this version's, the
-/// size is above that of the buffer, or a bit is set that is no change's.
-pub fn are_bad(options: &ChangeOptions, report_size: u64, size: usize, room: usize) -> bool
-    ensures { IsTrue result ↔ AreBad options.now report_size size room }
+/// Whether the options are refused: for a reason of `is_misused`, or since a bit is set that is no change's.
+pub fn are_bad(options: &ChangeOptions) -> bool
+    ensures { IsTrue result ↔ AreBad options.now }
 {
-    if options.struct_size < CHANGE_OPTIONS_SIZE || report_size < REPORT_SIZE {
-        return true;
-    }
-    size > room || options.changes >= 16384
-}
-
-/// The only function that may be changed.
-pub fn function_of(options: &ChangeOptions) -> Option<usize>
-    ensures { result ≡ function_of options.now }
-{
-    if options.function == u64::MAX {
-        None
-    } else {
-        Some(options.function as usize)
-    }
+    is_misused(options.growth, options.flags, NO_GROWTH, &options.reserved)
+        || options.changes > ALL_CHANGES
 }
 
 /// How many changes are made.
@@ -117,11 +104,4 @@ pub fn count_of(options: &ChangeOptions) -> usize
     } else {
         options.count as usize
     }
-}
-
-/// How many bytes the new module of one of `size` bytes may have in a buffer with that much room.
-pub fn most_of(options: &ChangeOptions, size: usize, room: usize) -> usize
-    ensures { result ≡ most_of options.now size room }
-{
-    room.min(size.saturating_add(options.max_growth as usize))
 }

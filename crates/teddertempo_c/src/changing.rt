@@ -1,19 +1,18 @@
 //! A buffer's module changed, so that it stays valid and computes something else, and the new one written over its front.
-ghost use Rattle.std.specs.Prelude.{◌≡◌, ◌<◌, IfErr, IfOk, length};
+ghost use Rattle.std.specs.Prelude.{◌≡◌, ◌<◌, IfErr, IfOk, IsTrue, length};
 ghost use Rattle.module_changes.specs.Times.{IsRefusal};
 ghost use Rattle.module_rewrites.specs.Seeded.{seeded};
 ghost use Rattle.teddertempo_c.specs.ChangeOptions.{AreBad, changes_of, scope_of_change_options};
-ghost use Rattle.teddertempo_c.specs.ChangeReports.{ChangesWith, IsAttempt, IsChangedBySeed, IsOutcomeFor, TellsChanges};
+ghost use Rattle.teddertempo_c.specs.ChangeReports.{ChangesWith, IsChangedBySeed, IsChangedSo, IsOutcomeFor, TellsChanges};
 ghost use Rattle.teddertempo_c.specs.Changes.{any_change, ChangesOnce, HasSize, IsChangedBy};
-ghost use Rattle.teddertempo_c.specs.Reported.{IsNone};
+ghost use Rattle.teddertempo_c.specs.Options.{are_zero};
+ghost use Rattle.teddertempo_c.specs.Outcome.{outcome_number};
+ghost use Rattle.teddertempo_c.specs.Reported.{IsBadCall, IsMade, IsNone};
 
-use crate::attempt::without_place;
-use crate::change_options::{
-    ChangeOptions, are_bad, change_number, changes_of, count_of, function_of, most_of,
-};
-use crate::mutating::{put, report_on};
-use crate::outcome::{self, Outcome, refusal_by_change};
-use crate::report::Report;
+use crate::change_options::{ChangeOptions, are_bad, change_number, changes_of, count_of};
+use crate::options::{function_of, most_of};
+use crate::outcome::{self, Outcome, refusal_by_change, without_place};
+use crate::report::{Made, Report, put, report_in, report_of};
 use body_changes::{CHANGES, Change};
 use module_changes::{ChangedModule, MadeChange, Refusal, Scope, Unwatched, change_module};
 use rand::rngs::StdRng;
@@ -73,9 +72,9 @@ fn changed_by(
 {
     let scope = Scope {
         changes,
-        function: function_of(options),
+        function: function_of(options.only),
         most: 8,
-        max_size: most_of(options, bytes.len(), room),
+        max_size: most_of(options.growth, options.flags, bytes.len(), room),
     };
     let mut generator = StdRng::seed_from_u64(options.seed);
     change_module(
@@ -88,22 +87,37 @@ fn changed_by(
     )
 }
 
-// The module that the first `size` bytes of the buffer are, changed as the options say, or why nothing of it is. The caller's report
-// has `report_size` bytes.
-#[tactic(auto, using(crate::proofs::ChangeReportsLemmas::attempt_so, crate::proofs::ChangeReportsLemmas::none_memory, crate::proofs::ChangeReportsLemmas::none_bad))]
+/// The report on these changes.
+pub(crate) fn report_of_changes(made: &[MadeChange]) -> Report
+    requires some { 0 < length made.now }
+    ensures outcome { result.outcome ≡ outcome_number Outcome.Done }
+    ensures tells { TellsChanges made.now result }
+    ensures reserved { IsTrue (are_zero result.reserved) }
+{
+    let last = made[made.len() - 1];
+    report_of(
+        Outcome::Done,
+        change_number(last.change),
+        last.function,
+        made.len(),
+        0,
+    )
+}
+
+// The module that the first `size` bytes of the buffer are, changed as the options say, and the report on it, or why nothing of it is.
+#[tactic(auto, using(crate::proofs::ReportedLemmas::none_bad, crate::proofs::ReportedLemmas::none_memory))]
 fn attempt(
     alloc: Global,
     buffer: &[u8],
     size: usize,
     options: &ChangeOptions,
-    report_size: u64,
-) -> Result<ChangedModule, outcome::Refusal>
-    ensures made { IfOk result (λ m.
-        IsAttempt options.now report_size size buffer.now m.made.items m.bytes.items) }
-    ensures refused { IfErr result (λ e. IsNone (IsOutcomeFor options.now size buffer.now)
-        (AreBad options.now report_size size (length buffer.now)) e.outcome e.offset) }
+) -> Result<Made, outcome::Refusal>
+    ensures made { IfOk result (IsMade (IsChangedSo options.now size buffer.now)
+        (IsBadCall (AreBad options.now) size buffer.now) (length buffer.now)) }
+    ensures refused { IfErr result (IsNone (IsOutcomeFor options.now size buffer.now)
+        (IsBadCall (AreBad options.now) size buffer.now)) }
 {
-    if are_bad(options, report_size, size, buffer.len()) {
+    if size > buffer.len() || are_bad(options) {
         return Err(without_place(Outcome::BadOptions));
     }
     let changes = match changes_of(alloc, options) {
@@ -111,31 +125,16 @@ fn attempt(
         Err(_) => return Err(without_place(Outcome::NoMemory)),
     };
     match changed_by(alloc, &buffer[..size], options, &changes, buffer.len()) {
-        Ok(module) => Ok(module),
+        Ok(module) => Ok(Made {
+            report: report_of_changes(&module.made),
+            bytes: module.bytes,
+        }),
         Err(refusal) => Err(refusal_by_change(refusal)),
     }
 }
 
-/// What is reported of changes to a caller whose report has `report_size` bytes.
-pub(crate) fn report_of(report_size: u64, made: &[MadeChange]) -> Report
-    requires some { 0 < length made.now }
-    ensures outcome { result.outcome ≡ 0 }
-    ensures tells { TellsChanges made.now result }
-    ensures size { result.struct_size ≡ report_size }
-{
-    let last = made[made.len() - 1];
-    Report {
-        struct_size: report_size,
-        outcome: Outcome::Rewritten.number(),
-        rule: change_number(last.change),
-        function: last.function as u64,
-        made: made.len() as u64,
-        offset: 0,
-    }
-}
-
 /// Changes the module that the first `size` bytes of the buffer are as the options say, and reports it.
-#[tactic(auto, using(crate::proofs::ChangeReportsLemmas::with_changes, crate::proofs::ChangeReportsLemmas::with_none))]
+#[tactic(auto, using(crate::proofs::ReportedLemmas::reported))]
 pub fn change_with_in(
     alloc: Global,
     buffer: &mut [u8],
@@ -143,17 +142,8 @@ pub fn change_with_in(
     options: &ChangeOptions,
     report: &mut Report,
 ) -> usize
-    ensures { ChangesWith options.now size buffer.old result buffer.new report.old report.new }
+    ensures { ChangesWith options.now size buffer.old result buffer.new report.new }
 {
-    let report_size = report.struct_size;
-    match attempt(alloc, buffer, size, options, report_size) {
-        Ok(module) => {
-            *report = report_of(report_size, &module.made);
-            put(buffer, &module.bytes)
-        }
-        Err(refusal) => {
-            *report = report_on(report_size, refusal);
-            0
-        }
-    }
+    let made = attempt(alloc, buffer, size, options);
+    report_in(buffer, made, report)
 }

@@ -3,7 +3,7 @@ ghost use Rattle.std.specs.Prelude.{◌≡◌};
 ghost use Rattle.teddertempo_c.specs.Either.{EitherOnce, keeps};
 
 use crate::changing::change_in;
-use crate::mutating::mutate_in;
+use crate::rewriting::rewrite_in;
 use rand::rngs::StdRng;
 use rand_core::{Rng, SeedableRng};
 use std::alloc::Global;
@@ -21,7 +21,7 @@ pub fn either_in(alloc: Global, buffer: &mut [u8], size: usize, seed: u64, keep:
     ensures { EitherOnce seed keep size buffer.old result buffer.new }
 {
     if keeps(seed, keep) {
-        mutate_in(alloc, buffer, size, seed)
+        rewrite_in(alloc, buffer, size, seed)
     } else {
         change_in(alloc, buffer, size, seed)
     }

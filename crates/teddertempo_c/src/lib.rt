@@ -15,22 +15,22 @@ ghost use Rattle.teddertempo_c.specs.Changes.{ChangesOnce};
 ghost use Rattle.teddertempo_c.specs.Either.{EitherOnce};
 ghost use Rattle.teddertempo_c.specs.Naming.{HoldsName, WritesChangeName, WritesRuleName};
 ghost use Rattle.teddertempo_c.specs.Places.{ChangesPlace};
-ghost use Rattle.teddertempo_c.specs.Reports.{MutatesWith};
+ghost use Rattle.teddertempo_c.specs.Reports.{RewritesWith};
 ghost use Rattle.teddertempo_c.specs.Sites.{ListsSites};
 ghost use Rattle.teddertempo_c.specs.Splices.{SplicesOnce};
 ghost use Rattle.teddertempo_c.specs.Strips.{Strips};
-ghost use Rattle.teddertempo_c.specs.Writes.{MutatesOnce};
+ghost use Rattle.teddertempo_c.specs.Writes.{RewritesOnce};
 
 mod attempt;
 mod change_options;
 mod changing;
 mod either;
-mod mutating;
 mod options;
 mod outcome;
 mod place;
 mod placing;
 mod report;
+mod rewriting;
 mod rules;
 mod sites;
 mod splicing;
@@ -40,13 +40,13 @@ use body_changes::CHANGES;
 pub use change_options::ChangeOptions;
 use changing::{change_in, change_with_in};
 use either::either_in;
-use mutating::{mutate_in, mutate_with_in};
 pub use options::Options;
 pub use place::Place;
 use placing::change_at_in;
 pub use report::Report;
 use rewrite_rules::laws::rows_are_few;
 use rewrite_rules::{Rule, rule_count};
+use rewriting::{rewrite_in, rewrite_with_in};
 pub use sites::SiteRow;
 use sites::list_sites;
 use splicing::splice_in;
@@ -63,7 +63,7 @@ use stripping::strip_in;
 /// The new module is valid where the old one was, and its functions do what they did. Equal modules, seeds and `max_size` give
 /// equal bytes. C passes `data`, `size`, `max_size` and `seed`; the bytes may be read and written, and `data` isn't null.
 #[unsafe(no_mangle)]
-pub unsafe extern "C" fn teddertempo_mutate(
+pub unsafe extern "C" fn teddertempo_rewrite(
     alloc: Global,
     data: *mut u8,
     size: usize,
@@ -73,9 +73,9 @@ pub unsafe extern "C" fn teddertempo_mutate(
     ghost old: { List ℕ }
     requires* { sem 𝓛 (buffer_bytes_at «data» max_size old) ∗ ⌜ max_size < 2 ^ 63 ⌝ }
     ensures* { ∃ₛ (λ new. sem 𝓛 (buffer_bytes_at «data» max_size new) ∗
-        ⌜ MutatesOnce seed size old result new ⌝) }
+        ⌜ RewritesOnce seed size old result new ⌝) }
 {
-    mutate_in(
+    rewrite_in(
         alloc,
         std::slice::from_raw_parts_mut(data, max_size),
         size,
@@ -83,13 +83,13 @@ pub unsafe extern "C" fn teddertempo_mutate(
     )
 }
 
-/// The same by options, and the report says what was done, or why nothing was: each reason but a want of memory only where it is so,
-/// and bad options always. It is written whole, but for its size. Nothing is said of when memory is wanting, which may be so at any time.
+/// Rewrites that module as the options say, and reports what was done, or why nothing was. Each reason but `NO_MEMORY` is reported only if
+/// it is so, and `BAD_OPTIONS` whenever it is so. No contract says when memory is refused, which may be at any time. The report is
+/// written, and never read.
 ///
-/// C passes `data`, `size`, `max_size`, and pointers to the options and the report, which aren't null and don't overlap the bytes. Both
-/// have their sizes in them: what is smaller than this version's is refused, and of what is larger nothing is read or written behind it.
+/// C passes `data`, `size`, `max_size`, and pointers to the options and the report, which aren't null and don't overlap the bytes.
 #[unsafe(no_mangle)]
-pub unsafe extern "C" fn teddertempo_mutate_with(
+pub unsafe extern "C" fn teddertempo_rewrite_with(
     alloc: Global,
     data: *mut u8,
     size: usize,
@@ -100,9 +100,9 @@ pub unsafe extern "C" fn teddertempo_mutate_with(
     ghost old: { List ℕ }
     requires* { sem 𝓛 (buffer_bytes_at «data» max_size old) ∗ ⌜ max_size < 2 ^ 63 ⌝ }
     ensures* { ∃ₛ (λ new. sem 𝓛 (buffer_bytes_at «data» max_size new) ∗
-        ⌜ MutatesWith options.now size old result new report.old report.new ⌝) }
+        ⌜ RewritesWith options.now size old result new report.new ⌝) }
 {
-    mutate_with_in(
+    rewrite_with_in(
         alloc,
         std::slice::from_raw_parts_mut(data, max_size),
         size,
@@ -178,7 +178,7 @@ pub unsafe extern "C" fn teddertempo_splice(
 }
 
 /// Rewrites the module that the first `size` of the `max_size` bytes at `data` are, or changes it, once: of a hundred seeds some `keep`
-/// rewrite it as `teddertempo_mutate` does, all where `keep` is 100 or more, and the others change it as `teddertempo_change` does.
+/// rewrite it as `teddertempo_rewrite` does, all where `keep` is 100 or more, and the others change it as `teddertempo_change` does.
 /// Answers what these do.
 ///
 /// C passes `data`, `size`, `max_size`, `seed` and `keep`; the bytes may be read and written, and `data` isn't null.
@@ -205,11 +205,9 @@ pub unsafe extern "C" fn teddertempo_either(
     )
 }
 
-/// The same by options, and the report says what was done, or why nothing was: each reason but a want of memory only where it is so,
-/// and bad options always. It is written whole, but for its size; the number in the place of a rule's is that of the last change.
+/// Changes that module as the options say, and reports it as `teddertempo_rewrite_with` does; the kind is the number of the last change.
 ///
-/// C passes `data`, `size`, `max_size`, and pointers to the options and the report, which aren't null and don't overlap the bytes. Both
-/// have their sizes in them: what is smaller than this version's is refused, and of what is larger nothing is read or written behind it.
+/// C passes `data`, `size`, `max_size`, and pointers to the options and the report, which aren't null and don't overlap the bytes.
 #[unsafe(no_mangle)]
 pub unsafe extern "C" fn teddertempo_change_with(
     alloc: Global,
@@ -222,7 +220,7 @@ pub unsafe extern "C" fn teddertempo_change_with(
     ghost old: { List ℕ }
     requires* { sem 𝓛 (buffer_bytes_at «data» max_size old) ∗ ⌜ max_size < 2 ^ 63 ⌝ }
     ensures* { ∃ₛ (λ new. sem 𝓛 (buffer_bytes_at «data» max_size new) ∗
-        ⌜ ChangesWith options.now size old result new report.old report.new ⌝) }
+        ⌜ ChangesWith options.now size old result new report.new ⌝) }
 {
     change_with_in(
         alloc,
@@ -241,8 +239,7 @@ pub unsafe extern "C" fn teddertempo_change_with(
 /// bytes are as they were, where the report says why: the change makes nothing of any of these operators, there is no such function, a
 /// module with one of the changes doesn't fit, or another reason of `change_at`.
 ///
-/// C passes `data`, `size`, `max_size`, and pointers to the place and the report, which aren't null and don't overlap the bytes. Both
-/// have their sizes in them: what is smaller than this version's is refused, and of what is larger nothing is read or written behind it.
+/// C passes `data`, `size`, `max_size`, and pointers to the place and the report, which aren't null and don't overlap the bytes.
 #[unsafe(no_mangle)]
 pub unsafe extern "C" fn teddertempo_change_at(
     alloc: Global,
@@ -255,7 +252,7 @@ pub unsafe extern "C" fn teddertempo_change_at(
     ghost old: { List ℕ }
     requires* { sem 𝓛 (buffer_bytes_at «data» max_size old) ∗ ⌜ max_size < 2 ^ 63 ⌝ }
     ensures* { ∃ₛ (λ new. sem 𝓛 (buffer_bytes_at «data» max_size new) ∗
-        ⌜ ChangesPlace place.now size old result new report.old report.new ⌝) }
+        ⌜ ChangesPlace place.now size old result new report.new ⌝) }
 {
     change_at_in(
         alloc,
@@ -266,24 +263,26 @@ pub unsafe extern "C" fn teddertempo_change_at(
     )
 }
 
-/// Lists what `teddertempo_change_at` can change of the module with these bytes: a row for each operator and each change that makes anything of
-/// it, by the operators of the functions in their order, and of one operator by the numbers of the changes. The options name changes and
-/// a function; the rest of them is not looked at. As many rows are written to the front of `sites` as there is room for. Answers how many
-/// there are; 0 where there are none, the bytes are no module that can be read, it has no function of its own with the index that is
-/// named, a bit is set that is no change's, the options are smaller than this version's, or for want of memory.
+/// Lists the places of the module with these bytes at which `teddertempo_change_at` can make a change: a row for each operator and each
+/// change of it, by the operators of the functions in their order, and for one operator by the numbers of the changes. Of the options only
+/// `changes` and `only` are used. Writes as many rows to the front of `sites` as there is room for, and returns how many there are.
 ///
-/// C passes a pointer to the module and how many bytes it has, a pointer to the options, and one to the rows and how many there is room
-/// for. None is null, and they don't overlap.
+/// The outcome is `DONE` if the sites are listed, even if there are none. Otherwise the result is 0, `sites` is unchanged, and the report
+/// says why: the bytes aren't a module, the module has no function of its own with the index, the options are refused, or no memory is left.
+///
+/// C passes a pointer to the module and how many bytes it has, a pointer to the options, one to the rows and how many there is room
+/// for, and one to the report. None is null, and they don't overlap.
 #[unsafe(no_mangle)]
 pub extern "C" fn teddertempo_sites(
     alloc: Global,
     bytes: &[u8],
     options: &ChangeOptions,
     sites: &mut [SiteRow],
+    report: &mut Report,
 ) -> usize
-    ensures { ListsSites options.now bytes.now sites.old result sites.new }
+    ensures { ListsSites options.now bytes.now sites.old result sites.new report.new }
 {
-    list_sites(alloc, bytes, options, sites)
+    list_sites(alloc, bytes, options, sites, report)
 }
 
 /// Drops the custom sections of the module with these bytes that name places in its code (`.debug_*`, `sourceMappingURL`,
@@ -299,12 +298,12 @@ pub extern "C" fn teddertempo_strip(alloc: Global, bytes: &mut [u8]) -> usize
     strip_in(alloc, bytes)
 }
 
-/// The version as a number: 0x000300 for 0.3.0.
+/// The version as a number: 0x000400 for 0.4.0.
 #[unsafe(no_mangle)]
 pub extern "C" fn teddertempo_version() -> u32
-    ensures { result ≡ 768 }
+    ensures { result ≡ 1024 }
 {
-    0x00_03_00
+    0x00_04_00
 }
 
 /// How many rules there are. Their numbers are those below.

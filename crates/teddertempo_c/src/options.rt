@@ -1,54 +1,61 @@
-//! What a caller asks for.
-ghost use Rattle.std.specs.Prelude.{◌≡◌, ◌≢◌, ◌↔◌, ◌<◌, [], IfOk, IsTrue};
+//! What a caller of `teddertempo_rewrite_with` asks for, and what the options of all calls have in common.
+ghost use Rattle.std.specs.Prelude.{◌≡◌, ◌↔◌, ◌<◌, IfOk, IsTrue};
 ghost use Rattle.std.specs.List.{filter};
 ghost use Rattle.module_rewrites.specs.Dose.{IsOneOrMore};
-ghost use Rattle.teddertempo_c.specs.Options.{AreBad, allows, allows_number, dose_of, function_of, has_bit, is_exact, most_of, names_none, rules_of, shrinks, word_of};
+ghost use Rattle.teddertempo_c.specs.Options.{AreBad, IsMisused, NamesNoRule, allows, allows_number, are_zero, dose_of, function_of, has_bit, has_flag, most_of, rules_of, word_of};
 
-use crate::report::REPORT_SIZE;
 use crate::rules::every_rule;
 use module_rewrites::Dose;
 use rewrite_rules::{Rule, rule_count};
 use std::alloc::{AllocError, Global};
 use std::mem::size_of;
 
-/// What a call is to do. C passes a pointer to one: it is `struct teddertempo_options` of the header.
+/// What a call does. C passes a pointer to one: it is `struct teddertempo_options` of the header. All zero is the default.
 #[repr(C)]
 #[derive(Clone, Copy)]
 pub struct Options {
-    /// How many bytes the caller's structure has. A later version has more fields, behind these.
-    pub struct_size: u64,
-    /// What the generator is made from: equal modules, options and sizes of the buffer give equal bytes.
+    /// The seed of the generator: equal modules, options and sizes of the buffer give equal bytes.
     pub seed: u64,
-    /// Bit i of the word w says whether the rule with the number 64 w + i may rewrite. Where all words are 0, every rule may.
+    /// Bit i of the word w says whether the rule with the number 64 w + i may rewrite. If all words are 0, every rule may.
     pub rules: [u64; 16],
-    /// The only function that is rewritten, by its index among all functions of the module, imported ones first; `u64::MAX`: any.
-    pub function: u64,
+    /// 0: any function is rewritten; n + 1: only the function with the index n among all functions of the module, imported ones first.
+    pub only: u64,
     /// How many rewrites are made, one after another; 0 counts as 1.
     pub count: u64,
-    /// How many bytes more than the old module a new one may have at most; `u64::MAX`: as many as the buffer has room for.
-    pub max_growth: u64,
-    /// Where it isn't 0, as many rewrites are made as this percentage of the operators of the functions that may be rewritten and can be
-    /// read, at least one, in place of `count`.
+    /// How many bytes larger than the old module the new one may be; 0: as large as the buffer.
+    pub growth: u64,
+    /// If it isn't 0, as many rewrites are made as this percentage of the operators of the functions that may be rewritten and can be
+    /// read, at least one, instead of `count`.
     pub percent: u64,
-    /// Bit 0 says whether what runs the module does on floats, vectors and memories what the standard says, and no other thread writes its
-    /// memories, so that rules on these may rewrite; bit 1 whether each rewrite makes the module smaller: it leaves no more operators, and
-    /// fewer bytes, or as many that come earlier in the dictionary. Other bits are of later versions.
+    /// `EXACT`, `SHRINK` and `NO_GROWTH`, or some of them. Other bits are of later versions.
     pub flags: u64,
+    /// Fields of later versions: 0.
+    pub reserved: [u64; 8],
 }
 
-/// How many bytes they have.
-pub const OPTIONS_SIZE: u64 = 184;
+const _: () = prove!(size_of::<Options>() == 240);
 
-const _: () = prove!(size_of::<Options>() == 184);
+/// The engine does on floats, vectors and memories what the standard specifies, and no other thread writes the module's memories, so that
+/// rules on these may rewrite.
+pub const EXACT: u64 = 1;
 
-// Whether no bit is set.
-fn names_none(words: &[u64]) -> bool
-    ensures { result ≡ names_none words.now }
+/// Each rewrite makes the module smaller: it leaves no more operators, and fewer bytes, or as many that come earlier in the dictionary.
+pub const SHRINK: u64 = 2;
+
+/// The new module is no larger than the old one.
+pub const NO_GROWTH: u64 = 4;
+
+/// The flags of a call that rewrites.
+pub const FLAGS: u64 = EXACT | SHRINK | NO_GROWTH;
+
+// Whether all words are 0.
+fn are_zero(words: &[u64]) -> bool
+    ensures { result ≡ are_zero words.now }
 {
     words.iter().all(|word| *word == 0)
 }
 
-// The word with the bit of the rule with the number; 0 where there is none.
+// The word with the bit of the rule with the number; 0 if there is no such word.
 fn word_of(words: &[u64], number: usize) -> u64
     ensures { result ≡ word_of words.now number }
 {
@@ -65,12 +72,19 @@ pub fn has_bit(word: u64, number: usize) -> bool
     (word >> (number % 64)) % 2 == 1
 }
 
+/// Whether the flag is set.
+pub fn has_flag(flags: u64, flag: u64) -> bool
+    ensures { result ≡ has_flag flags flag }
+{
+    flags & flag != 0
+}
+
 // Whether the rule with the number may rewrite.
 fn allows_number(options: &Options, number: usize) -> bool
     ensures { result ≡ allows_number options.now number }
 {
     let named = has_bit(word_of(&options.rules, number), number);
-    names_none(&options.rules) || named
+    are_zero(&options.rules) || named
 }
 
 // The rules that the options allow, in their order.
@@ -94,54 +108,43 @@ pub fn rules_of(alloc: Global, options: &Options) -> Result<Vec<Rule>, AllocErro
     allowed(alloc, options, &rules)
 }
 
-// Whether a rule may rewrite.
-fn allow_some(options: &Options) -> bool
-    ensures { IsTrue result ↔ (rules_of options.now ≢ []) }
+// Whether a bit is set that is no rule's.
+fn names_no_rule(words: &[u64; 16]) -> bool
+    ensures { IsTrue result ↔ NamesNoRule words.now }
 {
-    for number in 0..rule_count() {
-        if allows_number(options, number) {
+    for number in rule_count()..64 * words.len() {
+        if has_bit(word_of(words, number), number) {
             return true;
         }
     }
     false
 }
 
-/// Whether nothing can be done: the caller's options, or its report, which has `report_size` bytes, are smaller than this version's, the
-/// size is above that of the buffer, a flag is none that there is, or the options name no such rule.
-pub fn are_bad(options: &Options, report_size: u64, size: usize, room: usize) -> bool
-    ensures { IsTrue result ↔ AreBad options.now report_size size room }
+/// Whether a flag is set that isn't among the known ones, a growth is given beside `NO_GROWTH`, or a word of later versions isn't 0.
+pub fn is_misused(growth: u64, flags: u64, known: u64, reserved: &[u64]) -> bool
+    ensures { IsTrue result ↔ IsMisused growth flags known reserved.now }
 {
-    if options.struct_size < OPTIONS_SIZE || report_size < REPORT_SIZE || size > room {
-        return true;
-    }
-    if options.flags > 3 {
-        return true;
-    }
-    !allow_some(options)
+    flags & known != flags
+        || (has_flag(flags, NO_GROWTH) && growth != 0)
+        || !are_zero(reserved)
 }
 
-/// Whether what runs the module is exact.
-pub fn is_exact(options: &Options) -> bool
-    ensures { result ≡ is_exact options.now }
+/// Whether the options are refused: for a reason of `is_misused`, or since a bit is set that is no rule's.
+pub fn are_bad(options: &Options) -> bool
+    ensures { IsTrue result ↔ AreBad options.now }
 {
-    has_bit(options.flags, 0)
+    is_misused(options.growth, options.flags, FLAGS, &options.reserved)
+        || names_no_rule(&options.rules)
 }
 
-/// Whether each rewrite makes the module smaller.
-pub fn shrinks(options: &Options) -> bool
-    ensures { result ≡ shrinks options.now }
+/// The only function that may be edited, if one is named.
+pub fn function_of(only: u64) -> Option<usize>
+    ensures { result ≡ function_of only }
 {
-    has_bit(options.flags, 1)
-}
-
-/// The only function that may be rewritten.
-pub fn function_of(options: &Options) -> Option<usize>
-    ensures { result ≡ function_of options.now }
-{
-    if options.function == u64::MAX {
+    if only == 0 {
         None
     } else {
-        Some(options.function as usize)
+        Some(only as usize - 1)
     }
 }
 
@@ -160,8 +163,14 @@ pub fn dose_of(options: &Options) -> Dose
 }
 
 /// How many bytes the new module of one of `size` bytes may have in a buffer with that much room.
-pub fn most_of(options: &Options, size: usize, room: usize) -> usize
-    ensures { result ≡ most_of options.now size room }
+pub fn most_of(growth: u64, flags: u64, size: usize, room: usize) -> usize
+    ensures { result ≡ most_of growth flags size room }
 {
-    room.min(size.saturating_add(options.max_growth as usize))
+    if has_flag(flags, NO_GROWTH) {
+        room.min(size)
+    } else if growth == 0 {
+        room
+    } else {
+        room.min(size.saturating_add(growth as usize))
+    }
 }

@@ -9,24 +9,23 @@ use wasm_module::{ModuleError, ModuleFault, WriteError};
 /// What a call has done, or why it has done nothing. The header has a constant for each.
 #[derive(Clone, Copy, Debug, PartialEq, Eq)]
 pub enum Outcome {
-    /// The module is rewritten.
-    Rewritten,
+    /// The module is rewritten or changed, or its sites are listed.
+    Done,
     /// The bytes are no module that can be read.
     NotAModule,
     /// They are an object file, whose relocations name places in its code.
     LinkableObject,
     /// None of the functions that may be rewritten can be read.
     Unreadable,
-    /// No rule applies in them, or the module has no function of its own.
-    NoRule,
+    /// No rule applies in them, or no change, or the module has no function of its own.
+    NothingApplies,
     /// The module has no function of its own with the index that is named, or an import isn't known, and so no index is.
     NoFunction,
-    /// No rewrite that was tried fits.
+    /// No edit that was tried fits.
     TooLarge,
     /// No memory was left.
     NoMemory,
-    /// The options or the report are smaller than this version's, the size is above that of the buffer, or the options name no rule
-    /// that there is.
+    /// The size is above that of the buffer, or the options name a rule, a change, a flag or a field that doesn't exist.
     BadOptions,
 }
 
@@ -36,11 +35,11 @@ impl Outcome {
         ensures { result ≡ outcome_number self }
     {
         match self {
-            Outcome::Rewritten => 0,
+            Outcome::Done => 0,
             Outcome::NotAModule => 1,
             Outcome::LinkableObject => 2,
             Outcome::Unreadable => 3,
-            Outcome::NoRule => 4,
+            Outcome::NothingApplies => 4,
             Outcome::NoFunction => 5,
             Outcome::TooLarge => 6,
             Outcome::NoMemory => 7,
@@ -49,11 +48,18 @@ impl Outcome {
     }
 }
 
-/// Why nothing is rewritten, and where the module is at fault.
+/// Why nothing is done, and where the module is at fault.
 #[derive(Clone, Copy, Debug, PartialEq, Eq)]
 pub struct Refusal {
     pub outcome: Outcome,
     pub offset: usize,
+}
+
+/// An outcome that isn't at a place in the module.
+pub fn without_place(outcome: Outcome) -> Refusal
+    ensures { result ≡ record { outcome = outcome; offset = 0 } }
+{
+    Refusal { outcome, offset: 0 }
 }
 
 // What a module's fault comes to.
@@ -114,7 +120,7 @@ fn outcome_by(reason: Reason) -> Outcome
     ensures { result ≡ outcome_by reason }
 {
     match reason {
-        Reason::NoRule | Reason::NoOwnFunction => Outcome::NoRule,
+        Reason::NoRule | Reason::NoOwnFunction => Outcome::NothingApplies,
         Reason::Unreadable(_) => Outcome::Unreadable,
         Reason::NoFunction(_) | Reason::UnknownImport(_) => Outcome::NoFunction,
         Reason::Refused(e) => outcome_by_refusal(e),
@@ -133,8 +139,7 @@ fn offset_by(reason: Reason) -> usize
 
 /// Why nothing is rewritten, for this reason.
 pub fn refusal_by(reason: Reason) -> Refusal
-    ensures outcome { result.outcome ≡ outcome_by reason }
-    ensures offset { result.offset ≡ offset_by reason }
+    ensures { result ≡ record { outcome = outcome_by reason; offset = offset_by reason } }
 {
     Refusal {
         outcome: outcome_by(reason),
@@ -151,7 +156,7 @@ fn outcome_by_change(refusal: module_changes::Refusal) -> Outcome
         module_changes::Refusal::NoFunction(_) | module_changes::Refusal::UnknownImport(_) => {
             Outcome::NoFunction
         }
-        module_changes::Refusal::NoChange => Outcome::NoRule,
+        module_changes::Refusal::NoChange => Outcome::NothingApplies,
         module_changes::Refusal::TooLarge => Outcome::TooLarge,
         module_changes::Refusal::Memory => Outcome::NoMemory,
     }
@@ -169,8 +174,8 @@ fn offset_by_change(refusal: module_changes::Refusal) -> usize
 
 /// Why nothing is changed, for this reason.
 pub fn refusal_by_change(refusal: module_changes::Refusal) -> Refusal
-    ensures outcome { result.outcome ≡ change.outcome_by refusal }
-    ensures offset { result.offset ≡ change.offset_by refusal }
+    ensures { result ≡
+        record { outcome = change.outcome_by refusal; offset = change.offset_by refusal } }
 {
     Refusal {
         outcome: outcome_by_change(refusal),

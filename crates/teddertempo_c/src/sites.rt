@@ -1,10 +1,11 @@
 //! The operators of a buffer's module of which changes make anything, listed.
-ghost use Rattle.std.specs.Prelude.{◌≡◌, ◌↔◌, ◌++◌, IfErr, IfOk, IsTrue};
-ghost use Rattle.teddertempo_c.specs.Sites.{site_rows_of, AreBad, SitesAreListed, HoldsRows, IsWhyNone, ListsSites};
+ghost use Rattle.std.specs.Prelude.{◌≡◌, ◌++◌, IfErr, IfOk};
+ghost use Rattle.teddertempo_c.specs.Sites.{site_rows_of, SitesAreListed, HoldsRows, IsWhyNone, ListsSites};
 
-use crate::change_options::{
-    CHANGE_OPTIONS_SIZE, ChangeOptions, change_number, changes_of, function_of,
-};
+use crate::change_options::{ChangeOptions, are_bad, change_number, changes_of};
+use crate::options::function_of;
+use crate::outcome::{Outcome, refusal_by, without_place};
+use crate::report::{Report, report_of, report_on};
 use module_changes::{Site, sites_of};
 use module_rewrites::{MutationError, Reason, chosen_entries, index_of};
 use std::alloc::{AllocError, Global};
@@ -50,7 +51,7 @@ fn rows_in(alloc: Global, bytes: &[u8], options: &ChangeOptions) -> Result<Vec<S
         Ok(module) => module,
         Err(e) => return Err(Reason::Refused(MutationError::Read(e))),
     };
-    let chosen = match chosen_entries(&module.layout, function_of(options)) {
+    let chosen = match chosen_entries(&module.layout, function_of(options.only)) {
         Ok(chosen) => chosen,
         Err(reason) => return Err(reason),
     };
@@ -73,27 +74,28 @@ fn hold_rows(rows: &[SiteRow], room: &mut [SiteRow]) -> usize
     rows.len()
 }
 
-// Whether nothing can be listed: the caller's options are smaller than this version's, or a bit is set that is no change's.
-fn are_bad(options: &ChangeOptions) -> bool
-    ensures { IsTrue result ↔ AreBad options.now }
-{
-    options.struct_size < CHANGE_OPTIONS_SIZE || options.changes >= 16384
-}
-
-/// Lists the sites of the module that the buffer is, as the options say, as far as there is room.
+/// Lists the sites of the module that the bytes are, as the options say, as far as there is room, and reports how many there are.
 pub fn list_sites(
     alloc: Global,
     bytes: &[u8],
     options: &ChangeOptions,
     room: &mut [SiteRow],
+    report: &mut Report,
 ) -> usize
-    ensures { ListsSites options.now bytes.now room.old result room.new }
+    ensures { ListsSites options.now bytes.now room.old result room.new report.new }
 {
     if are_bad(options) {
+        *report = report_on(without_place(Outcome::BadOptions));
         return 0;
     }
     match rows_in(alloc, bytes, options) {
-        Ok(rows) => hold_rows(&rows, room),
-        Err(_) => 0,
+        Ok(rows) => {
+            *report = report_of(Outcome::Done, 0, 0, rows.len(), 0);
+            hold_rows(&rows, room)
+        }
+        Err(reason) => {
+            *report = report_on(refusal_by(reason));
+            0
+        }
     }
 }

@@ -5,7 +5,7 @@ ghost use Rattle.module_rewrites.specs.Seeded.{seeded};
 ghost use Rattle.teddertempo_c.specs.Changes.{HasSize};
 ghost use Rattle.teddertempo_c.specs.Splices.{copies_alone, IsSplicedBy, SplicesOnce};
 
-use crate::mutating::put;
+use crate::report::put;
 use body_changes::Change;
 use module_changes::{Scope, SpliceRefusal, SplicedModule, splice_module};
 use rand::rngs::StdRng;

@@ -3,7 +3,7 @@ ghost use Rattle.std.specs.Prelude.{◌<◌, ◌≤◌, ℕ, IfErr, IfOk, length
 ghost use Rattle.wasm_sections.specs.Sections.{IsSectionFault};
 ghost use Rattle.teddertempo_c.specs.Strips.{IsStripped, Strips};
 
-use crate::mutating::put;
+use crate::report::put;
 use module_rewrites::laws::rewritten_modules_do_as_before;
 use std::alloc::Global;
 use wasm_sections::laws::sections_fill_the_module;

@@ -133,7 +133,7 @@ teddertempo_change_at_spec 𝓤 𝓛 𝓜 𝓡 wired =
     calls_at ! (framed 𝓤 𝓛.H 𝓜 𝓣) Of (met 𝓤 𝓛 𝓜 𝓡 (code.calls-teddertempo_c::placing::change_at_in 𝓡.env wired)) z
     (and_then ! (get ! refl) (and_then ! (get ! refl) (and_then ! (get ! refl) (and_then ! (get ! refl) (and_then ! (get ! refl) (no_more !)))))) (λ v.
     use1 𝓛 (later (some (λ (r : ℕ). ((‵ (flft κ full_share) ⊛ raw (alive 𝓛 f.signature κs qs)) ⊛ ‵ (usize.own_val r (v ∷ []))) ⊛
-    some (λ (ws : Lasts). ‵ (lasts g.ended z.0.0 z.0.3 ws) ⊛ raw (fact 𝓤 (ChangesPlace place.now size old r ws.1.0 report.now ws.1.1.1.1.0)))))) (id⊢ 𝓤 _) $
+    some (λ (ws : Lasts). ‵ (lasts g.ended z.0.0 z.0.3 ws) ⊛ raw (fact 𝓤 (ChangesPlace place.now size old r ws.1.0 ws.1.1.1.1.0)))))) (id⊢ 𝓤 _) $
     await ! tt $ pick ! (λ r. split ! $ split ! $ split ! $ lft_end ! tt $
     move ! (3 ∷ []) $ pick ! (λ ws. let new : List ℕ = ws.1.0 in let last : Report = ws.1.1.1.1.0 in
     split ! $ fsplit ! $ drop ! $ fsplit ! $ fsplit ! $ fsplit ! $
@@ -146,5 +146,5 @@ teddertempo_change_at_spec 𝓤 𝓛 𝓜 𝓡 wired =
     suffices ! _ (ends_at 𝓛 f.ended stayed c (y (block_ptr b o)) v r (tt, (tt, (tt, (tt, (tt, (last, tt)))))) (tt, (tt, (tt, (tt, (tt, (tt, tt))))))) $
     fsplit ! $ drop ! $ nothing ! $ join ! $ nothing ! $ join ! $ nothing ! $ join ! $ nothing ! $ join ! $ move ! (3 ∷ 0 ∷ 1 ∷ []) $ group ! 3 $ frame ! $
     show ! (λ (bytes : List ℕ). sep 𝓤 (sem 𝓛 (buffer_bytes_at (block_ptr b o) n bytes))
-    (fact 𝓤 (ChangesPlace place.now size old r bytes report.now last))) new $
+    (fact 𝓤 (ChangesPlace place.now size old r bytes last))) new $
     says ! changes $ done !))))))))))))

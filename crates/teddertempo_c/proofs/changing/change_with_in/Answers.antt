@@ -1,13 +1,11 @@
 -- A module changed by options, and the report.
-use Rattle.std.proofs.Common.{rules}
-use Rattle.teddertempo_c.specs.ChangeReports.{TellsChanges}
-use Rattle.teddertempo_c.specs.Writes.{IsPutInBuffer}
-use Rattle.teddertempo_c.proofs.ChangeReportsLemmas.{with_changes}
+use Rattle.teddertempo_c.specs.ChangeOptions.{AreBad}
+use Rattle.teddertempo_c.specs.ChangeReports.{IsChangedSo, IsOutcomeFor}
+use Rattle.teddertempo_c.proofs.ReportedLemmas.{reported}
 use Rattle.teddertempo_c.proofs.changing.change_with_in.Goals as goal
 
-pub returns-in-Ok : goal.returns-in-Ok
-returns-in-Ok c =
-    let put : IsPutInBuffer c.in-Ok.module.bytes.items c.args.buffer.now c.put.result c.put.new.buffer = search rules in
-    let tells : TellsChanges c.in-Ok.module.made.items c.report_of.result = search rules in
-    with_changes c.args.options.now c.args.size c.args.buffer.now c.args.report.now c.in-Ok.module.made.items c.in-Ok.module.bytes.items c.put.result
-    c.put.new.buffer c.report_of.result c.in-Ok.ensures.made put c.report_of.ensures.outcome tells c.report_of.ensures.size
+pub returns : goal.returns
+returns c =
+    let asked = c.args.options.now in let size = c.args.size in let old = c.args.buffer.now in
+    reported (IsChangedSo asked size old) (IsOutcomeFor asked size old) (AreBad asked) size old c.attempt-made.result c.report_in.result
+    c.report_in.new.buffer c.report_in.new.report c.attempt-made.ensures.made c.attempt-made.ensures.refused c.report_in.ensures

@@ -8,9 +8,10 @@
 //! The status is 2 where the library writes no module, and 1 where the options can't be read or don't go together, or a file can't be
 //! read or written.
 
+use std::fmt::Display;
 use std::process::ExitCode;
 use std::{env, fs};
-use teddertempo::{change_with, mutate_with, strip, ChangeOptions, Options, Outcome};
+use teddertempo::{change, rewrite, strip, ChangeOptions, Edits, Error, Options};
 
 /// How many bytes more than the old module the new one may have.
 const EXTRA: usize = 1 << 16;
@@ -22,7 +23,7 @@ fn with_option(options: Options, name: &str, value: &str) -> Option<Options> {
         "--count" => options.count(value.parse().ok()?),
         "--function" => options.function(value.parse().ok()?),
         "--percent" => options.percent(value.parse().ok()?),
-        "--growth" => options.max_growth(value.parse().ok()?),
+        "--growth" => options.growth(value.parse().ok()?),
         "--rule" => options.rule(value.parse().ok()?),
         _ => return None,
     })
@@ -34,7 +35,7 @@ fn with_change_option(options: ChangeOptions, name: &str, value: &str) -> Option
         "--seed" => options.seed(value.parse().ok()?),
         "--count" => options.count(value.parse().ok()?),
         "--function" => options.function(value.parse().ok()?),
-        "--growth" => options.max_growth(value.parse().ok()?),
+        "--growth" => options.growth(value.parse().ok()?),
         _ => options,
     })
 }
@@ -102,43 +103,29 @@ fn read_arguments(mut words: &[String]) -> Option<Arguments<'_>> {
     }
 }
 
-/// Says that nothing was done, and why.
-fn tell_nothing(outcome: Outcome) {
-    println!("nothing done: {outcome}");
-}
-
-/// Changes the module by the options, and says what was made; no answer where it isn't changed.
-fn changed(mut module: Vec<u8>, options: &ChangeOptions) -> Option<Vec<u8>> {
-    let size = module.len();
-    let report = change_with(&mut module, size + EXTRA, options);
-    match report.last {
-        Some(last) => println!(
-            "{size} bytes, now {}; changes {}, the last by {} in function {}",
-            module.len(),
-            report.made,
-            last.change,
-            last.function
-        ),
-        None => tell_nothing(report.outcome),
+/// Prints what was done with a module of so many bytes, or why nothing was; returns the new module.
+fn told<Kind: Display>(
+    size: usize,
+    module: Vec<u8>,
+    what: &str,
+    result: Result<Edits<Kind>, Error>,
+) -> Option<Vec<u8>> {
+    match result {
+        Ok(edits) => {
+            println!(
+                "{size} bytes, now {}; {what} {}, the last by {} in function {}",
+                module.len(),
+                edits.made,
+                edits.kind,
+                edits.function
+            );
+            Some(module)
+        }
+        Err(error) => {
+            println!("nothing done: {error}");
+            None
+        }
     }
-    report.is_changed().then_some(module)
-}
-
-/// Rewrites it by the options, and says what was made; no answer where it isn't rewritten.
-fn rewritten(mut module: Vec<u8>, options: &Options) -> Option<Vec<u8>> {
-    let size = module.len();
-    let report = mutate_with(&mut module, size + EXTRA, options);
-    match report.last {
-        Some(last) => println!(
-            "{size} bytes, now {}; rewrites {}, the last by {} in function {}",
-            module.len(),
-            report.made,
-            last.rule,
-            last.function
-        ),
-        None => tell_nothing(report.outcome),
-    }
-    report.is_rewritten().then_some(module)
 }
 
 /// Whether there is a new module, or what went wrong.
@@ -149,14 +136,21 @@ fn run(arguments: &Arguments<'_>) -> Result<bool, String> {
             "{name} is for rewrites alone: leave it out with --change"
         ));
     }
-    let module = fs::read(old).map_err(|e| format!("{old}: {e}"))?;
+    let mut module = fs::read(old).map_err(|e| format!("{old}: {e}"))?;
+    let size = module.len();
     let mut made = match &arguments.change {
-        Some(options) => changed(module, options),
-        None => rewritten(module, &arguments.options),
+        Some(options) => {
+            let result = change(&mut module, size + EXTRA, options);
+            told(size, module, "changes", result)
+        }
+        None => {
+            let result = rewrite(&mut module, size + EXTRA, &arguments.options);
+            told(size, module, "rewrites", result)
+        }
     };
     if let Some(module) = &mut made {
         if arguments.is_stripped {
-            strip(module);
+            strip(module).map_err(|e| format!("{new}: {e}"))?;
         }
         fs::write(new, module).map_err(|e| format!("{new}: {e}"))?;
     }

@@ -1,5 +1,5 @@
--- `teddertempo_mutate` meets its contract: a walk of its MIR, by hand. The bytes are lent as a slice for a lifetime that is made for
--- the call of `mutate_in`, and come back once it is ended.
+-- `teddertempo_rewrite` meets its contract: a walk of its MIR, by hand. The bytes are lent as a slice for a lifetime that is made for
+-- the call of `rewrite_in`, and come back once it is ended.
 use Rattle.std.proofs.Common.{ℕ, ◌^◌, ◌<◌, List, [], ◌∷◌, length, refl, sym, ap, arith, w64}
 use Rattle.std.proofs.raw_atomic.Walks.{proved}
 use base.Fraction.{full_share}
@@ -34,13 +34,13 @@ use denote.Triple.Walked.{says, Stays, stay_dropped, walk_of, ends_at, Goes-drop
 use Rattle.std.specs.contracts.alloc.Global as G
 use Rattle.std.proofs.alloc.Global.TheLaws as L
 use Rattle.teddertempo_c.specs.Buffer.{buffer_bytes_at}
-use Rattle.teddertempo_c.specs.Writes.{MutatesOnce}
+use Rattle.teddertempo_c.specs.Writes.{RewritesOnce}
 use Rattle.teddertempo_c.proofs.BufferLemmas.{Bytes, slice_at, Slice, Behind, bytes_out, lends_bytes, bytes_back}
-use Rattle.teddertempo_c.specs.contracts.mutating.mutate_in as g
-use Rattle.teddertempo_c.proofs.mutating.mutate_in.Met.{met}
-use Rattle.teddertempo_c.specs.contracts.teddertempo_mutate as f
-use Rattle.teddertempo_c.proofs.teddertempo_mutate.Statement.{statement}
-use Rattle.teddertempo_c.proofs.teddertempo_mutate.Code as code
+use Rattle.teddertempo_c.specs.contracts.rewriting.rewrite_in as g
+use Rattle.teddertempo_c.proofs.rewriting.rewrite_in.Met.{met}
+use Rattle.teddertempo_c.specs.contracts.teddertempo_rewrite as f
+use Rattle.teddertempo_c.proofs.teddertempo_rewrite.Statement.{statement}
+use Rattle.teddertempo_c.proofs.teddertempo_rewrite.Code as code
 
 -- nothing is said of a parameter at the return
 abbrev stayed : Stays f.ended.signature.params f.ended.kept
@@ -50,8 +50,8 @@ stayed = (stay_dropped _ yes, (stay_dropped _ yes, (stay_dropped _ yes, (stay_dr
 abbrev Lasts : Type 0
 Lasts = Unit {0} × (List ℕ × (Unit {0} × (Unit {0} × Unit {0})))
 
-pub teddertempo_mutate_spec : {M : Type 1} → statement M
-teddertempo_mutate_spec 𝓤 𝓛 𝓜 𝓡 wired =
+pub teddertempo_rewrite_spec : {M : Type 1} → statement M
+teddertempo_rewrite_spec 𝓤 𝓛 𝓜 𝓡 wired =
     let c = f.clauses 𝓛 𝓜.mem 𝓡.returns in let W = walk_of 𝓛 f.ended stayed c in let 𝓣 = tables 𝓤 𝓛.H 𝓜 𝓡 𝓡.env in
     let handle = Goes-dropped 𝓛 0 (plain (λ _. G.the_row)) yes (λ κs x w. refl) in
     let pointer = Goes-dropped 𝓛 0 (plain (λ _. RawPtr)) yes (λ κs x w. refl) in
@@ -99,20 +99,20 @@ teddertempo_mutate_spec 𝓤 𝓛 𝓜 𝓡 wired =
     owned ! G.the_row (Is G.the_row) (of_fields.makes G.the_type L.the_plain 𝓛) a.0 _ are.0 $ fjoin ! $
     -- [the arguments; the right to the bytes; the token; the locals]
     nothing ! $ move ! (3 ∷ 0 ∷ []) $ join ! $ join ! $ nothing ! $ move ! (1 ∷ 0 ∷ []) $ join ! $ use1 𝓛 (raw (Of.pre z)) (id⊢ 𝓤 _) $
-    -- mutate_in(alloc, .., size, seed)
-    calls_at ! (framed 𝓤 𝓛.H 𝓜 𝓣) Of (met 𝓤 𝓛 𝓜 𝓡 (code.calls-teddertempo_c::mutating::mutate_in 𝓡.env wired)) z
+    -- rewrite_in(alloc, .., size, seed)
+    calls_at ! (framed 𝓤 𝓛.H 𝓜 𝓣) Of (met 𝓤 𝓛 𝓜 𝓡 (code.calls-teddertempo_c::rewriting::rewrite_in 𝓡.env wired)) z
     (and_then ! (get ! refl) (and_then ! (get ! refl) (and_then ! (get ! refl) (and_then ! (get ! refl) (no_more !))))) (λ v.
     use1 𝓛 (later (some (λ (r : ℕ). ((‵ (flft κ full_share) ⊛ ‵ ftrue) ⊛ ‵ (usize.own_val r (v ∷ []))) ⊛
-    some (λ (ws : Lasts). ‵ (lasts g.ended z.0.0 z.0.3 ws) ⊛ raw (fact 𝓤 (MutatesOnce seed size old r ws.1.0)))))) (id⊢ 𝓤 _) $ await ! tt $ pick ! (λ r.
+    some (λ (ws : Lasts). ‵ (lasts g.ended z.0.0 z.0.3 ws) ⊛ raw (fact 𝓤 (RewritesOnce seed size old r ws.1.0)))))) (id⊢ 𝓤 _) $ await ! tt $ pick ! (λ r.
     split ! $ split ! $ split ! $ lft_end ! tt $
     move ! (3 ∷ []) $ pick ! (λ ws. let new : List ℕ = ws.1.0 in split ! $ fsplit ! $ drop ! $ fsplit ! $ fsplit ! $ fsplit ! $
     -- [the slice's last value; its length; its borrow; the numbers; the clause; the lifetime is over; nothing; the result; the right to the bytes; ..]
     move ! (5 ∷ 8 ∷ 0 ∷ []) $ use3 𝓛 (later (‵ (buffer_bytes_at (block_ptr b o) n new))) (bytes_back 𝓛 n b o old count low κ γ new) $ await ! tt $
-    move ! (4 ∷ []) $ heard ! _ (λ mutates.
+    move ! (4 ∷ []) $ heard ! _ (λ rewrites.
     -- [the bytes; the slice's length; its borrow; the numbers; nothing; the result; the locals]
     move ! (5 ∷ []) $ peeks ! usize (Is usize) (shows 𝓛 usize) r (v ∷ []) (λ is. lands_as ! refl refl ((uint_Lawful 𝓛 w64).typed r _ is).0 $
     returns ! (look_at ! 0 refl) $ free_all ! refl $ keep ! (0 ∷ 1 ∷ []) $
     suffices ! _ (ends_at 𝓛 f.ended stayed c (y (block_ptr b o)) v r (tt, (tt, (tt, (tt, (tt, tt))))) (tt, (tt, (tt, (tt, (tt, tt)))))) $
     nothing ! $ nothing ! $ join ! $ nothing ! $ join ! $ nothing ! $ join ! $ nothing ! $ join ! $ nothing ! $ join ! $ nothing ! $ group ! 3 $ frame ! $
-    show ! (λ (bytes : List ℕ). sep 𝓤 (sem 𝓛 (buffer_bytes_at (block_ptr b o) n bytes)) (fact 𝓤 (MutatesOnce seed size old r bytes))) new $
-    says ! mutates $ done !))))))))))))
+    show ! (λ (bytes : List ℕ). sep 𝓤 (sem 𝓛 (buffer_bytes_at (block_ptr b o) n bytes)) (fact 𝓤 (RewritesOnce seed size old r bytes))) new $
+    says ! rewrites $ done !))))))))))))

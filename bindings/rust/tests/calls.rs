@@ -3,8 +3,8 @@
 use std::fs;
 use std::thread;
 use teddertempo::{
-    change_at, change_slice, change_with, either_slice, mutate, mutate_slice, mutate_with, sites,
-    splice_slice, strip, Change, ChangeOptions, MadeChange, Options, Outcome, Place, Report, Rule,
+    change, change_at, change_slice, either_slice, rewrite, rewrite_slice, sites, splice_slice,
+    strip, Change, ChangeOptions, Edits, Error, Options, Place, Rule,
 };
 
 /// The bytes with which each module begins: the magic and the version.
@@ -23,7 +23,8 @@ fn module_named(name: &str) -> Vec<u8> {
 /// A module, rewritten under a seed to at most so many bytes more.
 fn rewritten(module: &[u8], extra: usize, seed: u64) -> Option<Vec<u8>> {
     let mut new = module.to_vec();
-    let is_rewritten = mutate(&mut new, module.len() + extra, seed);
+    let options = Options::new().seed(seed);
+    let is_rewritten = rewrite(&mut new, module.len() + extra, &options).is_ok();
     assert!(is_rewritten || new == module);
     is_rewritten.then_some(new)
 }
@@ -63,14 +64,18 @@ fn a_module_is_changed_within_its_room() {
         for extra in [0, 4096] {
             let mut new = module.clone();
             new.resize(module.len() + extra, 0);
-            let size = change_slice(&mut new, module.len(), seed).unwrap();
+            let options = ChangeOptions::new().seed(seed);
+            let (size, _) = change_slice(&mut new, module.len(), &options).unwrap();
             assert!(size <= module.len() + extra && new.starts_with(&PREAMBLE));
             others += usize::from(new[..size] != module);
         }
     }
     assert_eq!(others, 100);
-    assert_eq!(change_slice(&mut [0; 8], 8, 7), None);
-    assert_eq!(change_slice(&mut [0; 8], 9, 7), None);
+    let options = ChangeOptions::new();
+    let refused = change_slice(&mut [0; 8], 8, &options);
+    assert_eq!(refused, Err(Error::NotAModule(0)));
+    let refused = change_slice(&mut [0; 8], 9, &options);
+    assert_eq!(refused, Err(Error::BadOptions));
 }
 
 #[test]
@@ -86,11 +91,16 @@ fn either_rewrites_or_changes() {
         let kept_size = either_slice(&mut kept, module.len(), seed, 100);
         let changed_size = either_slice(&mut changed, module.len(), seed, 0);
         let (mut rewritten, mut other) = (with_room(), with_room());
-        let report = mutate_slice(&mut rewritten, module.len(), &Options::new().seed(seed));
-        assert!(kept_size == Some(report.0) && kept == rewritten);
-        assert!(changed_size == change_slice(&mut other, module.len(), seed) && changed == other);
+        let options = Options::new().seed(seed);
+        let by_rules = rewrite_slice(&mut rewritten, module.len(), &options);
+        assert_eq!(kept_size.ok(), by_rules.ok().map(|(size, _)| size));
+        let options = ChangeOptions::new().seed(seed);
+        let by_changes = change_slice(&mut other, module.len(), &options);
+        assert_eq!(changed_size.ok(), by_changes.ok().map(|(size, _)| size));
+        assert!(kept == rewritten && changed == other);
     }
-    assert_eq!(either_slice(&mut [0; 8], 9, 7, 50), None);
+    let refused = either_slice(&mut [0; 8], 9, 7, 50);
+    assert_eq!(refused, Err(Error::NothingDone));
 }
 
 #[test]
@@ -101,8 +111,8 @@ fn splices_code_of_another_module() {
         let mut new = module.clone();
         new.resize(module.len() + 4096, 0);
         let size = match splice_slice(&mut new, module.len(), &other, seed) {
-            Some(size) => size,
-            None => continue,
+            Ok(size) => size,
+            Err(_) => continue,
         };
         new.truncate(size);
         assert!(new != module && new.starts_with(&PREAMBLE));
@@ -110,16 +120,17 @@ fn splices_code_of_another_module() {
         again.resize(module.len() + 4096, 0);
         assert_eq!(
             splice_slice(&mut again, module.len(), &other, seed),
-            Some(size)
+            Ok(size)
         );
         assert_eq!(again[..size], new);
         news.insert(new);
     }
     assert!(news.len() > 30);
     let mut new = module.clone();
-    assert_eq!(splice_slice(&mut new, module.len(), &[0; 8], 7), None);
-    assert_eq!(splice_slice(&mut [0; 8], 8, &other, 7), None);
-    assert_eq!(splice_slice(&mut [0; 8], 9, &other, 7), None);
+    let none = Err(Error::NothingDone);
+    assert_eq!(splice_slice(&mut new, module.len(), &[0; 8], 7), none);
+    assert_eq!(splice_slice(&mut [0; 8], 8, &other, 7), none);
+    assert_eq!(splice_slice(&mut [0; 8], 9, &other, 7), none);
     assert_eq!(new, module);
 }
 
@@ -127,41 +138,41 @@ fn splices_code_of_another_module() {
 fn each_change_is_made_by_its_name() {
     // It has globals, calls and loads.
     let module = module_named("outside");
-    for change in Change::ALL {
-        let made = (0..100).any(|seed| {
-            let options = ChangeOptions::new().change(change).count(3).seed(seed);
+    assert_eq!(Change::all().count(), 14);
+    assert_eq!(Change::MEMORY_ARGUMENT.name(), "memory_argument");
+    for kind in Change::all() {
+        let is_made = (0..100).any(|seed| {
+            let options = ChangeOptions::new().change(kind).count(3).seed(seed);
             let mut new = module.clone();
-            let report = change_with(&mut new, module.len() + 4096, &options);
-            if report.made < 3 {
-                return false;
+            match change(&mut new, module.len() + 4096, &options) {
+                Ok(edits) if edits.made == 3 => {
+                    assert_eq!(edits.kind, kind);
+                    assert!(new != module && new.starts_with(&PREAMBLE));
+                    true
+                }
+                _ => false,
             }
-            assert!(matches!(report.last, Some(MadeChange { change: last, .. }) if last == change));
-            assert!(new != module && new.starts_with(&PREAMBLE));
-            true
         });
-        assert!(made, "{change}");
+        assert!(is_made, "{kind}");
     }
 }
 
 #[test]
 fn changes_are_refused_by_their_options() {
     let module = module();
-    for (options, max, outcome) in [
-        (ChangeOptions::new(), 0, Outcome::BadOptions),
+    let all = ChangeOptions::new();
+    for (options, max, error) in [
+        (all.clone(), 0, Error::BadOptions),
+        (all.clone().function(1 << 40), 4096, Error::NoFunction),
+        (all.clone().function(u64::MAX), 4096, Error::NoFunction),
         (
-            ChangeOptions::new().function(1 << 40),
-            4096,
-            Outcome::NoFunction,
-        ),
-        (
-            ChangeOptions::new().count(1 << 40).change(Change::Double),
+            all.count(1 << 40).change(Change::DOUBLE),
             module.len(),
-            Outcome::TooLarge,
+            Error::TooLarge,
         ),
     ] {
         let mut new = module.clone();
-        let report = change_with(&mut new, max, &options);
-        assert_eq!((report.outcome, report.made), (outcome, 0));
+        assert_eq!(change(&mut new, max, &options), Err(error));
         assert_eq!(new, module);
     }
 }
@@ -172,16 +183,17 @@ const DROPS: &[u8] = b"\0asm\x01\0\0\0\x01\x04\x01\x60\0\0\x03\x02\x01\0\
 
 #[test]
 fn operators_that_are_named_are_changed() {
-    let all = Place::new(Change::Delete, 0);
+    let all = Place::new(Change::DELETE, 0);
     for (place, made, size) in [
         (all.clone(), 3, 24),
+        (all.clone().operators(..), 3, 24),
         (all.clone().operators(2..4), 1, 28),
+        (all.clone().operators(..=1), 1, 28),
         (all.operators(4..5), 1, 30),
     ] {
         let mut new = DROPS.to_vec();
-        let report = change_at(&mut new, DROPS.len(), &place);
-        assert_eq!((report.outcome, report.made), (Outcome::Rewritten, made));
-        assert_eq!(report.last.map(|last| last.change), Some(Change::Delete));
+        let edits = change_at(&mut new, DROPS.len(), &place).unwrap();
+        assert_eq!((edits.made, edits.kind), (made, Change::DELETE));
         assert_eq!(new.len(), size);
     }
 }
@@ -189,38 +201,50 @@ fn operators_that_are_named_are_changed() {
 #[test]
 fn each_site_is_changed() {
     let module = module();
-    let all = sites(&module, &ChangeOptions::new());
-    assert!(all.len() > 1000 && all.iter().all(|site| site.change != Change::Copy));
+    let all = sites(&module, &ChangeOptions::new()).unwrap();
+    assert!(all.len() > 1000 && all.iter().all(|site| site.change != Change::COPY));
     for site in all.iter().step_by(97) {
         let mut new = module.clone();
-        let report = change_at(&mut new, module.len() + 64, &site.place());
-        let made = MadeChange {
-            change: site.change,
+        let edits = change_at(&mut new, module.len() + 64, &site.place());
+        let made = Edits {
+            made: 1,
+            kind: site.change,
             function: site.function,
         };
-        assert_eq!((report.made, report.last), (1, Some(made)));
+        assert_eq!(edits, Ok(made));
         assert_ne!(new, module);
     }
-    let deletions = sites(DROPS, &ChangeOptions::new().change(Change::Delete));
+    let deletions = ChangeOptions::new().change(Change::DELETE);
+    let deletions = sites(DROPS, &deletions).unwrap();
     let operators: Vec<u64> = deletions.iter().map(|site| site.operator).collect();
     assert_eq!(operators, [1, 3, 4]);
-    assert!(sites(DROPS, &ChangeOptions::new().function(1)).is_empty());
-    assert!(sites(b"no module", &ChangeOptions::new()).is_empty());
+}
+
+#[test]
+fn listings_are_refused() {
+    let other = ChangeOptions::new().function(1);
+    assert_eq!(sites(DROPS, &other), Err(Error::NoFunction));
+    let calls = ChangeOptions::new().change(Change::CALL);
+    assert_eq!(sites(DROPS, &calls), Ok(Vec::new()));
+    let refused = sites(b"no module", &ChangeOptions::new());
+    assert_eq!(refused, Err(Error::NotAModule(0)));
 }
 
 #[test]
 fn places_are_refused() {
-    let all = Place::new(Change::Double, 0);
-    for (place, max, outcome) in [
-        (all.clone(), DROPS.len() - 1, Outcome::BadOptions),
-        (all.clone(), DROPS.len(), Outcome::TooLarge),
-        (all.clone().max_growth(0), 4096, Outcome::TooLarge),
-        (all.operators(5..9), 4096, Outcome::NoRule),
-        (Place::new(Change::Copy, 0), 4096, Outcome::NoRule),
-        (Place::new(Change::Double, 1), 4096, Outcome::NoFunction),
+    let all = Place::new(Change::DOUBLE, 0);
+    for (place, max, error) in [
+        (all.clone(), DROPS.len() - 1, Error::BadOptions),
+        (all.clone(), DROPS.len(), Error::TooLarge),
+        (all.clone().growth(0), 4096, Error::TooLarge),
+        (all.clone().growth(6), 4096, Error::TooLarge),
+        (all.clone().operators(5..9), 4096, Error::NothingApplies),
+        (all.operators(0..0), 4096, Error::NothingApplies),
+        (Place::new(Change::COPY, 0), 4096, Error::NothingApplies),
+        (Place::new(Change::DOUBLE, 1), 4096, Error::NoFunction),
     ] {
         let mut new = DROPS.to_vec();
-        assert_eq!(change_at(&mut new, max, &place).outcome, outcome);
+        assert_eq!(change_at(&mut new, max, &place), Err(error));
         assert_eq!(new, DROPS);
     }
 }
@@ -228,13 +252,13 @@ fn places_are_refused() {
 #[test]
 fn sections_on_debugging_are_dropped() {
     let mut module = DROPS.to_vec();
-    assert!(strip(&mut module));
+    assert_eq!(strip(&mut module), Ok(()));
     assert_eq!(module, DROPS);
     module.extend_from_slice(b"\0\x0c\x0b.debug_info");
-    assert!(strip(&mut module));
+    assert_eq!(strip(&mut module), Ok(()));
     assert_eq!(module, DROPS);
     let mut other = b"no module".to_vec();
-    assert!(!strip(&mut other));
+    assert_eq!(strip(&mut other), Err(Error::NothingDone));
     assert_eq!(other, b"no module");
 }
 
@@ -244,12 +268,9 @@ fn shrinking_makes_modules_smaller() {
     let (sizes, count) = (0..20).fold((0, 0), |(sizes, count), seed| {
         let mut new = module.clone();
         let options = Options::new().seed(seed).count(20).shrink();
-        let report = mutate_with(&mut new, module.len(), &options);
+        let is_rewritten = rewrite(&mut new, module.len(), &options).is_ok();
         assert!(new.len() <= module.len());
-        (
-            sizes + new.len(),
-            count + usize::from(report.is_rewritten()),
-        )
+        (sizes + new.len(), count + usize::from(is_rewritten))
     });
     assert!(count > 0 && sizes < 20 * module.len());
 }
@@ -258,12 +279,13 @@ fn shrinking_makes_modules_smaller() {
 fn other_bytes_are_refused() {
     for bytes in [&b""[..], b"no module", &module()[..1000]] {
         let mut new = bytes.to_vec();
-        let report = mutate_with(&mut new, 4096, &Options::new());
-        assert!(matches!(report.outcome, Outcome::NotAModule(offset) if offset <= 1000));
+        let refused = rewrite(&mut new, 4096, &Options::new());
+        assert!(matches!(refused, Err(Error::NotAModule(offset)) if offset <= 1000));
         assert_eq!(new, bytes);
     }
     let mut empty = PREAMBLE.to_vec();
-    assert!(!mutate(&mut empty, 4096, 1));
+    let refused = rewrite(&mut empty, 4096, &Options::new().seed(1));
+    assert_eq!(refused, Err(Error::NothingApplies));
     assert_eq!(empty, PREAMBLE);
 }
 
@@ -271,10 +293,13 @@ fn other_bytes_are_refused() {
 fn what_has_no_room_is_refused() {
     let old = module();
     let mut new = old.clone();
-    let outcome = |new: &mut Vec<u8>, max| mutate_with(new, max, &Options::new()).outcome;
-    assert_eq!(outcome(&mut new, old.len() - 1), Outcome::BadOptions);
-    assert_eq!(outcome(&mut new, usize::MAX), Outcome::NoMemory);
-    assert_eq!(new, old);
+    for (max, error) in [
+        (old.len() - 1, Error::BadOptions),
+        (usize::MAX, Error::NoMemory),
+    ] {
+        assert_eq!(rewrite(&mut new, max, &Options::new()), Err(error));
+        assert_eq!(new, old);
+    }
 }
 
 #[test]
@@ -282,22 +307,23 @@ fn a_slice_is_rewritten_in_place() {
     let module = module();
     let options = Options::new().seed(3);
     let mut data = [&module[..], &[0xee; 8192]].concat();
-    let (size, report) = mutate_slice(&mut data, module.len(), &options);
+    let (size, edits) = rewrite_slice(&mut data, module.len(), &options).unwrap();
     let mut new = module.clone();
-    assert_eq!(report, mutate_with(&mut new, module.len() + 8192, &options));
+    let in_vector = rewrite(&mut new, module.len() + 8192, &options);
+    assert_eq!(in_vector, Ok(edits));
     assert_eq!(data[..size], new);
     assert!(data[size.max(module.len())..].iter().all(|&b| b == 0xee));
     // More bytes than there are.
-    let (size, report) = mutate_slice(&mut data[..5], 6, &options);
-    assert_eq!((size, report.outcome), (6, Outcome::BadOptions));
+    let refused = rewrite_slice(&mut data[..5], 6, &options);
+    assert_eq!(refused, Err(Error::BadOptions));
 }
 
 /// Rewrites the module by options, under the first of some seeds that has something to rewrite.
-fn by_options(options: &Options) -> Option<(Report, Vec<u8>)> {
+fn by_options(options: &Options) -> Option<(Edits<Rule>, Vec<u8>)> {
     (0..20).find_map(|seed| {
         let mut module = module();
-        let report = mutate_with(&mut module, 1 << 16, &options.clone().seed(seed));
-        report.is_rewritten().then_some((report, module))
+        let edits = rewrite(&mut module, 1 << 16, &options.clone().seed(seed));
+        edits.ok().map(|edits| (edits, module))
     })
 }
 
@@ -305,11 +331,11 @@ fn by_options(options: &Options) -> Option<(Report, Vec<u8>)> {
 fn options_choose_rules() {
     let mut count = 0;
     for rule in Rule::all() {
-        if let Some((report, _)) = by_options(&Options::new().rule(rule)) {
-            assert_eq!(report.last.unwrap().rule, rule);
+        if let Some((edits, _)) = by_options(&Options::new().rule(rule)) {
+            assert_eq!(edits.kind, rule);
             count += 1;
-            let (report, _) = by_options(&Options::new().not_rule(rule)).unwrap();
-            assert_ne!(report.last.unwrap().rule, rule);
+            let (edits, _) = by_options(&Options::new().not_rule(rule)).unwrap();
+            assert_ne!(edits.kind, rule);
         }
     }
     assert!(count > 1);
@@ -317,29 +343,32 @@ fn options_choose_rules() {
 
 #[test]
 fn options_choose_functions_and_counts() {
-    let (report, _) = by_options(&Options::new()).unwrap();
-    assert_eq!(report.made, 1);
-    let function = report.last.unwrap().function;
-    let (report, _) = by_options(&Options::new().function(function).count(5)).unwrap();
-    assert_eq!(report.last.unwrap().function, function);
-    assert_eq!(report.made, 5);
+    let (edits, _) = by_options(&Options::new()).unwrap();
+    assert_eq!(edits.made, 1);
+    let function = edits.function;
+    let (edits, _) = by_options(&Options::new().function(function).count(5)).unwrap();
+    assert_eq!((edits.function, edits.made), (function, 5));
     let few = Options::new().function(function).percent(1);
-    let (report, _) = by_options(&few).unwrap();
+    let (edits, _) = by_options(&few).unwrap();
     let (twice, _) = by_options(&few.percent(200)).unwrap();
-    assert!(report.made < twice.made);
-    let (_, new) = by_options(&Options::new().count(2).max_growth(20)).unwrap();
+    assert!(edits.made < twice.made);
+    let (_, new) = by_options(&Options::new().count(2).growth(20)).unwrap();
     assert!(new.len() <= module().len() + 20);
+    let (_, new) = by_options(&Options::new().growth(0)).unwrap();
+    assert!(new.len() <= module().len());
 }
 
 #[test]
 fn options_that_name_nothing_are_refused() {
     let mut module = module();
     let none = Rule::all().fold(Options::new(), Options::not_rule);
-    let outcome = mutate_with(&mut module, 1 << 16, &none).outcome;
-    assert_eq!(outcome, Outcome::BadOptions);
-    let none = Options::new().function(1 << 40);
-    let outcome = mutate_with(&mut module, 1 << 16, &none).outcome;
-    assert_eq!(outcome, Outcome::NoFunction);
+    for (options, error) in [
+        (none, Error::BadOptions),
+        (Options::new().function(1 << 40), Error::NoFunction),
+        (Options::new().function(u64::MAX), Error::NoFunction),
+    ] {
+        assert_eq!(rewrite(&mut module, 1 << 16, &options), Err(error));
+    }
 }
 
 #[test]
@@ -350,6 +379,13 @@ fn rules_have_names() {
     }
     assert!(Rule::all().count() > 1);
     assert!("melt".parse::<Rule>().is_err() && "".parse::<Rule>().is_err());
+}
+
+#[test]
+fn errors_have_texts() {
+    let error: Box<dyn std::error::Error> = Error::NotAModule(7).into();
+    assert_eq!(error.to_string(), "no module, by its byte 7");
+    assert_eq!(format!("{:>14}", Error::NoMemory), "     no memory");
 }
 
 #[test]

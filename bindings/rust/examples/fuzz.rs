@@ -8,11 +8,11 @@
 //! ./fuzz corpus
 //! ```
 //!
-//! Every second time a module is changed so that it stays valid, else its bytes are; and code of one comes into another. In the place of
-//! an engine the target looks for sections alone: put yours there.
+//! Every second time a module is changed so that it stays valid, otherwise its bytes are; and code of one module is copied into another.
+//! Instead of running an engine the target only looks for sections: put your engine there.
 
 use std::slice;
-use teddertempo::{change_slice, splice_slice, strip};
+use teddertempo::{change_slice, splice_slice, strip, ChangeOptions};
 
 extern "C" {
     fn LLVMFuzzerMutate(data: *mut u8, size: usize, max_size: usize) -> usize;
@@ -20,7 +20,7 @@ extern "C" {
 
 /// The engine under test: here, whether the bytes are a preamble and whole sections.
 fn run(module: &[u8]) {
-    strip(&mut module.to_vec());
+    let _ = strip(&mut module.to_vec());
 }
 
 /// # Safety
@@ -44,11 +44,14 @@ pub unsafe extern "C" fn LLVMFuzzerCustomMutator(
     max_size: usize,
     seed: u32,
 ) -> usize {
-    let changed = match seed % 2 {
-        0 => None,
-        _ => change_slice(slice::from_raw_parts_mut(data, max_size), size, seed.into()),
-    };
-    changed.unwrap_or_else(|| LLVMFuzzerMutate(data, size, max_size))
+    if seed % 2 == 1 {
+        let options = ChangeOptions::new().seed(seed.into());
+        let module = slice::from_raw_parts_mut(data, max_size);
+        if let Ok((new_size, _)) = change_slice(module, size, &options) {
+            return new_size;
+        }
+    }
+    LLVMFuzzerMutate(data, size, max_size)
 }
 
 /// # Safety
