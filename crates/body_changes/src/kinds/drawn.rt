@@ -14,7 +14,7 @@ use std::alloc::{AllocError, Global};
 use wasm_code::Instr;
 use wasm_types::PrimitiveTypeInfo;
 
-/// A constant that isn't the operator, where the unit gives a value that is no reference: so it is no code that ends with that.
+/// A constant that isn't the operator, if the unit gives a value that is no reference. No code that ends with the operator is the same.
 pub(crate) fn value_instead(place: &Place<'_>) -> Option<Instr>
     requires { IsPlace place.now }
     ensures made { IfSome result (λ other. (most : ℕ) → 0 < most
