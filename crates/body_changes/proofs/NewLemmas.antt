@@ -34,7 +34,7 @@ pub unlike : (alike : Bool) (P : Type 0) → (IsTrue alike → P → ⊥) → ((
 unlike true P same differ = (λ f. absurd (false≢true f), λ p. absurd (same refl p))
 unlike false P same differ = (λ _. differ false≢true, λ _. refl)
 
--- by a value that isn't there
+-- by a value that is absent
 pub where_none : {X : Type 0} (b : Bool) (o : Option X) (P : Type 0) → is_some o ≡ not b → (o ≡ None → P) → (P → o ≡ None) → IsTrue b ↔ P
 where_none true None P e there only = (λ _. there refl, λ _. refl)
 where_none false None P e there only = absurd (false≢true e)
@@ -76,14 +76,14 @@ module _ (place : Place) (h : IsPlace place) where
   within : unit.start ≤ place.at
   within = unit_within context operators place.at unit h.is
 
-  -- the code is new in the place of the unit
+  -- the code is new in place of the unit
   there : (K : List Instruction → Type 0) (code : List Instruction) → K code → IsNewAt place code → SomeIsNew place K
   there K code made new = (unit.start, code, (refl, made), new)
 
   pub never : (K : List Instruction → Type 0) → ((code : List Instruction) → K code → IsNewAt place code → ⊥) → SomeIsNew place K → ⊥
   never K none k = none k.1 k.2.1 (subst (λ (s : ℕ). IsNewFrom place s k.1) k.2.0 k.3)
 
-  -- what leaves the same, and has another length
+  -- code that leaves the same and has another length is new
   new_size : (code : List Instruction) → LeavesTypes context code (list_of unit.gives) → (length code ≡ place.at + 1 - unit.start → ⊥) → IsNewAt place code
   new_size code leaves differs =
       let inside = h.inside in
@@ -106,7 +106,7 @@ module _ (place : Place) (h : IsPlace place) where
   drawn_decided b None most some e made new none = alone_decided b None (MakesDrawn most unit) e tt tt (none most)
   drawn_decided b (Some i) most some e made new none = alone_decided b (Some i) (MakesDrawn most unit) e (made most some) new tt
 
-  -- behind the operands
+  -- after the operands
   pub behind_decided : (b : Bool) (o : Option Instruction) (K : List Instruction → Type 0) → b ≡ is_some o →
       IfSome o (λ i. (code : List Instruction) → IsBehindAt place i code → K code) →
       IfSome o (λ i. (code : List Instruction) → IsBehindAt place i code → IsNewAt place code) →
@@ -178,7 +178,7 @@ module _ (place : Place) (h : IsPlace place) where
     both : (a b : List Instruction) → LeavesTypes context a (t ∷ []) → LeavesTypes context b (t ∷ []) → LeavesTypes context (a ++ b) (t ∷ t ∷ [])
     both a b g k = both_leave context a b (t ∷ []) (t ∷ []) g k
 
-    -- the operator gives the same behind other operands
+    -- the operator gives the same after other operands of that type
     behind_both : (code : List Instruction) → LeavesTypes context code (t ∷ t ∷ []) → LeavesTypes context (code ++ own ∷ []) (list_of unit.gives)
     behind_both code g =
         let closed = h.is.is.closed in

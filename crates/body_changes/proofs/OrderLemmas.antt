@@ -1,4 +1,4 @@
--- Two codes that stand one behind the other, and would make the same the other way round.
+-- Two consecutive codes that are the same instructions in the other order.
 use Rattle.std.proofs.Common.{◌≡◌, ℕ, ◌+◌, ◌-◌, ◌<◌, ◌≤◌, ◌⊎◌, inl, inr, List, ◌++◌, length, drop, sym, ap, ◌∙◌, subst, arith}
 use Rattle.std.specs.Prelude.{slice_range}
 use Rattle.std.proofs.lemmas.Bool.{cases_lt}
@@ -14,7 +14,7 @@ use Rattle.body_changes.proofs.StandLemmas.{Operators, second_part}
 behind_first : {A : Type 0} (a b : List A) → drop (length a) (a ++ b) ≡ b
 behind_first a b = drop-append-le (length a) a b (omega arith) ∙ ap (λ xs. xs ++ b) (drop_all (length a) a (omega arith))
 
--- the longer one ends with the other
+-- the longer list ends with the other one
 ends_with : {A : Type 0} (a b : List A) → length a ≤ length b → a ++ b ≡ b ++ a → drop (length b - length a) b ≡ a
 ends_with a b le e =
     let n = length b - length a in
@@ -34,7 +34,7 @@ stand_length operators s e code inside h =
     let k = length-map code (λ (i : Instruction). Instr i) in
     omega arith
 
--- they are the same, where neither ends with the other
+-- they are the same code if neither ends with the other
 pub same_turned : (operators : Operators) (s m e : ℕ) (a b : List Instruction) → s < m → m < e → e ≤ length operators → Stand operators s m a →
     Stand operators m e b → ((k : ℕ) → m < k → k < e → Stand operators k e a → ⊥) → ((k : ℕ) → s < k → k < m → Stand operators k m b → ⊥) →
     a ++ b ≡ b ++ a → a ≡ b

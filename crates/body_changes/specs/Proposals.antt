@@ -54,11 +54,11 @@ IsNewFrom place start code = IsNew (context_at place) (operators_of place) start
 abbrev pub IsNewAt : Place → List Instruction → Type 0
 IsNewAt place code = IsNewFrom place place.unit.start code
 
--- the instruction stands there behind the unit's operands
+-- the code is the unit's operands, and after them the instruction
 abbrev pub IsBehindAt : Place → (other : Instruction) → List Instruction → Type 0
 IsBehindAt place other code = IsBehindOperands (operators_of place) place.at place.unit other code
 
--- such code is new in the place of the unit
+-- some such code is new in place of the unit
 abbrev pub SomeIsNew : Place → (IsMade : List Instruction → Type 0) → Type 0
 SomeIsNew place IsMade = (start : ℕ) × (code : List Instruction) × ((start ≡ place.unit.start) × IsMade code) × IsNewFrom place start code
 
@@ -75,7 +75,7 @@ NamesAt place change words code = WordsNameCode (context_at place) change place.
 abbrev pub GivesFirst : Unit → Type 0
 GivesFirst unit = (first last : PrimitiveTypeInfo) × (unit.takes ≡ takes.Two first last) × (unit.gives ≡ Some first)
 
--- the last operand has it, the only one or the second
+-- the last of one or two operands has it
 abbrev pub GivesLast : Unit → Type 0
 GivesLast unit = (type : PrimitiveTypeInfo) × (last_type unit.takes ≡ Some type) × (unit.gives ≡ Some type)
 
@@ -83,7 +83,7 @@ GivesLast unit = (type : PrimitiveTypeInfo) × (last_type unit.takes ≡ Some ty
 abbrev pub TakesTwins : Unit → Type 0
 TakesTwins unit = (type : PrimitiveTypeInfo) × (unit.takes ≡ takes.Two type type)
 
--- there is code to be copied, and it gives the same
+-- there is code to be copied, and it gives the same as the unit
 abbrev pub CopyGives : Place → Type 0
 CopyGives place = (0 < length place.copied.code.now) × (place.copied.gives ≡ Some place.unit.gives)
 

@@ -36,9 +36,10 @@ pub struct Changed {
 
 /// Whether the change makes anything of the operator, by these words for the code (see `change_of_words`).
 ///
-/// No code is made for it. It takes time by the number of rows for another operator, by the length of a function's type for another
-/// function, and by that of the code that is copied. Two operands, or two statements, that are to change places are compared if they
-/// are of one length, so that it takes a time of `n log n` at most to ask it of each of `n` operators.
+/// It makes no code. For another operator its time depends on the number of rows, for another function on the length of its type, and
+/// for a copy on the length of the copied code. Two operands or two statements that exchange places are compared only if they have the
+/// same length, so that all operators of a body of `n` operators together take a time of `n log n` at most. Every other change takes
+/// constant time.
 pub fn can_change(body: &Body<'_>, change: Change, at: usize, words: &[u64]) -> bool
     requires body { IsBody body.now }
     requires inside { at < length (body_operators_in body.now) }

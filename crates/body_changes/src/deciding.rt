@@ -13,7 +13,7 @@ use crate::kinds::operands::{exchange_is_new, gives_first, gives_last};
 use crate::kinds::operators::operator_instead;
 use crate::kinds::statements::turn_is_new;
 
-/// Whether the change makes anything new of the unit of the operator, by the words. No code is made for it.
+/// Whether the change makes anything new of the operator's unit, by the words. It makes no code.
 pub(crate) fn makes_new(place: &Place<'_>, change: Change, words: &[u64]) -> bool
     requires { IsPlace place.now }
     ensures { (most : ℕ) → 0 < most → (IsTrue result ↔ MakesNew place.now most words.now change) }

@@ -65,7 +65,7 @@ pub(crate) fn are_these(operators: &[OperatorAndByteOffset], code: &[Instr]) -> 
     true
 }
 
-/// Whether the operators are the same instructions, one by one. It takes time by the shorter ones.
+/// Whether both are the same instructions. Only lists of the same length are compared one by one.
 pub(crate) fn are_alike(some: &[OperatorAndByteOffset], others: &[OperatorAndByteOffset]) -> bool
     ensures { (code : List Instruction) → AreTheseInstructions some.now code
         → (IsTrue result ↔ AreTheseInstructions others.now code) }
@@ -87,7 +87,7 @@ pub(crate) fn are_alike(some: &[OperatorAndByteOffset], others: &[OperatorAndByt
     true
 }
 
-/// The instruction alone.
+/// That instruction alone, as code.
 pub(crate) fn only(alloc: Global, instr: Instr) -> Result<Vec<Instr>, AllocError>
     ensures { IfOk result (λ code. code.items ≡ instr ∷ []) }
 {

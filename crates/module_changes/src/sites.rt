@@ -19,7 +19,7 @@ pub struct Site {
     pub change: Change,
 }
 
-// Adds the operator with each of the changes that makes anything of it, by no words. No code is made for it (see `can_change`).
+// Adds the operator with each of the changes that makes anything of it, by no words. It makes no code (see `can_change`).
 fn add_sites(
     body: &Body<'_>,
     changes: &[Change],
@@ -68,8 +68,8 @@ fn function_sites(
 /// anything there, in the order of the operators and of the changes. Nothing is copied by it, so that `Change::Copy` has none; and a
 /// function that can't be read has none.
 ///
-/// It takes, for each change and operator, the time of `can_change`: all in all time linear in the body, but for operands and statements
-/// that are to change places (`n log n`). The only error: an allocation was refused.
+/// It takes the time of `can_change` for each change and operator: linear in the body for each change, and `n log n` for exchanged
+/// operands and statements. The only error: an allocation was refused.
 pub fn sites_of(
     alloc: Global,
     bytes: &[u8],

@@ -6,6 +6,7 @@ use module_changes::{
     ChangeAt, ChangedModule, Refusal, Scope, Site, SpliceRefusal, Unwatched, change_at,
     change_module, sites_of, splice_module,
 };
+use std::alloc::{AllocError, Global};
 use std::test::Fail;
 use wasm_module::{ModuleError, ModuleFault, read_module};
 
@@ -39,6 +40,10 @@ const BOTH_AS_SUM: &[u8] = b"\0asm\x01\0\0\0\x01\x05\x01\x60\0\x01\x7f\x03\x03\x
 /// `i32.const 1; drop; i32.const 2; drop; nop; end`
 const DROPS: &[u8] = b"\0asm\x01\0\0\0\x01\x04\x01\x60\0\0\x03\x02\x01\0\
     \x0a\x0b\x01\x09\0\x41\x01\x1a\x41\x02\x1a\x01\x0b";
+
+/// `i32.const 1; i32.const 1; i32.add; i32.const 1; i32.const 2; i32.add; i32.add; drop; nop; nop; end`
+const SUMS: &[u8] = b"\0asm\x01\0\0\0\x01\x04\x01\x60\0\0\x03\x02\x01\0\x0a\x12\x01\x10\0\
+    \x41\x01\x41\x01\x6a\x41\x01\x41\x02\x6a\x6a\x1a\x01\x01\x0b";
 
 /// `end`
 const DROPS_GONE: &[u8] =
@@ -239,30 +244,64 @@ fn changes_operators_that_are_named(rt: HostRuntime) -> Result<(), Fail> {
     Ok(())
 }
 
+/// Whether the sites of the module's only function, by these changes, are those.
+fn has_sites(
+    alloc: Global,
+    bytes: &[u8],
+    changes: &[Change],
+    wanted: &[(usize, Change)],
+) -> Result<bool, AllocError> {
+    let Ok(module) = read_module(alloc, bytes) else {
+        return Ok(false);
+    };
+    if module.layout.entries.len() != 1 {
+        return Ok(false);
+    }
+    let sites = sites_of(alloc, bytes, &module, 0, changes)?;
+    if sites.len() != wanted.len() {
+        return Ok(false);
+    }
+    for (site, (operator, change)) in sites.iter().zip(wanted) {
+        let other = Site {
+            operator: *operator,
+            change: *change,
+        };
+        if *site != other {
+            return Ok(false);
+        }
+    }
+    Ok(true)
+}
+
 #[test]
 fn lists_sites(rt: HostRuntime) -> Result<(), Fail> {
     let alloc = rt.alloc();
-    let Ok(module) = read_module(alloc, DROPS) else {
-        return Err("no module".into());
-    };
-    assert!(rt; module.layout.entries.len() == 1);
-    let sites = sites_of(alloc, DROPS, &module, 0, &[Change::Delete, Change::Draw])?;
-    let wanted = [
+    let values = [
         (0, Change::Draw),
         (1, Change::Delete),
         (2, Change::Draw),
         (3, Change::Delete),
         (4, Change::Delete),
     ];
-    assert!(rt; sites.len() == wanted.len());
-    for (site, (operator, change)) in sites.iter().zip(&wanted) {
-        assert!(rt;
-            *site
-                == Site {
-                    operator: *operator,
-                    change: *change
-                }
-        );
-    }
+    assert!(rt; has_sites(alloc, DROPS, &[Change::Delete, Change::Draw], &values)?);
+    // The operands of the first sum are the same, and the last two statements are.
+    let places = [
+        (2, Change::FirstOperand),
+        (2, Change::LastOperand),
+        (5, Change::FirstOperand),
+        (5, Change::LastOperand),
+        (5, Change::ExchangeOperands),
+        (6, Change::FirstOperand),
+        (6, Change::LastOperand),
+        (6, Change::ExchangeOperands),
+        (8, Change::ExchangeStatements),
+    ];
+    let changes = [
+        Change::FirstOperand,
+        Change::LastOperand,
+        Change::ExchangeOperands,
+        Change::ExchangeStatements,
+    ];
+    assert!(rt; has_sites(alloc, SUMS, &changes, &places)?);
     Ok(())
 }

@@ -149,8 +149,8 @@ fn index_of(own: &Instr, kind: Indexed) -> Option<u32>
     }
 }
 
-/// The same instruction with the index of the thing that the first word names, modulo their number, where that is another one of the type.
-/// It takes time by the length of a function's type.
+/// The same instruction with the index that the first word names, modulo the number of such things, if that is another one of the same
+/// type. The time for a function depends on the length of its type.
 pub(crate) fn access_instead(place: &Place<'_>, kind: Indexed, words: &[u64]) -> Option<Instr>
     requires { IsPlace place.now }
     ensures made { IfSome result (λ other. (code : List Instruction)
@@ -175,7 +175,7 @@ pub(crate) fn access_instead(place: &Place<'_>, kind: Indexed, words: &[u64]) ->
     Some(instr(own.row(), Imm::Index(other)))
 }
 
-/// That instruction behind the same operands.
+/// The same operands, and after them that instruction.
 pub(crate) fn other_access(
     alloc: Global,
     place: &Place<'_>,

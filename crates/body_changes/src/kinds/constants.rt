@@ -158,7 +158,7 @@ pub(crate) fn constant_instead(place: &Place<'_>, words: &[u64]) -> Option<Instr
     Some(other_than(t, &own, drawn))
 }
 
-/// The code that is that constant.
+/// That constant as code.
 pub(crate) fn other_constant(
     alloc: Global,
     place: &Place<'_>,

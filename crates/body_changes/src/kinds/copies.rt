@@ -17,7 +17,7 @@ fn give_same(known: Option<Option<PrimitiveTypeInfo>>, gives: Option<PrimitiveTy
     known == Some(gives)
 }
 
-// Whether there is any code to be copied, and it gives the same.
+// Whether there is code to be copied, and it gives the same as the unit.
 fn copy_gives(place: &Place<'_>) -> bool
     ensures { IsTrue result ↔ CopyGives place.now }
 {
@@ -27,7 +27,7 @@ fn copy_gives(place: &Place<'_>) -> bool
     give_same(place.copied.gives, place.unit.gives)
 }
 
-/// Whether that is so, and other code stands there. It takes time by the code that is copied.
+/// Whether a copy gives the same as the unit, and isn't the code of the unit. The time depends on the length of the copied code.
 pub(crate) fn copy_is_new(place: &Place<'_>) -> bool
     requires { IsPlace place.now }
     ensures { IsTrue result ↔ SomeIsNew place.now (MakesCopy place.now.copied.code.now) }

@@ -14,7 +14,7 @@ use std::alloc::{AllocError, Global};
 use wasm_code::Instr;
 use wasm_types::PrimitiveTypeInfo;
 
-/// A constant that isn't the operator, where the unit gives a value that is no reference: so it is no code that ends with that.
+/// A constant that isn't the operator, if the unit gives a value that is no reference. No code that ends with the operator is the same.
 pub(crate) fn value_instead(place: &Place<'_>) -> Option<Instr>
     requires { IsPlace place.now }
     ensures made { IfSome result (λ other. (most : ℕ) → 0 < most
@@ -30,21 +30,6 @@ pub(crate) fn value_instead(place: &Place<'_>) -> Option<Instr>
         return None;
     };
     Some(distinct(t, &own))
-}
-
-// The code that is that constant.
-fn constant_behind(alloc: Global, place: &Place<'_>) -> Result<Option<Vec<Instr>>, AllocError>
-    requires { IsPlace place.now }
-    ensures made { IfOk result (λ o. IfSome o (λ code. (most : ℕ) → 0 < most
-        → MakesDrawn most place.now.unit code.items)) }
-    ensures new { IfOk result (λ o. IfSome o (λ code. IsNewAt place.now code.items)) }
-    ensures none { IfOk result (λ o. IfNone o ((most : ℕ) (code : List Instruction)
-        → ¬ (MakesDrawn most place.now.unit code))) }
-{
-    match value_instead(place) {
-        Some(other) => Ok(Some(only(alloc, other)?)),
-        None => Ok(None),
-    }
 }
 
 /// A value drawn by the words, of at most `most` instructions, where the unit gives one that is no reference; where what they draw stands
@@ -73,11 +58,14 @@ pub(crate) fn drawn(
         locals: place.source.locals,
     };
     let code = code_of_words(alloc, &scope, t, most, words)?;
-    if are_these(
+    if !are_these(
         &place.source.operators[place.unit.start..place.at + 1],
         &code,
     ) {
-        return constant_behind(alloc, place);
+        return Ok(Some(code));
     }
-    Ok(Some(code))
+    match value_instead(place) {
+        Some(other) => Ok(Some(only(alloc, other)?)),
+        None => Ok(None),
+    }
 }

@@ -106,7 +106,7 @@ pub(crate) fn memory_instead(place: &Place<'_>, words: &[u64]) -> Option<Instr>
     Some(instr(own.row(), imm))
 }
 
-/// That load or store behind the same operands.
+/// The same operands, and after them that load or store.
 pub(crate) fn other_memory(
     alloc: Global,
     place: &Place<'_>,

@@ -11,7 +11,7 @@ use std::alloc::{AllocError, Global};
 use wasm_code::Instr;
 use wasm_types::PrimitiveTypeInfo;
 
-/// Whether the operator gives the type of the first of two operands.
+/// Whether there are two operands, and the operator gives the type of the first one.
 pub(crate) fn gives_first(unit: Unit) -> bool
     ensures { IsTrue result ↔ GivesFirst unit }
 {
@@ -52,7 +52,7 @@ fn last_type(takes: Takes) -> Option<PrimitiveTypeInfo>
     }
 }
 
-/// Whether the operator gives the type of the only operand, or of the second one.
+/// Whether there are one or two operands, and the operator gives the type of the last one.
 pub(crate) fn gives_last(unit: Unit) -> bool
     ensures { IsTrue result ↔ GivesLast unit }
 {
@@ -89,7 +89,7 @@ fn takes_twins(unit: Unit) -> bool
     }
 }
 
-/// Whether there are two operands of one type, and not the same code twice. It takes time by the shorter one.
+/// Whether there are two operands of one type that aren't the same code. The time depends on the length of the shorter one.
 pub(crate) fn exchange_is_new(place: &Place<'_>) -> bool
     requires { IsPlace place.now }
     ensures { IsTrue result ↔ SomeIsNew place.now

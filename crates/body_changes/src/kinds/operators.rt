@@ -52,8 +52,8 @@ fn other_on(scope: &Scope<'_>, takes: Takes, own: &Instr, word: u64) -> Option<I
     }
 }
 
-/// Another operator of the same types, where there are one or two operands: that of the row with the word's number, where it is one, and
-/// else each as likely as any other.
+/// Another operator of the same types, if there are one or two operands: the one of the row that the word names, if it is such an
+/// operator, and otherwise each with the same probability.
 pub(crate) fn operator_instead(place: &Place<'_>, words: &[u64]) -> Option<Instr>
     requires { IsPlace place.now }
     ensures made { IfSome result (λ other. (code : List Instruction)
@@ -81,7 +81,7 @@ pub(crate) fn operator_instead(place: &Place<'_>, words: &[u64]) -> Option<Instr
     Some(other)
 }
 
-/// That operator behind the same operands.
+/// The same operands, and after them that operator.
 pub(crate) fn other_behind(
     alloc: Global,
     place: &Place<'_>,

@@ -45,7 +45,7 @@ pub(crate) fn doubled(alloc: Global, place: &Place<'_>) -> Result<Option<Vec<Ins
     Ok(Some(code))
 }
 
-// The unit of the operator right before this one's, where neither leaves a value.
+// The unit that ends right before this one, if neither leaves a value.
 fn statement_before(place: &Place<'_>) -> Option<Unit>
     requires { IsPlace place.now }
     ensures some { IfSome result (λ before. IsStatementBefore place.now before) }
@@ -61,7 +61,7 @@ fn statement_before(place: &Place<'_>) -> Option<Unit>
     }
 }
 
-/// Whether a statement stands right before it, and not the same one. It takes time by the shorter one.
+/// Whether the statement right before it is another one. The time depends on the length of the shorter one.
 pub(crate) fn turn_is_new(place: &Place<'_>) -> bool
     requires { IsPlace place.now }
     ensures { (most : ℕ) (words : List ℕ) → (IsTrue result

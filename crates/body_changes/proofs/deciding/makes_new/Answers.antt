@@ -5,12 +5,15 @@ use Rattle.body_changes.proofs.NewLemmas.{never_new}
 use Rattle.body_changes.proofs.deciding.makes_new.Goals as goal
 
 pub returns-in-Constant : goal.returns-in-Constant
-returns-in-Constant c = λ most some. rw c.in-Constant.is (alone_decided c.args.place.now c.requires c.is_some.result c.constant_instead.result _ c.is_some.ensures
+returns-in-Constant c = λ most some.
+    rw c.in-Constant.is (alone_decided c.args.place.now c.requires c.is_some.result c.constant_instead.result _ c.is_some.ensures
     c.constant_instead.ensures.made c.constant_instead.ensures.new c.constant_instead.ensures.none)
 
 pub returns-in-Operator : goal.returns-in-Operator
-returns-in-Operator c = λ most some. rw c.in-Operator.is (behind_decided c.args.place.now c.requires c.is_some-in-Operator.result c.operator_instead.result _
-    c.is_some-in-Operator.ensures c.operator_instead.ensures.made c.operator_instead.ensures.new (never_new c.operator_instead.result _ (IsNewAt c.args.place.now) c.operator_instead.ensures.none))
+returns-in-Operator c = λ most some.
+    rw c.in-Operator.is (behind_decided c.args.place.now c.requires c.is_some-in-Operator.result c.operator_instead.result _
+    c.is_some-in-Operator.ensures c.operator_instead.ensures.made c.operator_instead.ensures.new
+    (never_new c.operator_instead.result _ (IsNewAt c.args.place.now) c.operator_instead.ensures.none))
 
 pub returns-in-Local : goal.returns-in-Local
 returns-in-Local c = λ most some. rw c.in-Local.is (behind_decided c.args.place.now c.requires c.is_some-in-Local.result c.access_instead.result _
@@ -42,7 +45,8 @@ pub returns-in-ExchangeStatements : goal.returns-in-ExchangeStatements
 returns-in-ExchangeStatements c = λ most some. rw c.in-ExchangeStatements.is (c.turn_is_new.ensures most c.args.words.now)
 
 pub returns-in-Global : goal.returns-in-Global
-returns-in-Global c = λ most some. rw c.in-Global.is (behind_decided c.args.place.now c.requires c.is_some-in-Global.result c.access_instead-in-Global.result _
+returns-in-Global c = λ most some.
+    rw c.in-Global.is (behind_decided c.args.place.now c.requires c.is_some-in-Global.result c.access_instead-in-Global.result _
     c.is_some-in-Global.ensures c.access_instead-in-Global.ensures.made c.access_instead-in-Global.ensures.new c.access_instead-in-Global.ensures.none)
 
 pub returns-in-Call : goal.returns-in-Call
@@ -50,5 +54,7 @@ returns-in-Call c = λ most some. rw c.in-Call.is (behind_decided c.args.place.n
     c.is_some-in-Call.ensures c.access_instead-in-Call.ensures.made c.access_instead-in-Call.ensures.new c.access_instead-in-Call.ensures.none)
 
 pub returns-in-MemoryArgument : goal.returns-in-MemoryArgument
-returns-in-MemoryArgument c = λ most some. rw c.in-MemoryArgument.is (behind_decided c.args.place.now c.requires c.is_some-in-MemoryArgument.result c.memory_instead.result _
-    c.is_some-in-MemoryArgument.ensures c.memory_instead.ensures.made c.memory_instead.ensures.new (never_new c.memory_instead.result _ (IsNewAt c.args.place.now) c.memory_instead.ensures.none))
+returns-in-MemoryArgument c = λ most some.
+    rw c.in-MemoryArgument.is (behind_decided c.args.place.now c.requires c.is_some-in-MemoryArgument.result c.memory_instead.result _
+    c.is_some-in-MemoryArgument.ensures c.memory_instead.ensures.made c.memory_instead.ensures.new
+    (never_new c.memory_instead.result _ (IsNewAt c.args.place.now) c.memory_instead.ensures.none))

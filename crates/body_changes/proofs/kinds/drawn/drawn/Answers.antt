@@ -1,6 +1,5 @@
--- It is made wherever there is such a value.
-use Rattle.body_changes.proofs.ChangingLemmas.{on_none}
+-- None is drawn only where none could be.
 use Rattle.body_changes.proofs.kinds.drawn.drawn.Goals as goal
 
-pub returns-then-are_these-clause-none : goal.returns-then-are_these-clause-none
-returns-then-are_these-clause-none c = on_none c.constant_behind.result (λ never. never c.args.most) c.constant_behind.ensures.none
+pub returns-clause-none : goal.returns-clause-none
+returns-clause-none c = (rw c.in-None.is at c.value_instead.ensures.none) c.args.most
