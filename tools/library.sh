@@ -41,7 +41,7 @@ save
 end
 END
 
-mapfile -t calls < <(sed -n 's/^[a-z].*[ *]\(teddertempo_[a-z_]*\)(.*/\1/p' "$root/include/teddertempo.h")
+mapfile -t calls < <(sed -n '/^static /d; s/^[a-z].*[ *]\(teddertempo_[a-z_]*\)(.*/\1/p' "$root/include/teddertempo.h")
 printf '{ global: %s local: *; };\n' "$(printf '%s; ' "${calls[@]}")" > calls.map
 "${CC:-cc}" -shared "${calls[@]/#/-Wl,-u,}" libteddertempo.a -Wl,-soname,libteddertempo.so.1,--version-script=calls.map,--gc-sections,-z,defs \
     -o libteddertempo.so.1

@@ -1,5 +1,5 @@
 -- What a call that reports leaves in the buffer, and what it reports.
-use Rattle.std.proofs.Common.{◌≡◌, ℕ, ◌<◌, ◌≤◌, inl, inr, List, length, take, Result, Ok, Err, refl, sym, ap, subst, ◌∙◌, arith}
+use Rattle.std.proofs.Common.{◌≡◌, ◌↔◌, ℕ, ◌<◌, ◌≤◌, inl, inr, false, true, List, length, take, Result, Ok, Err, refl, sym, ap, subst, ◌∙◌, arith}
 use Rattle.std.specs.Prelude.{IfErr, IfOk, IsTrue, MatchResult}
 use Rattle.std.proofs.lemmas.Bool.{cases_lt}
 use Rattle.std.proofs.lemmas.List.{length-take-le}
@@ -80,6 +80,11 @@ module _ (IsDone IsNothing : Type 0) (IsOutcome : (offset : ℕ) → Outcome →
   }
 
 -- ---- the call
+
+-- neither of the tests says that it is bad
+pub good_call : (Bad : Type 0) (size : ℕ) (old : List ℕ) → size ≤ length old → IsTrue false ↔ Bad → ¬ (IsBadCall Bad size old)
+good_call Bad size old inside is (inl outside) = omega (arith, inside, outside)
+good_call Bad size old inside is (inr bad) = let e : false ≡ true = is.1 bad in absurd cc
 
 module _ (Bad : Type 0) (size : ℕ) (old : List ℕ) (good : ¬ (IsBadCall Bad size old)) where
   inside_of : size ≤ length old

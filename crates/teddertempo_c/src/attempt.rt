@@ -127,7 +127,7 @@ fn report_of_rewrites(made: &[MadeRewrite]) -> Report
 }
 
 /// The module that the first `size` bytes of the buffer are, rewritten as the options say, and the report on it, or why nothing of it is.
-#[tactic(auto, using(crate::proofs::ReportedLemmas::none_bad, crate::proofs::ReportedLemmas::none_memory))]
+#[tactic(auto, using(crate::proofs::ReportedLemmas::none_bad, crate::proofs::RefusalLemmas::none_memory))]
 pub fn attempt(
     alloc: Global,
     buffer: &[u8],

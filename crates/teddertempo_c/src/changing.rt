@@ -105,7 +105,7 @@ pub(crate) fn report_of_changes(made: &[MadeChange]) -> Report
 }
 
 // The module that the first `size` bytes of the buffer are, changed as the options say, and the report on it, or why nothing of it is.
-#[tactic(auto, using(crate::proofs::ReportedLemmas::none_bad, crate::proofs::ReportedLemmas::none_memory))]
+#[tactic(auto, using(crate::proofs::ReportedLemmas::none_bad, crate::proofs::ChangeReportsLemmas::none_memory))]
 fn attempt(
     alloc: Global,
     buffer: &[u8],

@@ -124,9 +124,7 @@ fn names_no_rule(words: &[u64; 16]) -> bool
 pub fn is_misused(growth: u64, flags: u64, known: u64, reserved: &[u64]) -> bool
     ensures { IsTrue result ↔ IsMisused growth flags known reserved.now }
 {
-    flags & known != flags
-        || (has_flag(flags, NO_GROWTH) && growth != 0)
-        || !are_zero(reserved)
+    flags & known != flags || (has_flag(flags, NO_GROWTH) && growth != 0) || !are_zero(reserved)
 }
 
 /// Whether the options are refused: for a reason of `is_misused`, or since a bit is set that is no rule's.

@@ -12,6 +12,7 @@ use module_changes::change_at;
 use std::alloc::Global;
 
 // The module that the first `size` bytes of the buffer are, changed there, and the report on it, or why it isn't.
+#[tactic(auto, using(crate::proofs::ReportedLemmas::none_bad))]
 fn attempt(alloc: Global, buffer: &[u8], size: usize, place: &Place) -> Result<Made, Refusal>
     ensures made { IfOk result (IsMade (IsChangedSo place.now size buffer.now)
         (IsBadCall (IsBad place.now) size buffer.now) (length buffer.now)) }

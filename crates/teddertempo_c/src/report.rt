@@ -34,13 +34,7 @@ pub struct Made {
 }
 
 /// The report with these fields.
-pub fn report_of(
-    outcome: Outcome,
-    kind: u32,
-    function: usize,
-    made: usize,
-    offset: usize,
-) -> Report
+pub fn report_of(outcome: Outcome, kind: u32, function: usize, made: usize, offset: usize) -> Report
     ensures { result ≡ report_of outcome kind function made offset }
 {
     Report {

@@ -90,8 +90,9 @@ pub fn list_sites(
     }
     match rows_in(alloc, bytes, options) {
         Ok(rows) => {
-            *report = report_of(Outcome::Done, 0, 0, rows.len(), 0);
-            hold_rows(&rows, room)
+            let count = hold_rows(&rows, room);
+            *report = report_of(Outcome::Done, 0, 0, count, 0);
+            count
         }
         Err(reason) => {
             *report = report_on(refusal_by(reason));

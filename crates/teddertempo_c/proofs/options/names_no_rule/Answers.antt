@@ -13,10 +13,9 @@ returns-then-has_bit c =
     ((λ yes. (number, low, inside, is)), (λ some. refl))
 
 pub returns : goal.returns
-returns c =
-    (
-      (λ never. absurd cc),
-      (λ some.
+returns c = (
+  (λ never. absurd cc),
+  (λ some.
       let before : some.0 < c.loop-number.number = let inside = some.2 in omega (arith, inside, c.told-words, c.loop-number-test.false) in
       let e : false ≡ true = sym (c.loop-number.invariant some.0 some.1 before) ∙ some.3 in absurd cc),
-    )
+)
