@@ -10,7 +10,7 @@
 # and built first, which needs a Rattle kit. JOBS is how many run at a time (as many as there are cores). PLANTED_SOURCES, PLANTED_BUILD
 # and COVERAGE_BUILD are handed on: where the engines aren't built there yet, half an hour of a core comes on top.
 # Needs what each script says: of Debian wabt, binaryen, clang, libclang-rt-14-dev, llvm-14, afl++, cargo, rustc, cmake, ninja-build,
-# patch, pkg-config, nodejs and Python 3, and a line `deb-src` in the sources of apt.
+# patch, pkg-config, nodejs, Python 3, mypy and python3-pytest, and a line `deb-src` in the sources of apt.
 set -euo pipefail
 cd "$(dirname "$0")/.."
 
@@ -24,11 +24,11 @@ changes tests/changes.sh 40
 chained tests/chained.sh 2
 examples AFL_SECONDS=20 examples/run.sh 2
 coverage tests/coverage.sh 60
-reduce_program tests/reduce.py
-diff tests/diff.py
+driver tests/driver.sh
 files tests/files.sh
 rules tests/rules.sh
 package tests/package.sh
+readme tests/readme.sh
 refused_memory tests/refused_memory.sh"
 
 # Names of the table that are asked for, with their commands.

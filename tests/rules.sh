@@ -1,7 +1,8 @@
 #!/usr/bin/env bash
-# Compares docs/RULES.md with the rules that the program lists, in each form. The last line is `N passed, N failed`.
+# Compares docs/RULES.md with the rules that the program lists, in each form, and the number of rules in every document that has it. The
+# last line is `N passed, N failed`.
 #
-# Usage: rules.sh [PROGRAM]. The program is teddertempo; where neither an argument nor the variable TEDDERTEMPO names one, it is
+# Usage: rules.sh [PROGRAM]. The program is teddertempo; if neither an argument nor the variable TEDDERTEMPO names one, it is
 # proved and built from crates/teddertempo.
 set -euo pipefail
 export LC_ALL=C
@@ -23,9 +24,9 @@ fi
 passed=0
 failed=0
 
-# Compares two files, and says what they are.
-judge() {
-    if diff "$2" "$3" > "$work/difference"; then
+# Runs a command, and counts whether it succeeds.
+check() {
+    if "${@:2}" > "$work/difference" 2>&1; then
         passed=$((passed + 1))
     else
         failed=$((failed + 1))
@@ -34,18 +35,15 @@ judge() {
     fi
 }
 
-TEDDERTEMPO=$program tools/rules.sh "$work/rules.md"
-judge "docs/RULES.md isn't what tools/rules.sh writes" docs/RULES.md "$work/rules.md"
+export TEDDERTEMPO=$program
+check "tools/rules.sh would change documents" tools/rules.sh --check
 
-# Number, name, growth and need of each rule, by each form; and how many rules the text of docs/RULES.md counts.
+# Number, name, growth and need of each rule, by each form.
 sed -n 's/^| \([0-9]*\) | `\([a-z_0-9]*\)` | \([a-z]*\) |\( `--exact`\)\{0,1\} | .*/\1 \2 \3\4/p' docs/RULES.md | tr -d '`' > "$work/table"
 "$program" --list-rules | grep '^[0-9]' > "$work/text"
 "$program" --list-rules=json | sed 's/^{"exact":\([a-z]*\),"growth":"\([a-z]*\)","lines":.*,"name":"\([a-z_0-9]*\)","number":\([0-9]*\)}$/\4 \3 \2 \1/; s/ false$//; s/ true$/ --exact/' > "$work/objects"
-judge "docs/RULES.md and --list-rules have other rules" "$work/table" "$work/text"
-judge "docs/RULES.md and --list-rules=json have other rules" "$work/table" "$work/objects"
-sed -n 's/^\([0-9]*\) rules, each by its name\..*/\1/p' docs/RULES.md > "$work/counted"
-wc -l < "$work/text" | tr -d ' ' > "$work/count"
-judge "docs/RULES.md counts other rules" "$work/counted" "$work/count"
+check "docs/RULES.md and --list-rules have other rules" diff "$work/table" "$work/text"
+check "docs/RULES.md and --list-rules=json have other rules" diff "$work/table" "$work/objects"
 
 echo "$passed passed, $failed failed"
 [ "$failed" -eq 0 ]

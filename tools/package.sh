@@ -31,6 +31,7 @@ need gzip gzip
 need strip binutils
 need objdump binutils
 need dpkg-deb dpkg
+need python3 python3
 need "${CC:-cc}" gcc
 if [ "$(uname -sm)" != "Linux x86_64" ]; then fail "makes packages for x86-64 Linux, and runs there alone"; fi
 if [ -z "${TEDDERTEMPO_BIN:-}" ] || [ -z "${TEDDERTEMPO_LIB:-}" ]; then
@@ -84,7 +85,7 @@ fill() {
 lay_out_pages() {
     local pages=$1/share/man/man1 date dose
     date=$(date -u -d "@$SOURCE_DATE_EPOCH" +%Y-%m-%d)
-    dose=$(sed -n 's/^USUAL_DOSE = "\(.*\)"$/\1/p' driver/teddertempo_diff/command.py)
+    dose=$(sed -n 's/^USUAL_DOSE = "\(.*\)"$/\1/p' driver/teddertempo/running/command.py)
     mkdir -p "$pages"
     fill teddertempo.1.in "DATE=$date" > "$pages/teddertempo.1"
     fill teddertempo-diff.1.in "DATE=$date" "DOSE=$dose" > "$pages/teddertempo-diff.1"
@@ -120,17 +121,22 @@ lay_out_libraries() {
     strip --strip-unneeded "$folder/libteddertempo.so.0" "$folder/teddertempo/teddertempo-afl.so"
 }
 
+# The driver and the reducer: what starts them, and their Python package with its version.
+lay_out_tools() {
+    local share=$1/share/teddertempo
+    cp driver/teddertempo-{diff,reduce} "$1/bin/"
+    tar -C driver --exclude=__pycache__ -cf - teddertempo | tar -C "$share" -xf -
+    cp VERSION "$share/"
+}
+
 # Lays out the files in a folder, with the library in the one of it that is named; then the prefix for teddertempo.pc, and the folder
 # of zsh's completions.
 lay_out() {
     local root=$1 library=$2 prefix=$3 zsh=$4
-    mkdir -p "$root"/{bin,include,share/teddertempo/{examples,teddertempo_diff,teddertempo_reduce/passes}} "$root/$library/pkgconfig"
+    mkdir -p "$root"/{bin,include,share/teddertempo/examples} "$root/$library/pkgconfig"
     cp "$TEDDERTEMPO_BIN"/{teddertempo,peephole_run} "$root/bin/"
     strip --strip-unneeded "$root"/bin/*
-    cp driver/teddertempo-{diff,reduce} "$root/bin/"
-    cp driver/teddertempo_diff/*.{py,cjs} "$root/share/teddertempo/teddertempo_diff/"
-    cp driver/teddertempo_reduce/*.py "$root/share/teddertempo/teddertempo_reduce/"
-    cp driver/teddertempo_reduce/passes/*.py "$root/share/teddertempo/teddertempo_reduce/passes/"
+    lay_out_tools "$root"
     cp tests/modules/{hashes,mixes,numbers,sorting,text}.wasm "$root/share/teddertempo/examples/"
     lay_out_libraries "$root/$library"
     cp include/teddertempo.h "$root/include/"

@@ -167,10 +167,11 @@ afl_mutator_runs() {
     for module in made/*.wasm; do is_valid "$module" || return 1; done
 }
 
-# The driver finds nothing in an engine that says nothing, and the rewrite where an engine says how long a module is.
+# The driver has the version, finds nothing in an engine that says nothing, and the rewrite where an engine says how long a module is.
 driver_runs() {
     local driver=$1 status=0
     rm -rf found none
+    test "$("$driver" --version)" = "teddertempo-diff $version" || return 1
     "$driver" --seeds 3 --dose 5 -o none numbers.wasm -- true || return 1
     "$driver" --seeds 3 --dose 5 --first -o found numbers.wasm -- wc -c @@ || status=$?
     test "$status" -eq 1 && grep '^function' found/0001-*/rewrite.txt && cmp found/0001-*/original.wasm numbers.wasm
@@ -182,10 +183,11 @@ driver_runs_on() {
     "$1" --seeds 5 -o found numbers.wasm -- "$2"
 }
 
-# The reducer leaves the bytes that a predicate looks for, and tells a predicate that doesn't accept the module.
+# The reducer has the version, leaves the bytes that a predicate looks for, and tells a predicate that doesn't accept the module.
 reducer_runs() {
     local reducer=$1 status=0
     rm -f small.wasm
+    test "$("$reducer" --version)" = "teddertempo-reduce $version" || return 1
     "$reducer" --quiet -o small.wasm numbers.wasm -- grep -q memory || return 1
     grep -q memory small.wasm && test "$(wc -c < small.wasm)" -lt 30 && is_valid small.wasm || return 1
     "$reducer" -o none.wasm numbers.wasm -- false || status=$?

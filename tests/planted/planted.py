@@ -24,14 +24,14 @@ TOP = Path(__file__).resolve().parents[2]
 sys.path.insert(0, str(TOP / "driver"))
 sys.dont_write_bytecode = True
 
-from teddertempo_diff.campaign import Campaign, Listener, Settings, Subject, find_modules  # noqa: E402
-from teddertempo_diff.command import dose  # noqa: E402
-from teddertempo_diff.engines import Spectest  # noqa: E402
-from teddertempo_diff.interface import Interface  # noqa: E402
-from teddertempo_diff.mutator import Choice, Mutator  # noqa: E402
-from teddertempo_diff.outcomes import Answer, difference_of  # noqa: E402
-from teddertempo_diff.running import Runner  # noqa: E402
-from teddertempo_diff.store import Store  # noqa: E402
+from teddertempo.engines.engine import Spectest  # noqa: E402
+from teddertempo.engines.interface import Interface  # noqa: E402
+from teddertempo.engines.outcomes import Answer, difference_of  # noqa: E402
+from teddertempo.findings.store import Store  # noqa: E402
+from teddertempo.running.campaign import Campaign, Listener, Settings, Subject, find_modules  # noqa: E402
+from teddertempo.running.command import dose  # noqa: E402
+from teddertempo.running.mutator import Choice, Mutator  # noqa: E402
+from teddertempo.running.processes import Runner  # noqa: E402
 
 CALLS = 12
 PIPELINES = ("-O1", "-O2", "-O3", "-Oz")

@@ -18,6 +18,8 @@ for_each_version() {
     "$@" "the comment on the number in $library" \
         "$(sed -n 's|^/// The version as a number: 0x[0-9a-f]* for \([0-9.]*\)\.$|\1|p' $library)"
     "$@" "$program" "$(sed -n 's/^ *\.version("\(.*\)")$/\1/p' $program)"
+    "$@" "teddertempo-diff --version" "$(python3 driver/teddertempo-diff --version | sed -n 's/^teddertempo-diff \([0-9.]*\)$/\1/p')"
+    "$@" "teddertempo-reduce --version" "$(python3 driver/teddertempo-reduce --version | sed -n 's/^teddertempo-reduce \([0-9.]*\)$/\1/p')"
     "$@" "examples/rust/Cargo.toml" "$(sed -n 's/^version = "\(.*\)"$/\1/p' examples/rust/Cargo.toml)"
     "$@" "examples/rust/Cargo.lock" "$(sed -n '/^name = "teddertempo"$/{n;s/^version = "\(.*\)"$/\1/p}' examples/rust/Cargo.lock)"
     "$@" "CHANGELOG.md" "$(sed -n 's/^## \([0-9][0-9.]*\).*/\1/p' CHANGELOG.md | head -1)"

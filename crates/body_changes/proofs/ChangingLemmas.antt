@@ -1,7 +1,7 @@
 -- What is made of an operator, and which operator and which change come first.
 use Rattle.std.proofs.Common.{◌≡◌, ℕ, ◌+◌, ◌%◌, ◌<◌, ◌≤◌, ◌⊎◌, inl, inr, List, length, drop, Option, Some, None, Result, Ok, Err, sym, ap}
 use Rattle.std.proofs.Common.{subst, ◌∙◌, mod-lt, arith}
-use Rattle.std.specs.Prelude.{get_or, slice_get, IfNone, IfOk, IfSome}
+use Rattle.std.specs.Prelude.{◌↔◌, get_or, slice_get, Bool, IfNone, IfOk, IfSome, IsTrue}
 use Rattle.std.proofs.lemmas.Bool.{cases_lt}
 use Rattle.std.proofs.lemmas.Option.{same_Some}
 use Rattle.wasm_code.specs.Instruction.{Instruction}
@@ -13,7 +13,7 @@ use Rattle.body_changes.specs.declared.units.Unit.{Unit}
 use Rattle.body_changes.specs.Body.{context_in_body, material_in, body_operators_in, ChangesIn, ChangesSome, IsBody, IsFound, IsNumbered}
 use Rattle.body_changes.specs.Chosen.{behind, before, ChoosesChange, IsFirstFrom, NoneWithin}
 use Rattle.body_changes.specs.Kinds.{IsChange, ChangeMakes, WordsNameCode}
-use Rattle.body_changes.specs.Proposals.{IsNewFrom, IsPlace, MakesAtPlace, NamesAt}
+use Rattle.body_changes.specs.Proposals.{IsNewFrom, IsPlace, MakesAtPlace, MakesNew, NamesAt}
 use Rattle.body_changes.specs.Units.{IsUnit}
 use Rattle.body_changes.proofs.EndLemmas.{no_unit_there, unit_there}
 use Rattle.body_changes.proofs.OneUnitLemmas.{one_unit}
@@ -50,6 +50,12 @@ module _ (body : Body) (is : IsBody body) (at : ℕ) (inside : at < length (body
     pub none_made : ((start : ℕ) (code : List Instruction) → MakesAtPlace (place_in body at unit) body.most words change start code →
         IsNewFrom (place_in body at unit) start code → ⊥) → ChangesIn body words change at → ⊥
     none_made never (start, code, c) = never start code (made_here start code c) c.new
+
+    pub changes_here : (b : Bool) → (IsTrue b ↔ MakesNew (place_in body at unit) body.most words change) → IsTrue b ↔ ChangesIn body words change at
+    changes_here b decided = (
+      λ f. let (start, code, makes, new) = decided.0 f in (start, code, record { unit = unit; is = there.is; makes = makes; new = new }),
+      λ k. decided.1 (k.0, k.1, made_here k.0 k.1 k.2, k.2.new),
+    )
 
     pub is_found : (c : Changed) → c.change ≡ change → c.at ≡ at → MakesAtPlace (place_in body at unit) body.most words change c.start c.code.items →
         IsNewFrom (place_in body at unit) c.start c.code.items →

@@ -23,3 +23,5 @@ pub mod BehindLemmas
 pub mod AccessLemmas
 pub mod MemoryLemmas
 pub mod BeyondLemmas
+pub mod OrderLemmas
+pub mod NewLemmas

@@ -1,8 +1,9 @@
 -- What is proposed for an operator's unit. For private functions (this project).
-use Rattle.std.specs.Prelude.{◌≡◌, ◌≢◌, ◌+◌, ◌<◌, ℕ, Bool, List, length, None, slice_get}
+use Rattle.std.specs.Prelude.{◌≡◌, ◌≢◌, ◌+◌, ◌<◌, ℕ, Bool, List, length, None, Some, slice_get}
 use Rattle.wasm_code.specs.Instruction.{Instruction}
 use Rattle.wasm_code.specs.declared.operator.Operator.{Operator}
 use Rattle.wasm_types.specs.Module.{function_type}
+use Rattle.wasm_types.specs.declared.types.PrimitiveTypeInfo.{PrimitiveTypeInfo}
 use Rattle.wasm_execution.specs.Values.{Context}
 use Rattle.body_changes.specs.declared.change.Change.{Change}
 use Rattle.body_changes.specs.declared.kinds.Place.{Place}
@@ -10,8 +11,10 @@ use Rattle.body_changes.specs.declared.kinds.accesses.Indexed.{Indexed}
 use Rattle.body_changes.specs.declared.kinds.accesses.Indexed.TheVariants as indexed
 use Rattle.body_changes.specs.Copied.{IsGiven}
 use Rattle.body_changes.specs.Drawing.{is_local_row}
-use Rattle.body_changes.specs.Kinds.{is_call_row, is_global_row, named_of, HaveOneType, IsNew, ChangeMakes, MakesIndexed, Material, WordsNameCode, Stand}
+use Rattle.body_changes.specs.Kinds.{is_call_row, is_global_row, last_type, named_of, HaveOneType, IsBehindOperands, IsNew, ChangeMakes, MakesIndexed}
+use Rattle.body_changes.specs.Kinds.{Material, WordsNameCode, Stand}
 use Rattle.body_changes.specs.Replacing.{source_context}
+use Rattle.body_changes.specs.declared.units.Takes.TheVariants as takes
 use Rattle.body_changes.specs.declared.units.Unit.{Unit}
 use Rattle.body_changes.specs.Units.{AreUnits, IsUnit}
 
@@ -51,12 +54,42 @@ IsNewFrom place start code = IsNew (context_at place) (operators_of place) start
 abbrev pub IsNewAt : Place → List Instruction → Type 0
 IsNewAt place code = IsNewFrom place place.unit.start code
 
+-- the instruction stands there behind the unit's operands
+abbrev pub IsBehindAt : Place → (other : Instruction) → List Instruction → Type 0
+IsBehindAt place other code = IsBehindOperands (operators_of place) place.at place.unit other code
+
+-- such code is new in the place of the unit
+abbrev pub SomeIsNew : Place → (IsMade : List Instruction → Type 0) → Type 0
+SomeIsNew place IsMade = (start : ℕ) × (code : List Instruction) × ((start ≡ place.unit.start) × IsMade code) × IsNewFrom place start code
+
+-- the change makes something new
+abbrev pub MakesNew : Place → (most : ℕ) → (words : List ℕ) → Change → Type 0
+MakesNew place most words change =
+    (start : ℕ) × (code : List Instruction) × MakesAtPlace place most words change start code × IsNewFrom place start code
+
 -- the words name this code
 abbrev pub NamesAt : Place → Change → (words : List ℕ) → List Instruction → Type 0
 NamesAt place change words code = WordsNameCode (context_at place) change place.unit words code
 
--- That unit ends right before this one, and leaves no value.
+-- the first of two operands has the type that the operator gives
+abbrev pub GivesFirst : Unit → Type 0
+GivesFirst unit = (first last : PrimitiveTypeInfo) × (unit.takes ≡ takes.Two first last) × (unit.gives ≡ Some first)
+
+-- the last operand has it, the only one or the second
+abbrev pub GivesLast : Unit → Type 0
+GivesLast unit = (type : PrimitiveTypeInfo) × (last_type unit.takes ≡ Some type) × (unit.gives ≡ Some type)
+
+-- two operands are of one type
+abbrev pub TakesTwins : Unit → Type 0
+TakesTwins unit = (type : PrimitiveTypeInfo) × (unit.takes ≡ takes.Two type type)
+
+-- there is code to be copied, and it gives the same
+abbrev pub CopyGives : Place → Type 0
+CopyGives place = (0 < length place.copied.code.now) × (place.copied.gives ≡ Some place.unit.gives)
+
+-- That unit ends right before this one, and neither leaves a value.
 pub record IsStatementBefore (place : Place) (before : Unit) : Type 0 where
+  pub own_gives : place.unit.gives ≡ None
   pub last : ℕ
   pub right_before : last + 1 ≡ place.unit.start
   pub is : IsUnit (context_at place) (operators_of place) last before

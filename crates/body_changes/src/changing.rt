@@ -1,10 +1,11 @@
 //! Which change of a body words choose.
-ghost use Rattle.std.specs.Prelude.{◌≡◌, ◌+◌, ◌<◌, ◌≤◌, Some, length, slice_get, IfNone, IfOk, IfSome};
+ghost use Rattle.std.specs.Prelude.{◌≡◌, ◌↔◌, ◌+◌, ◌<◌, ◌≤◌, Some, length, slice_get, IfNone, IfOk, IfSome, IsTrue};
 ghost use Rattle.body_changes.specs.Body.{context_in_body, material_in, body_operators_in, ChangesIn, ChangesSome, IsBody, IsFound, IsNumbered};
 ghost use Rattle.body_changes.specs.Chosen.{ChangesNone, ChoosesChange, IsFirstFrom, NoneWithin};
 
 use crate::change::Change;
 use crate::copied::Copied;
+use crate::deciding::makes_new;
 use crate::drawing::{named, word_at, words_from};
 use crate::kinds::{Place, Proposal};
 use crate::proposing::made_of;
@@ -31,6 +32,29 @@ pub struct Changed {
     pub at: usize,
     pub start: usize,
     pub code: Vec<Instr>,
+}
+
+/// Whether the change makes anything of the operator, by these words for the code (see `change_of_words`).
+///
+/// No code is made for it. It takes time by the number of rows for another operator, by the length of a function's type for another
+/// function, and by that of the code that is copied. Two operands, or two statements, that are to change places are compared if they
+/// are of one length, so that it takes a time of `n log n` at most to ask it of each of `n` operators.
+pub fn can_change(body: &Body<'_>, change: Change, at: usize, words: &[u64]) -> bool
+    requires body { IsBody body.now }
+    requires inside { at < length (body_operators_in body.now) }
+    ensures { IsTrue result ↔ ChangesIn body.now words.now change at }
+{
+    let Some(unit) = body.units[at] else {
+        return false;
+    };
+    let place = Place {
+        source: body.source,
+        units: body.units,
+        at,
+        unit,
+        copied: body.copied,
+    };
+    makes_new(&place, change, words)
 }
 
 // What the change makes of the operator, by these words for the code.

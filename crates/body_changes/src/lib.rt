@@ -8,6 +8,7 @@ mod changing;
 mod choosing;
 mod constants;
 mod copied;
+mod deciding;
 mod drawing;
 mod goal;
 mod kinds;
@@ -24,7 +25,7 @@ mod units;
 mod variables;
 
 pub use change::{CHANGES, Change};
-pub use changing::{Body, Changed, change_last, change_of_words};
+pub use changing::{Body, Changed, can_change, change_last, change_of_words};
 pub use constants::is_drawable;
 pub use copied::{Copied, ask_types_alone, copied_into, unit_named};
 pub use drawing::code_of_words;

@@ -1,5 +1,5 @@
 //! The instructions that operators of a body are.
-ghost use Rattle.std.specs.Prelude.{◌↔◌, ◌≡◌, ◌<◌, List, length, IfOk, IfNone, IfSome, IsTrue};
+ghost use Rattle.std.specs.Prelude.{◌↔◌, ◌≡◌, ◌<◌, List, [], ◌∷◌, length, IfOk, IfNone, IfSome, IsTrue};
 ghost use Rattle.wasm_code.specs.Instruction.{Instruction};
 ghost use Rattle.body_changes.specs.Replacing.{AreTheseInstructions, HasInstruction};
 
@@ -63,4 +63,35 @@ pub(crate) fn are_these(operators: &[OperatorAndByteOffset], code: &[Instr]) -> 
         }
     }
     true
+}
+
+/// Whether the operators are the same instructions, one by one. It takes time by the shorter ones.
+pub(crate) fn are_alike(some: &[OperatorAndByteOffset], others: &[OperatorAndByteOffset]) -> bool
+    ensures { (code : List Instruction) → AreTheseInstructions some.now code
+        → (IsTrue result ↔ AreTheseInstructions others.now code) }
+{
+    if some.len() != others.len() {
+        return false;
+    }
+    for i in 0..some.len() {
+        let Some(one) = instr_at(some, i) else {
+            return false;
+        };
+        let Some(other) = instr_at(others, i) else {
+            return false;
+        };
+        if !are_equal(&one, &other) {
+            return false;
+        }
+    }
+    true
+}
+
+/// The instruction alone.
+pub(crate) fn only(alloc: Global, instr: Instr) -> Result<Vec<Instr>, AllocError>
+    ensures { IfOk result (λ code. code.items ≡ instr ∷ []) }
+{
+    let mut code = Vec::new(alloc);
+    code.push(instr)?;
+    Ok(code)
 }

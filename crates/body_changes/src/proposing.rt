@@ -1,11 +1,10 @@
 //! What a change makes of an operator's unit, where it makes anything.
-ghost use Rattle.std.specs.Prelude.{◌≡◌, ◌<◌, ◌≤◌, ℕ, false, List, None, is_some, length, IfNone, IfOk, IfSome, IsTrue};
+ghost use Rattle.std.specs.Prelude.{◌≡◌, ◌<◌, ℕ, List, None, is_some, IfNone, IfOk, IfSome, IsTrue};
 ghost use Rattle.wasm_code.specs.Instruction.{Instruction};
-ghost use Rattle.body_changes.specs.Kinds.{IsNewWithin};
 ghost use Rattle.body_changes.specs.Proposals.{IsNewFrom, IsPlace, MakesAtPlace, NamesAt};
-ghost use Rattle.body_changes.specs.Replacing.{source_context};
 
 use crate::change::Change;
+use crate::deciding::makes_new;
 use crate::kinds::accesses::{Indexed, other_access};
 use crate::kinds::constants::other_constant;
 use crate::kinds::copies::copied;
@@ -15,11 +14,7 @@ use crate::kinds::operands::{exchanged, first_operand, last_operand};
 use crate::kinds::operators::other_behind;
 use crate::kinds::statements::{deleted, doubled, turned};
 use crate::kinds::{Place, Proposal};
-use crate::own::are_these;
-use crate::replacing::can_replace;
-use crate::source::Source;
 use std::alloc::{AllocError, Global};
-use std::ops::Range;
 use wasm_code::Instr;
 
 // Code in the place of the unit, where there is any.
@@ -78,26 +73,6 @@ fn propose(
     }
 }
 
-// Whether the code may stand in the place of the operators in the range, and isn't what stands there. What has another length isn't.
-fn is_new(
-    alloc: Global,
-    source: &Source<'_>,
-    range: Range<usize>,
-    code: &[Instr],
-) -> Result<bool, AllocError>
-    requires inside { range.end ≤ length source.now.operators.now }
-    requires some { range.start < range.end }
-    ensures new { IfOk result (λ b. IsTrue b → IsNewWithin (source_context source.now)
-        source.now.operators.now range.start range.end code.now) }
-    ensures never { IfOk result (λ b. b ≡ false → ¬ (IsNewWithin (source_context source.now)
-        source.now.operators.now range.start range.end code.now)) }
-{
-    if are_these(&source.operators[range.start..range.end], code) {
-        return Ok(false);
-    }
-    can_replace(alloc, source, range, code)
-}
-
 /// What the change makes of the unit of the operator, where that is new; some words name what. None only where it makes nothing new.
 pub(crate) fn made_of(
     alloc: Global,
@@ -118,13 +93,8 @@ pub(crate) fn made_of(
         → MakesAtPlace place.now most words.now change start code → IsNewFrom place.now start code
         → NamesAt place.now change words.now code → p.code.items ≡ code)) }
 {
-    let Some(proposal) = propose(alloc, place, most, change, words)? else {
+    if !makes_new(place, change, words) {
         return Ok(None);
-    };
-    let range = proposal.start..place.at + 1;
-    if is_new(alloc, &place.source, range, &proposal.code)? {
-        Ok(Some(proposal))
-    } else {
-        Ok(None)
     }
+    propose(alloc, place, most, change, words)
 }

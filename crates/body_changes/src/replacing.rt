@@ -43,9 +43,9 @@ pub fn types_in_place(
     types_of_code(alloc, source.locals, source.info, &own)
 }
 
-/// Whether the code may stand in the place of the operators in the range: they are instructions, at least one, that need nothing from
-/// what stands before them, and so is the code, which leaves values of the same types. The only error: an allocation was refused.
-pub(crate) fn can_replace(
+// Whether the code may stand in the place of the operators in the range: they are instructions, at least one, that need nothing from
+// what stands before them, and so is the code, which leaves values of the same types. The only error: an allocation was refused.
+fn can_replace(
     alloc: Global,
     source: &Source<'_>,
     range: Range<usize>,

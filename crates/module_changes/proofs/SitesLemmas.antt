@@ -1,5 +1,5 @@
 -- The sites of a function, one behind another.
-use Rattle.std.proofs.Common.{◌≡◌, ℕ, ◌+◌, ◌<◌, ◌≤◌, List, [], ◌∷◌, ◌++◌, length, take, get_or, refl, sym, ap, ◌∙◌, subst, append_assoc, append-nil, arith}
+use Rattle.std.proofs.Common.{◌≡◌, ℕ, ◌+◌, ◌<◌, List, [], ◌∷◌, ◌++◌, length, take, get_or, refl, sym, ap, ◌∙◌, subst, append_assoc, append-nil}
 use Rattle.std.proofs.lemmas.List.{map_more}
 use Rattle.wasm_code.specs.Instruction.{Instruction}
 use Rattle.wasm_code.specs.declared.operator.Operator.{Operator}
@@ -32,18 +32,12 @@ module _ (Makes : Change → ℕ → Type 0) (changes : List Change) (operator :
         ∙ sym (append_assoc items (sites_at (take k changes) operator) (one (get_or changes k d) ∷ []))
 
     -- one change more, which makes something
-    pub adds_one : (old sites new : List Site) (change : Change) (at : ℕ) → AddsSites Makes (take k changes) operator old sites → operator ≤ at →
-        at < operator + 1 → change ≡ get_or changes k d → Makes change at → new ≡ sites ++ record { operator = at; change = change } ∷ [] →
-        AddsSites Makes (take (k + 1) changes) operator old new
-    adds_one old sites new change at h low high same makes e items are =
-        let here : at ≡ operator = omega (arith, low, high) in
-        let own : Makes (get_or changes k d) operator = subst (λ (c : Change). Makes c operator) same (subst (Makes change) here makes) in
-        let site_is : (record { operator = at; change = change }) ≡ one (get_or changes k d) =
-        ap (λ (o : ℕ). record { operator = o; change = change }) here ∙ ap one same in
+    pub adds_one : (old sites new : List Site) → AddsSites Makes (take k changes) operator old sites → Makes (get_or changes k d) operator →
+        new ≡ sites ++ one (get_or changes k d) ∷ [] → AddsSites Makes (take (k + 1) changes) operator old new
+    adds_one old sites new h makes e items are =
         subst (λ (xs : List Site). AreThose (IsSite Makes) xs new) (sym (next_sites items))
-        (subst (AreThose (IsSite Makes) ((items ++ sites_at (take k changes) operator) ++ one (get_or changes k d) ∷ []))
-        (sym (e ∙ ap (λ (x : Site). sites ++ x ∷ []) site_is))
-        (those_with (IsSite Makes) (items ++ sites_at (take k changes) operator) (one (get_or changes k d)) sites (h items are) own))
+        (subst (AreThose (IsSite Makes) ((items ++ sites_at (take k changes) operator) ++ one (get_or changes k d) ∷ [])) (sym e)
+        (those_with (IsSite Makes) (items ++ sites_at (take k changes) operator) (one (get_or changes k d)) sites (h items are) makes))
 
     -- or nothing
     pub adds_nothing : (old sites : List Site) → AddsSites Makes (take k changes) operator old sites → (Makes (get_or changes k d) operator → ⊥) →

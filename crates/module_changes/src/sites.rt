@@ -5,7 +5,7 @@ ghost use Rattle.body_changes.specs.Replacing.{source_context};
 ghost use Rattle.wasm_module.specs.Module.{IsModule};
 ghost use Rattle.module_changes.specs.Sites.{AddsSites, AreSites, AreSitesOf};
 
-use body_changes::{Body, Change, Source, change_last, copied_into, units_of};
+use body_changes::{Body, Change, Source, can_change, copied_into, units_of};
 use module_rewrites::read_function;
 use std::alloc::{AllocError, Global};
 use wasm_module::Module;
@@ -19,9 +19,8 @@ pub struct Site {
     pub change: Change,
 }
 
-// Adds the operator with each of the changes that makes anything of it, by no words.
+// Adds the operator with each of the changes that makes anything of it, by no words. No code is made for it (see `can_change`).
 fn add_sites(
-    alloc: Global,
     body: &Body<'_>,
     changes: &[Change],
     operator: usize,
@@ -33,12 +32,9 @@ fn add_sites(
         sites.old.items sites.new.items) }
 {
     for change in changes {
-        let range = operator..operator + 1;
-        if let Some(made) = change_last(alloc, body, *change, range, &[])? {
-            sites.push(Site {
-                operator: made.at,
-                change: made.change,
-            })?;
+        let change = *change;
+        if can_change(body, change, operator, &[]) {
+            sites.push(Site { operator, change })?;
         }
     }
     Ok(())
@@ -63,7 +59,7 @@ fn function_sites(
     };
     let mut sites = Vec::new(alloc);
     for operator in 0..source.operators.len() {
-        add_sites(alloc, &body, changes, operator, &mut sites)?;
+        add_sites(&body, changes, operator, &mut sites)?;
     }
     Ok(sites)
 }
@@ -72,8 +68,8 @@ fn function_sites(
 /// anything there, in the order of the operators and of the changes. Nothing is copied by it, so that `Change::Copy` has none; and a
 /// function that can't be read has none.
 ///
-/// It takes, for each change, time linear in the body and in the code that ends with each of its operators. The only error: an allocation
-/// was refused.
+/// It takes, for each change and operator, the time of `can_change`: all in all time linear in the body, but for operands and statements
+/// that are to change places (`n log n`). The only error: an allocation was refused.
 pub fn sites_of(
     alloc: Global,
     bytes: &[u8],

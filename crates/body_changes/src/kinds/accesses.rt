@@ -4,7 +4,7 @@ ghost use Rattle.wasm_code.specs.Instruction.{Instruction};
 ghost use Rattle.wasm_types.specs.Module.{function_type};
 ghost use Rattle.body_changes.specs.Goals.{indexed};
 ghost use Rattle.body_changes.specs.Kinds.{HaveOneType};
-ghost use Rattle.body_changes.specs.Proposals.{context_at, indexed_count_in, is_row_of, named_in, IndexedAreOfOneType, IsAnother, IsNewAt, IsPlace, MakesOther};
+ghost use Rattle.body_changes.specs.Proposals.{context_at, indexed_count_in, is_row_of, named_in, IndexedAreOfOneType, IsAnother, IsBehindAt, IsNewAt, IsPlace, MakesOther};
 
 use crate::constants::instr;
 use crate::drawing::{named, word_at};
@@ -149,8 +149,33 @@ fn index_of(own: &Instr, kind: Indexed) -> Option<u32>
     }
 }
 
-/// The same instruction with the index of the thing that the first word names, modulo their number, where that is another one of the type,
-/// behind the same operands. It takes time by the length of a function's type.
+/// The same instruction with the index of the thing that the first word names, modulo their number, where that is another one of the type.
+/// It takes time by the length of a function's type.
+pub(crate) fn access_instead(place: &Place<'_>, kind: Indexed, words: &[u64]) -> Option<Instr>
+    requires { IsPlace place.now }
+    ensures made { IfSome result (λ other. (code : List Instruction)
+        → IsBehindAt place.now other code → MakesOther place.now kind words.now code) }
+    ensures new { IfSome result (λ other. (code : List Instruction)
+        → IsBehindAt place.now other code → IsNewAt place.now code) }
+    ensures none { IfNone result ((code : List Instruction)
+        → MakesOther place.now kind words.now code → ¬ (IsNewAt place.now code)) }
+    ensures only { IfSome result (λ other. (code : List Instruction)
+        → IsBehindAt place.now other code → (c : List Instruction)
+        → MakesOther place.now kind words.now c → code ≡ c) }
+{
+    let Some(own) = instr_at(place.source.operators, place.at) else {
+        return None;
+    };
+    let Some(index) = index_of(&own, kind) else {
+        return None;
+    };
+    let Some(other) = other_index(place, kind, index as usize, words) else {
+        return None;
+    };
+    Some(instr(own.row(), Imm::Index(other)))
+}
+
+/// That instruction behind the same operands.
 pub(crate) fn other_access(
     alloc: Global,
     place: &Place<'_>,
@@ -166,14 +191,8 @@ pub(crate) fn other_access(
     ensures only { IfOk result (λ o. IfSome o (λ code. (c : List Instruction)
         → MakesOther place.now kind words.now c → code.items ≡ c)) }
 {
-    let Some(own) = instr_at(place.source.operators, place.at) else {
+    let Some(other) = access_instead(place, kind, words) else {
         return Ok(None);
     };
-    let Some(index) = index_of(&own, kind) else {
-        return Ok(None);
-    };
-    let Some(other) = other_index(place, kind, index as usize, words) else {
-        return Ok(None);
-    };
-    behind_operands(alloc, place, instr(own.row(), Imm::Index(other)))
+    behind_operands(alloc, place, other)
 }

@@ -1,5 +1,5 @@
 //! Another constant in the place of one.
-ghost use Rattle.std.specs.Prelude.{◌≡◌, ◌≢◌, ◌/◌, ◌%◌, ◌^◌, ◌<◌, ◌≤◌, false, List, Some, IfNone, IfOk, IfSome, IsTrue};
+ghost use Rattle.std.specs.Prelude.{◌≡◌, ◌≢◌, ◌/◌, ◌%◌, ◌^◌, ◌<◌, ◌≤◌, false, List, [], ◌∷◌, Some, IfNone, IfOk, IfSome, IsTrue};
 ghost use Rattle.wasm_code.specs.Instruction.{Instruction, IsInstruction};
 ghost use Rattle.wasm_types.specs.declared.types.PrimitiveTypeInfo.{PrimitiveTypeInfo};
 ghost use Rattle.body_changes.specs.declared.change.Change.TheVariants.{Constant};
@@ -12,7 +12,7 @@ use crate::constants::{constant, constant_row};
 use crate::drawing::first_words;
 use crate::goal::Words;
 use crate::kinds::Place;
-use crate::own::{are_equal, instr_at};
+use crate::own::{are_equal, instr_at, only};
 use std::alloc::{AllocError, Global};
 use wasm_code::{Imm, Instr};
 use wasm_types::PrimitiveTypeInfo;
@@ -134,6 +134,31 @@ fn drawn_constant(t: PrimitiveTypeInfo, own: &Instr, words: Words) -> Instr
 }
 
 /// Another constant of its type, where the operator is one: that of the words, and where it is that one already, 0 or 1.
+pub(crate) fn constant_instead(place: &Place<'_>, words: &[u64]) -> Option<Instr>
+    requires { IsPlace place.now }
+    ensures made { IfSome result (λ other.
+        MakesConstant (operators_of place.now) place.now.at place.now.unit (other ∷ [])) }
+    ensures new { IfSome result (λ other. IsNewAt place.now (other ∷ [])) }
+    ensures none { IfNone result ((code : List Instruction)
+        → ¬ (MakesConstant (operators_of place.now) place.now.at place.now.unit code)) }
+    ensures named { IfSome result (λ other. (c : List Instruction)
+        → MakesConstant (operators_of place.now) place.now.at place.now.unit c
+        → IsNewAt place.now c → NamesAt place.now Constant words.now c → other ∷ [] ≡ c) }
+{
+    let Some(t) = number_type(place.unit.gives) else {
+        return None;
+    };
+    let Some(own) = instr_at(place.source.operators, place.at) else {
+        return None;
+    };
+    if own.row() != constant_row(t) {
+        return None;
+    }
+    let drawn = drawn_constant(t, &own, first_words(words));
+    Some(other_than(t, &own, drawn))
+}
+
+/// The code that is that constant.
 pub(crate) fn other_constant(
     alloc: Global,
     place: &Place<'_>,
@@ -149,17 +174,8 @@ pub(crate) fn other_constant(
         → MakesConstant (operators_of place.now) place.now.at place.now.unit c
         → IsNewAt place.now c → NamesAt place.now Constant words.now c → code.items ≡ c)) }
 {
-    let Some(t) = number_type(place.unit.gives) else {
-        return Ok(None);
-    };
-    let Some(own) = instr_at(place.source.operators, place.at) else {
-        return Ok(None);
-    };
-    if own.row() != constant_row(t) {
-        return Ok(None);
+    match constant_instead(place, words) {
+        Some(other) => Ok(Some(only(alloc, other)?)),
+        None => Ok(None),
     }
-    let other = other_than(t, &own, drawn_constant(t, &own, first_words(words)));
-    let mut code = Vec::new(alloc);
-    code.push(other)?;
-    Ok(Some(code))
 }

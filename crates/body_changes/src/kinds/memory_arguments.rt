@@ -3,7 +3,7 @@ ghost use Rattle.std.specs.Prelude.{◌≡◌, ◌≢◌, ◌+◌, ◌%◌, ◌^
 ghost use Rattle.wasm_code.specs.Instruction.{Instruction};
 ghost use Rattle.wasm_code.specs.declared.immediate.MemArg.{MemArg as Argument};
 ghost use Rattle.body_changes.specs.Kinds.{memory_argument, with_argument, AsksNoGreater, MakesMemoryArgument, NamesArgument};
-ghost use Rattle.body_changes.specs.Proposals.{operators_of, IsNewAt, IsPlace};
+ghost use Rattle.body_changes.specs.Proposals.{operators_of, IsBehindAt, IsNewAt, IsPlace};
 
 use crate::constants::{instr, low_half, whole};
 use crate::drawing::first_words;
@@ -80,7 +80,33 @@ fn other_argument(own: MemArg, words: Words) -> MemArg
     }
 }
 
-/// The same load or store with another offset and alignment, behind the same operands: those that the first three words name.
+/// The same load or store with another offset and alignment: those that the first three words name.
+pub(crate) fn memory_instead(place: &Place<'_>, words: &[u64]) -> Option<Instr>
+    requires { IsPlace place.now }
+    ensures made { IfSome result (λ other. (code : List Instruction)
+        → IsBehindAt place.now other code → MakesMemoryArgument (operators_of place.now)
+        place.now.at place.now.unit code) }
+    ensures new { IfSome result (λ other. (code : List Instruction)
+        → IsBehindAt place.now other code → IsNewAt place.now code) }
+    ensures none { IfNone result ((code : List Instruction) → ¬ (MakesMemoryArgument
+        (operators_of place.now) place.now.at place.now.unit code)) }
+    ensures named { IfSome result (λ other. (code : List Instruction)
+        → IsBehindAt place.now other code → (c : List Instruction)
+        → MakesMemoryArgument (operators_of place.now) place.now.at place.now.unit c
+        → IsNewAt place.now c → NamesArgument words.now c → code ≡ c) }
+{
+    let Some(own) = instr_at(place.source.operators, place.at) else {
+        return None;
+    };
+    let Some(argument) = memory_argument(own.imm()) else {
+        return None;
+    };
+    let other = other_argument(argument, first_words(words));
+    let imm = with_argument(other, own.imm());
+    Some(instr(own.row(), imm))
+}
+
+/// That load or store behind the same operands.
 pub(crate) fn other_memory(
     alloc: Global,
     place: &Place<'_>,
@@ -96,13 +122,8 @@ pub(crate) fn other_memory(
         → MakesMemoryArgument (operators_of place.now) place.now.at place.now.unit c
         → IsNewAt place.now c → NamesArgument words.now c → code.items ≡ c)) }
 {
-    let Some(own) = instr_at(place.source.operators, place.at) else {
+    let Some(other) = memory_instead(place, words) else {
         return Ok(None);
     };
-    let Some(argument) = memory_argument(own.imm()) else {
-        return Ok(None);
-    };
-    let other = other_argument(argument, first_words(words));
-    let imm = with_argument(other, own.imm());
-    behind_operands(alloc, place, instr(own.row(), imm))
+    behind_operands(alloc, place, other)
 }

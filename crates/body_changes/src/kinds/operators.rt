@@ -3,9 +3,9 @@ ghost use Rattle.std.specs.Prelude.{◌≡◌, List, Some, is_some, IfNone, IfOk
 ghost use Rattle.wasm_code.specs.Instruction.{Instruction};
 ghost use Rattle.body_changes.specs.declared.change.Change.TheVariants.{Operator};
 ghost use Rattle.body_changes.specs.Goals.{context_for};
-ghost use Rattle.body_changes.specs.Kinds.{operand_types, IsBehindOperands, MakesOperator};
+ghost use Rattle.body_changes.specs.Kinds.{operand_types, MakesOperator};
 ghost use Rattle.body_changes.specs.Others.{IsOther};
-ghost use Rattle.body_changes.specs.Proposals.{context_at, operators_of, IsNewAt, IsPlace, NamesAt};
+ghost use Rattle.body_changes.specs.Proposals.{context_at, operators_of, IsBehindAt, IsNewAt, IsPlace, NamesAt};
 
 use crate::drawing::word_at;
 use crate::kinds::Place;
@@ -23,8 +23,7 @@ pub(crate) fn behind_operands(
     other: Instr,
 ) -> Result<Option<Vec<Instr>>, AllocError>
     requires { IsPlace place.now }
-    ensures made { IfOk result (λ o. IfSome o (λ code. IsBehindOperands (operators_of place.now)
-        place.now.at place.now.unit other code.items)) }
+    ensures made { IfOk result (λ o. IfSome o (λ code. IsBehindAt place.now other code.items)) }
     ensures some { IfOk result (λ o. IsTrue (is_some o)) }
 {
     let Some(mut code) = instrs_of(alloc, &place.source.operators[place.unit.start..place.at])?
@@ -53,8 +52,36 @@ fn other_on(scope: &Scope<'_>, takes: Takes, own: &Instr, word: u64) -> Option<I
     }
 }
 
-/// Another operator of the same types behind the same operands, where there are one or two: that of the row with the word's number,
-/// where it is one, and else each as likely as any other.
+/// Another operator of the same types, where there are one or two operands: that of the row with the word's number, where it is one, and
+/// else each as likely as any other.
+pub(crate) fn operator_instead(place: &Place<'_>, words: &[u64]) -> Option<Instr>
+    requires { IsPlace place.now }
+    ensures made { IfSome result (λ other. (code : List Instruction)
+        → IsBehindAt place.now other code → MakesOperator (context_at place.now)
+        (operators_of place.now) place.now.at place.now.unit code) }
+    ensures new { IfSome result (λ other. (code : List Instruction)
+        → IsBehindAt place.now other code → IsNewAt place.now code) }
+    ensures none { IfNone result ((code : List Instruction) → ¬ (MakesOperator
+        (context_at place.now) (operators_of place.now) place.now.at place.now.unit code)) }
+    ensures named { IfSome result (λ other. (code : List Instruction)
+        → IsBehindAt place.now other code → (c : List Instruction)
+        → MakesOperator (context_at place.now) (operators_of place.now) place.now.at
+        place.now.unit c → NamesAt place.now Operator words.now c → code ≡ c) }
+{
+    let Some(own) = instr_at(place.source.operators, place.at) else {
+        return None;
+    };
+    let scope = Scope {
+        info: place.source.info,
+        locals: place.source.locals,
+    };
+    let Some(other) = other_on(&scope, place.unit.takes, &own, word_at(words, 0)) else {
+        return None;
+    };
+    Some(other)
+}
+
+/// That operator behind the same operands.
 pub(crate) fn other_behind(
     alloc: Global,
     place: &Place<'_>,
@@ -71,14 +98,7 @@ pub(crate) fn other_behind(
         → MakesOperator (context_at place.now) (operators_of place.now) place.now.at
         place.now.unit c → NamesAt place.now Operator words.now c → code.items ≡ c)) }
 {
-    let Some(own) = instr_at(place.source.operators, place.at) else {
-        return Ok(None);
-    };
-    let scope = Scope {
-        info: place.source.info,
-        locals: place.source.locals,
-    };
-    let Some(other) = other_on(&scope, place.unit.takes, &own, word_at(words, 0)) else {
+    let Some(other) = operator_instead(place, words) else {
         return Ok(None);
     };
     behind_operands(alloc, place, other)

@@ -1,12 +1,13 @@
 //! Statements, which leave no value: gone, twice, or in another order.
-ghost use Rattle.std.specs.Prelude.{ℕ, List, IfNone, IfOk, IfSome};
+ghost use Rattle.std.specs.Prelude.{◌↔◌, ℕ, List, IfNone, IfOk, IfSome, IsTrue};
 ghost use Rattle.wasm_code.specs.Instruction.{Instruction};
+ghost use Rattle.body_changes.specs.declared.change.Change.TheVariants.{ExchangeStatements};
 ghost use Rattle.body_changes.specs.Kinds.{MakesNoCode, MakesTurned, MakesTwice};
 ghost use Rattle.body_changes.specs.declared.units.Unit.{Unit as UnitOf};
-ghost use Rattle.body_changes.specs.Proposals.{context_at, operators_of, IsPlace, IsStatementBefore};
+ghost use Rattle.body_changes.specs.Proposals.{context_at, operators_of, IsPlace, IsStatementBefore, MakesNew};
 
 use crate::kinds::{Place, Proposal};
-use crate::own::instrs_of;
+use crate::own::{are_alike, instrs_of};
 use crate::units::Unit;
 use std::alloc::{AllocError, Global};
 use wasm_code::Instr;
@@ -44,13 +45,13 @@ pub(crate) fn doubled(alloc: Global, place: &Place<'_>) -> Result<Option<Vec<Ins
     Ok(Some(code))
 }
 
-// The unit of the operator right before this one's, where it leaves no value.
+// The unit of the operator right before this one's, where neither leaves a value.
 fn statement_before(place: &Place<'_>) -> Option<Unit>
     requires { IsPlace place.now }
     ensures some { IfSome result (λ before. IsStatementBefore place.now before) }
     ensures none { IfNone result ((before : UnitOf) → ¬ (IsStatementBefore place.now before)) }
 {
-    if place.unit.start == 0 {
+    if place.unit.gives.is_some() || place.unit.start == 0 {
         return None;
     }
     let before = place.units[place.unit.start - 1]?;
@@ -58,6 +59,20 @@ fn statement_before(place: &Place<'_>) -> Option<Unit>
         Some(_) => None,
         None => Some(before),
     }
+}
+
+/// Whether a statement stands right before it, and not the same one. It takes time by the shorter one.
+pub(crate) fn turn_is_new(place: &Place<'_>) -> bool
+    requires { IsPlace place.now }
+    ensures { (most : ℕ) (words : List ℕ) → (IsTrue result
+        ↔ MakesNew place.now most words ExchangeStatements) }
+{
+    let Some(before) = statement_before(place) else {
+        return false;
+    };
+    let operators = place.source.operators;
+    let first = &operators[before.start..place.unit.start];
+    !are_alike(first, &operators[place.unit.start..place.at + 1])
 }
 
 /// Its code, and behind it that of the statement right before it.
@@ -69,9 +84,6 @@ pub(crate) fn turned(alloc: Global, place: &Place<'_>) -> Result<Option<Proposal
         → ¬ (MakesTurned (context_at place.now) (operators_of place.now) place.now.at
         place.now.unit start code))) }
 {
-    if place.unit.gives.is_some() {
-        return Ok(None);
-    }
     let Some(before) = statement_before(place) else {
         return Ok(None);
     };

@@ -1,57 +1,14 @@
--- The row takes the other memory argument, which gives the same and isn't the own one.
-use Rattle.std.proofs.Common.{◌≡◌, ℕ, List, Some, sym, ap, ap₂, ◌∙◌, subst}
-use Rattle.std.specs.Prelude.{IsTrue}
-use Rattle.wasm_code.specs.Instruction.{Instruction, fits_row}
-use Rattle.wasm_code.specs.Table.{row_at}
-use Rattle.wasm_code.specs.declared.immediate.Imm.{Imm}
-use Rattle.body_changes.specs.declared.goal.Words.{Words}
-use Rattle.body_changes.specs.Kinds.{access_with_argument, memory_argument, with_argument, IsBehindOperands, MakesMemoryArgument, NamesArgument}
-use Rattle.body_changes.specs.Proposals.{context_at, operators_of, IsNewAt}
-use Rattle.body_changes.proofs.MemoryLemmas.{argument_fits, named_memory, new_memory}
+-- The one that words name.
+use Rattle.std.proofs.Common.{◌≡◌, List}
+use Rattle.wasm_code.specs.Instruction.{Instruction}
+use Rattle.body_changes.specs.Kinds.{MakesMemoryArgument, NamesArgument}
+use Rattle.body_changes.specs.Proposals.{operators_of, IsBehindAt, IsNewAt}
 use Rattle.body_changes.proofs.PartLemmas.{ok_some_then}
 use Rattle.body_changes.proofs.kinds.memory_arguments.other_memory.Goals as goal
-
-pub instr-requires : goal.instr-requires
-instr-requires c =
-    let own = c.in-Some.own in
-    let other = c.other_argument-other.result in
-    let own_is : memory_argument own.imm ≡ Some c.in-Some-memory_argument.argument =
-    ap memory_argument (sym c.imm.ensures) ∙ (sym c.memory_argument.ensures ∙ c.in-Some-memory_argument.is) in
-    subst (λ (i : Imm). IsTrue (fits_row (row_at c.row.result) i)) (ap (with_argument other) (sym c.imm-2.ensures) ∙ sym c.with_argument-imm.ensures)
-    (subst (λ (n : ℕ). IsTrue (fits_row (row_at n) (with_argument other own.imm))) (sym c.row.ensures.row)
-    (argument_fits (row_at own.row) own.imm c.in-Some-memory_argument.argument other own_is c.other_argument-other.ensures.asks.align
-    c.row.ensures.instruction.kind))
-
-pub returns-clause-new : goal.returns-clause-new
-returns-clause-new c =
-    let place = c.args.place.now in
-    let own = c.in-Some.own in
-    let other = c.other_argument-other.result in
-    let own_is : memory_argument own.imm ≡ Some c.in-Some-memory_argument.argument =
-    ap memory_argument (sym c.imm.ensures) ∙ (sym c.memory_argument.ensures ∙ c.in-Some-memory_argument.is) in
-    let is : c.instr.result ≡ access_with_argument other own =
-    c.instr.ensures.is ∙ ap₂ (λ (n : ℕ) (i : Imm). let a : Instruction = record { row = n; imm = i } in a) c.row.ensures.row
-    (c.with_argument-imm.ensures ∙ ap (with_argument other) c.imm-2.ensures) in
-    ok_some_then c.behind_operands.result (λ code. IsBehindOperands (operators_of place) place.at place.unit c.instr.result code.items)
-    (λ code. IsNewAt place code.items) c.behind_operands.ensures.made
-    (λ code. new_memory (context_at place) (operators_of place) place.at place.unit c.requires.is own (rw c.in-Some.is at c.instr_at.ensures.some)
-    c.in-Some-memory_argument.argument own_is other c.other_argument-other.ensures.asks c.other_argument-other.ensures.differs c.instr.result is code.items)
 
 pub returns-clause-named : goal.returns-clause-named
 returns-clause-named c =
     let place = c.args.place.now in
-    let own = c.in-Some.own in
-    let other = c.other_argument-other.result in
-    let words = c.first_words.ensures in
-    let own_is : memory_argument own.imm ≡ Some c.in-Some-memory_argument.argument =
-    ap memory_argument (sym c.imm.ensures) ∙ (sym c.memory_argument.ensures ∙ c.in-Some-memory_argument.is) in
-    let is : c.instr.result ≡ access_with_argument other own =
-    c.instr.ensures.is ∙ ap₂ (λ (n : ℕ) (i : Imm). let a : Instruction = record { row = n; imm = i } in a) c.row.ensures.row
-    (c.with_argument-imm.ensures ∙ ap (with_argument other) c.imm-2.ensures) in
-    ok_some_then c.behind_operands.result (λ code. IsBehindOperands (operators_of place) place.at place.unit c.instr.result code.items)
+    ok_some_then c.behind_operands.result (λ code. IsBehindAt place c.in-Some.other code.items)
     (λ code. (others : List Instruction) → MakesMemoryArgument (operators_of place) place.at place.unit others → IsNewAt place others →
-    NamesArgument c.args.words.now others → code.items ≡ others) c.behind_operands.ensures.made
-    (λ code. named_memory (context_at place) (operators_of place) place.at place.unit c.requires.is own (rw c.in-Some.is at c.instr_at.ensures.some)
-    c.in-Some-memory_argument.argument own_is other c.args.words.now
-    (λ m asks differs kind offset align. c.other_argument-other.ensures.named m asks differs (ap (λ (w : Words). w.choice) words ∙ kind)
-    (ap (λ (w : Words). w.low) words ∙ offset) (ap (λ (w : Words). w.high) words ∙ align)) c.instr.result is code.items)
+    NamesArgument c.args.words.now others → code.items ≡ others) c.behind_operands.ensures.made (λ code. c.in-Some.ensures.named code.items)

@@ -1,5 +1,5 @@
 -- The unit in the list that ends right before this one.
-use Rattle.std.proofs.Common.{None}
+use Rattle.std.proofs.Common.{None, sym, ◌∙◌}
 use Rattle.body_changes.proofs.StatementLemmas.{no_statement, no_statement_given, statement_there}
 use Rattle.body_changes.proofs.kinds.statements.statement_before.Goals as goal
 
@@ -13,4 +13,5 @@ returns-in-Some-clause-none c =
 
 pub returns-in-None-clause-some : goal.returns-in-None-clause-some
 returns-in-None-clause-some c =
-    statement_there c.args.place.now None c.in_ok-before.before c.requires c.if-place-eq0.false c.in_ok-before.was c.in-None.is
+    statement_there c.args.place.now None c.in_ok-before.before c.requires c.if-place-eq0.false c.in_ok-before.was
+    (sym c.is_some.ensures ∙ c.if-is_some.false) c.in-None.is

@@ -1,0 +1,1 @@
+"""Findings: the folder that keeps them, their reports, and their reduction."""

@@ -1,0 +1,157 @@
+"""Judges candidates: by a validator, where there is one, and then by the predicate; none of equal bytes twice."""
+
+from __future__ import annotations
+
+import hashlib
+import queue
+import shutil
+import threading
+import time
+from concurrent.futures import Future
+from contextlib import contextmanager
+from dataclasses import dataclass
+from enum import Enum
+from pathlib import Path
+from typing import Iterator
+
+from ..running.processes import Runner, Stopped
+from .state import State
+
+# How long a validator may take.
+VALIDATOR_SECONDS = 60.0
+
+VALIDATORS = (("wasm-validate", "--enable-all"), ("wasm-tools", "validate"))
+
+
+class Failure(Exception):
+    """The reduction can't go on, and why."""
+
+
+class Exhausted(Exception):
+    """What the reduction may take is used up."""
+
+
+class Verdict(Enum):
+    """What came of a candidate."""
+
+    NOT_MADE = "not made"
+    KNOWN = "tried before"
+    INVALID = "not valid"
+    REFUSED = "not interesting"
+    ACCEPTED = "interesting"
+
+
+@dataclass(frozen=True)
+class Command:
+    """A command on a file, which stands for `@@` in its words, or last."""
+
+    words: tuple[str, ...]
+
+    def on(self, file: Path) -> list[str]:
+        if any("@@" in word for word in self.words):
+            return [word.replace("@@", str(file)) for word in self.words]
+        return [*self.words, str(file)]
+
+
+@dataclass(frozen=True)
+class Budget:
+    """How many runs of the predicate there may be, and until when."""
+
+    runs: int | None = None
+    deadline: float | None = None
+
+
+class Judge:
+    """Judges candidates, from several threads at once."""
+
+    def __init__(self, predicate: Command, runner: Runner, state: State, budget: Budget, folder: Path, jobs: int):
+        self.predicate = predicate
+        self.validator: Command | None = None
+        self.runner = runner
+        self.state = state
+        self.budget = budget
+        self.lock = threading.Lock()
+        self.under_way: dict[str, Future[bool]] = {}
+        self.runs = 0
+        self.known = 0
+        self.files: queue.SimpleQueue[Path] = queue.SimpleQueue()
+        for place in range(jobs):
+            own = folder / f"candidate-{place}"
+            own.mkdir()
+            self.files.put(own / "module.wasm")
+
+    def judge(self, data: bytes) -> tuple[bool, Verdict]:
+        """Whether a candidate is accepted, and how that is known. Where an equal one is under way, it is waited for."""
+        digest = hashlib.sha256(data).hexdigest()
+        with self.lock:
+            self.stop_in_time()
+            known = self.state.outcome(digest)
+            waited_for = self.under_way.get(digest)
+            if known is None and waited_for is None:
+                own: Future[bool] = Future()
+                self.under_way[digest] = own
+            else:
+                self.known += 1
+        if known is not None:
+            return known, Verdict.KNOWN
+        if waited_for is not None:
+            return waited_for.result(), Verdict.KNOWN
+        return self.judge_anew(data, digest, own)
+
+    def judge_anew(self, data: bytes, digest: str, own: Future[bool]) -> tuple[bool, Verdict]:
+        try:
+            verdict = self.verdict(data)
+        except BaseException as error:
+            own.set_exception(error)
+            raise
+        finally:
+            with self.lock:
+                del self.under_way[digest]
+        accepted = verdict is Verdict.ACCEPTED
+        self.state.note(digest, accepted)
+        own.set_result(accepted)
+        return accepted, verdict
+
+    def verdict(self, data: bytes) -> Verdict:
+        with self.written(data) as file:
+            if self.validator and not self.succeeds(self.validator, file, VALIDATOR_SECONDS):
+                return Verdict.INVALID
+            with self.lock:
+                if self.budget.runs is not None and self.runs >= self.budget.runs:
+                    raise Exhausted("--max-runs")
+                self.runs += 1
+            return Verdict.ACCEPTED if self.succeeds(self.predicate, file, self.runner.seconds) else Verdict.REFUSED
+
+    def stop_in_time(self) -> None:
+        if self.runner.stopped.is_set():
+            raise Stopped
+        if self.budget.deadline is not None and time.monotonic() >= self.budget.deadline:
+            raise Exhausted("--time")
+
+    @contextmanager
+    def written(self, data: bytes) -> Iterator[Path]:
+        """A file with the bytes, which nobody else has for that time."""
+        file = self.files.get()
+        try:
+            file.write_bytes(data)
+            yield file
+        finally:
+            self.files.put(file)
+
+    def succeeds(self, command: Command, file: Path, seconds: float) -> bool:
+        """Whether a command ends with status 0; one that takes too long, or writes too much, is ended and doesn't."""
+        try:
+            finished = self.runner.run(command.on(file), seconds)
+        except OSError as error:
+            raise Failure(f"{command.words[0]}: {error.strerror}") from error
+        return finished.status == 0 and not finished.out_of_time and not finished.too_much_output
+
+    def choose_validator(self, data: bytes, named: Command | None) -> str | None:
+        """Takes the validator that is named, or the first one that is there, where it accepts the module; answers why there is none."""
+        found = [named] if named else [Command(words) for words in VALIDATORS if shutil.which(words[0])]
+        if not found:
+            return "no validator is on the path: the predicate judges alone"
+        with self.written(data) as file:
+            self.validator = next((each for each in found if self.succeeds(each, file, VALIDATOR_SECONDS)), None)
+        names = ", ".join(each.words[0] for each in found)
+        return None if self.validator else f"{names} doesn't accept the module itself: the predicate judges alone"

@@ -1,0 +1,194 @@
+"""The command line of teddertempo-diff."""
+
+from __future__ import annotations
+
+import argparse
+import io
+import os
+import re
+import signal
+import sys
+import time
+import traceback
+from pathlib import Path
+
+from ..engines.engine import ENGINES, engine_of
+from ..findings.reduction import NoFinding, Reducer, differs
+from ..findings.report import Reporter
+from ..findings.store import Store, StoreRefusal
+from ..options import FAILED, MISUSED, Parser, duration, positive, split_command
+from .campaign import Campaign, Settings, Summary, find_modules
+from .mutator import Choice, Dose, Mutator, MutatorFailure, MutatorMisuse, program_of
+from .processes import Runner, Stopped
+
+FOUND, NOTHING_RUN, STOPPED = 1, 2, 130
+
+# Of --differs: whether the module differs.
+DIFFERS, SAME = 0, 1
+
+# How much is rewritten if nothing else is said (docs/TESTED.md tells why).
+USUAL_DOSE = "400"
+
+DESCRIPTION = "Runs an engine on WebAssembly modules and on their rewrites by teddertempo, and names the rewrite that it falls over."
+
+EPILOG = """\
+In the words of ENGINE, @@ stands for the file that it runs; without @@ the file stands last. node and spectest-interp are asked to
+call each exported function; so are wasmtime and wasmer, as their documents have it, untried; any other engine's output is taken as it
+is. Status 0: nothing found; 1: something found; 2: nothing could be run; 64: the options are wrong; 70: this program failed; 130:
+stopped.
+"""
+
+
+def dose(text: str) -> Dose:
+    match = re.fullmatch(r"(\d+(?:\.\d+)?)(%?)", text)
+    if not match or float(match.group(1)) == 0 or (not match.group(2) and "." in text):
+        raise argparse.ArgumentTypeError("a number of rewrites, or a share as 20%")
+    return Dose(float(match.group(1)), bool(match.group(2)))
+
+
+def seeds(text: str) -> range:
+    match = re.fullmatch(r"(?:(\d+)\.\.)?(\d+)", text)
+    found = range(int(match.group(1) or 0), int(match.group(2))) if match else range(0)
+    if not found:
+        raise argparse.ArgumentTypeError("how many, or as 100..200: from 100 on, below 200")
+    return found
+
+
+def parser() -> Parser:
+    made = Parser("teddertempo-diff", "%(prog)s [OPTIONS] MODULE.. -- ENGINE ARGS..", DESCRIPTION, EPILOG)
+    made.add_argument("modules", metavar="MODULE", nargs="*", help="a module, or a folder of modules")
+    made.add_argument("--seeds", type=seeds, default=range(50), metavar="N",
+                      help="the seeds below N, or A..B: a mutant of each module by each (50)")
+    made.add_argument("--dose", type=dose, default=dose(USUAL_DOSE), metavar="N",
+                      help=f"rewrites of a mutant: a number, or a share as 20%% of the operators that a rule may rewrite ({USUAL_DOSE})")
+    made.add_argument("--calls", type=positive, default=12, metavar="N", help="calls of each exported function (12)")
+    made.add_argument("--as", dest="engine", choices=sorted(ENGINES), help="how the engine is asked, if its name doesn't say so")
+    made.add_argument("--timeout", type=duration, default=10.0, metavar="TIME", help="ends a run of the engine behind that time (10s)")
+    made.add_argument("--time", type=duration, metavar="TIME", help="ends behind that time, as 30m or 8h")
+    made.add_argument("--jobs", type=positive, default=len(os.sched_getaffinity(0)), metavar="N",
+                      help="how many run side by side (one a core)")
+    made.add_argument("--first", action="store_true", help="ends with the first finding")
+    made.add_argument("--all", action="store_true", help="keeps each difference, not only the first of a rule and class")
+    made.add_argument("--strict", action="store_true", help="counts exhaustion, time and limits as differences too")
+    made.add_argument("-o", "--output", type=Path, default=Path("teddertempo-findings"), metavar="FOLDER",
+                      help="keeps the findings there (teddertempo-findings)")
+    made.add_argument("--continue", dest="goes_on", action="store_true", help="goes on with the run in FOLDER")
+    made.add_argument("--reduce", type=duration, metavar="TIME",
+                      help="makes the module of each finding smaller, by teddertempo-reduce, each for at most that time")
+    made.add_argument("--differs", type=Path, metavar="FINDING",
+                      help="only tells whether rewrites of MODULE differ as those of the finding in that folder do, by status 0; 1: they don't")
+    made.add_argument("--rule", action="append", default=[], metavar="NAME", help="uses only this rule (again for more)")
+    made.add_argument("--not-rule", action="append", default=[], metavar="NAME", help="uses all rules but this (again for more)")
+    made.add_argument("--swarm", type=positive, default=1, metavar="N",
+                      help="makes each mutant by an Nth of the rules, of N seeds each by another one (1: by all)")
+    made.add_argument("--max-size", type=positive, metavar="BYTES", help="makes no mutant larger than that")
+    made.add_argument("--teddertempo", metavar="PROGRAM", help="the program that rewrites")
+    made.add_argument("--json", action="store_true", help="tells findings and summary as JSON, an object a line")
+    made.add_argument("--quiet", action="store_true", help="tells findings alone")
+    return made
+
+
+def choice_of(options: argparse.Namespace) -> Choice:
+    return Choice(tuple(options.rule), tuple(options.not_rule), options.swarm)
+
+
+def options_of(options: argparse.Namespace) -> list[str]:
+    """Further options for teddertempo itself."""
+    return ["--max-size", str(options.max_size)] if options.max_size else []
+
+
+def settings_of(options: argparse.Namespace) -> Settings:
+    deadline = time.monotonic() + options.time if options.time else None
+    return Settings(options.seeds, options.dose, options.jobs, options.strict, options.all, options.first, deadline)
+
+
+def lasting(options: argparse.Namespace, engine: list[str], version: str) -> dict[str, object]:
+    """What has to be as it was for a run to go on."""
+    return {"version": version, "engine": engine, "as": options.engine, "dose": str(options.dose), "calls": options.calls,
+            "options": [*choice_of(options).words(), *options_of(options)], "swarm": options.swarm, "strict": options.strict, "all": options.all}
+
+
+def stop_on_signals(runner: Runner) -> None:
+    """Lets signals end the run, but those that are ignored, as under nohup."""
+    for number in (signal.SIGINT, signal.SIGTERM, signal.SIGHUP):
+        if signal.getsignal(number) is not signal.SIG_IGN:
+            signal.signal(number, lambda *_: runner.stop())
+
+
+def status_of(summary: Summary, store: Store) -> int:
+    if store.findings:
+        return FOUND
+    if summary.stopped:
+        return STOPPED
+    return 0 if summary.modules and not summary.trouble else NOTHING_RUN
+
+
+def run(options: argparse.Namespace, engine: list[str]) -> int:
+    """Runs what the options ask for, and answers the status."""
+    runner = Runner(options.timeout)
+    mutator = Mutator(program_of(options.teddertempo), choice_of(options), options_of(options), runner)
+    version = mutator.version()
+    stop_on_signals(runner)
+    store = Store(options.output, lasting(options, engine, version), options.goes_on)
+    reporter = Reporter(options.json, options.quiet)
+    try:
+        campaign = Campaign(settings_of(options), engine_of(engine, options.engine, options.calls), mutator, runner, store, reporter)
+        summary = campaign.run(find_modules(options.modules))
+        if options.reduce:
+            reduce(options, runner, mutator.program, summary, reporter)
+    finally:
+        store.close()
+    reporter.end(summary)
+    return status_of(summary, store)
+
+
+def reduce(options: argparse.Namespace, runner: Runner, program: str, summary: Summary, reporter: Reporter) -> None:
+    """Makes what was found smaller, until the runner is told to stop."""
+    reducer = Reducer(runner, program, options.reduce, options.jobs)
+    try:
+        for finding, folder in summary.findings:
+            reporter.reduced(finding, reducer.reduce(folder))
+    except Stopped:
+        summary.stopped = True
+
+
+def tell_difference(options: argparse.Namespace) -> int:
+    """Whether the module differs as the finding does, as a predicate tells."""
+    runner = Runner(options.timeout)
+    stop_on_signals(runner)
+    found = differs(options.differs, Path(options.modules[0]), program_of(options.teddertempo), runner)
+    return DIFFERS if found else SAME
+
+
+def check(options: argparse.Namespace, engine: list[str], made: Parser) -> None:
+    """Refuses options that can't be meant."""
+    if not options.modules:
+        made.error("no MODULE")
+    if options.differs and len(options.modules) > 1:
+        made.error("more than one MODULE")
+    if options.differs and engine:
+        made.error("an ENGINE: --differs asks that of the finding")
+    if not options.differs and not engine:
+        made.error("no ENGINE: it stands behind --")
+
+
+def main() -> int:
+    if isinstance(sys.stdout, io.TextIOWrapper):
+        sys.stdout.reconfigure(errors="backslashreplace")
+    own, engine = split_command(sys.argv[1:])
+    made = parser()
+    options = made.parse_intermixed_args(own)
+    check(options, engine, made)
+    try:
+        return tell_difference(options) if options.differs else run(options, engine)
+    except MutatorMisuse as misuse:
+        print(misuse, file=sys.stderr)
+        return MISUSED
+    except Stopped:
+        return STOPPED
+    except (MutatorFailure, StoreRefusal, NoFinding) as refusal:
+        print(f"teddertempo-diff: {refusal}", file=sys.stderr)
+        return NOTHING_RUN
+    except Exception:
+        traceback.print_exc()
+        return FAILED

@@ -1,0 +1,1 @@
+"""The binary format of WebAssembly: reads a module from bytes, and writes it."""

@@ -1,0 +1,164 @@
+"""How the reducer runs: its report, jobs, bounds, state, signals, messages, and the program whose changes it uses."""
+
+from __future__ import annotations
+
+import json
+import signal
+import subprocess
+import sys
+import time
+from pathlib import Path
+
+import pytest
+from sources import PROGRAM
+from support import SECONDS, TOOLS, Reducer, as_json, running, sleep_of_test
+
+ROTATION = "wasm-objdump -d $1 | grep -q i32.rotl"
+LETTERS = "grep -q letters $1"
+
+
+def test_report(reducer: Reducer, small: Path) -> None:
+    log = reducer.folder / "counted"
+    done, left = reducer.reduced(small, f"echo run >> '{log}'; {ROTATION}", "--json", "-", "--quiet")
+    report = json.loads(done.stdout)
+    assert done.stderr == ""
+    assert report["runs"] == len(log.read_text().splitlines()) and report["after"] == len(left)
+    assert sum(each["bytes"] for each in report["passes"]) == report["before"] - report["after"]
+
+
+def test_report_in_a_file(reducer: Reducer, small: Path) -> None:
+    file = reducer.folder / "report.json"
+    reducer.reduced(small, "true", "--json", str(file))
+    assert as_json(file)["after"] == 8
+
+
+def test_any_number_of_jobs_leaves_the_same(reducer: Reducer, small: Path) -> None:
+    script = f"{ROTATION} && wasm-objdump -d $1 | grep -q br_if"
+    answers = [reducer.reduced(small, script, "--jobs", jobs)[1] for jobs in ("1", "2", "7")]
+    assert answers[0] and len(set(answers)) == 1, list(map(len, answers))
+
+
+def test_none_of_equal_bytes_is_tried_twice(reducer: Reducer, small: Path) -> None:
+    log = reducer.folder / "seen"
+    reducer.reduced(small, f"md5sum < $1 >> '{log}'; {ROTATION} && wasm-objdump -d $1 | grep -q br_if", "--jobs", "5")
+    seen = log.read_text().splitlines()
+    assert seen and len(seen) == len(set(seen))
+
+
+def test_a_run_that_takes_too_long(reducer: Reducer, request: pytest.FixtureRequest) -> None:
+    """It doesn't accept the module, and is ended with its children."""
+    seconds, slept = sleep_of_test(request.node.name), reducer.folder / "slept"
+    module = reducer.compiled("bytes", '(module (memory 1) (data (i32.const 0) "letters and others"))')
+    done, left = reducer.reduced(module, f"{LETTERS} || {{ test ! -e '{slept}' && touch '{slept}' && sleep {seconds}; }}", "--timeout", "5")
+    assert done.returncode == 0 and b"letters" in left, done.stderr
+    assert slept.exists()
+    assert not running(seconds), "a child is left"
+
+
+def test_max_runs(reducer: Reducer, small: Path) -> None:
+    done, _ = reducer.reduced(small, LETTERS, "--max-runs", "5", "--json", "-")
+    report = json.loads(done.stdout)
+    assert done.returncode == 0 and report["runs"] == 5 and report["stopped"] == "--max-runs"
+
+
+def test_time(reducer: Reducer, small: Path) -> None:
+    done, left = reducer.reduced(small, f"sleep 0.2; {LETTERS}", "--time", "1s")
+    assert done.returncode == 0 and b"letters" in left, done.stderr
+
+
+def test_state(reducer: Reducer, small: Path) -> None:
+    folder, log = reducer.folder / "state", reducer.folder / "tried"
+    predicate = [str(reducer.predicate(f"md5sum < $1 >> '{log}'; {LETTERS}"))]
+    reducer.run(small, predicate, "--state", str(folder), "--max-runs", "10")
+    first = (folder / "best.wasm").read_bytes()
+    with open(folder / "tried.txt", "a") as file:
+        file.write("cut sho")
+    done = reducer.run(small, predicate, "--state", str(folder))
+    assert done.returncode == 0 and reducer.output.stat().st_size < len(first), done.stderr
+    seen = log.read_text().splitlines()
+    assert len(seen) == len(set(seen)), "what was tried is tried again"
+    reducer.run(small, predicate, "--state", str(folder))
+    assert len(log.read_text().splitlines()) == len(seen), "a third run has nothing to try"
+    assert (folder / "best.wasm").read_bytes() == reducer.reduced(small, LETTERS)[1]
+    done = reducer.run(small, ["true"], "--state", str(folder))
+    assert done.returncode == 1 and "predicate" in done.stderr, "a state is one predicate's"
+    done = reducer.run(small, ["true"], "--state", str(reducer.folder))
+    assert done.returncode == 1 and "isn't empty" in done.stderr
+
+
+@pytest.mark.parametrize("number, status", ((signal.SIGINT, 130), (signal.SIGTERM, 143)))
+def test_signal(reducer: Reducer, small: Path, request: pytest.FixtureRequest, number: signal.Signals, status: int) -> None:
+    log, seconds = reducer.folder / "ran", sleep_of_test(request.node.name)
+    predicate = reducer.predicate(f"echo run >> '{log}'; test $(wc -l < '{log}') -lt 10 || sleep {seconds}; {LETTERS}")
+    command = reducer.command(small, [str(predicate)], "--jobs", "2")
+    process = subprocess.Popen(command, stdout=subprocess.PIPE, stderr=subprocess.PIPE, text=True, env=reducer.environment,
+                               preexec_fn=lambda: signal.signal(signal.SIGINT, signal.SIG_DFL))
+    while process.poll() is None and not (log.exists() and len(log.read_text().splitlines()) >= 10):
+        time.sleep(0.05)
+    process.send_signal(number)
+    errors = process.communicate(timeout=SECONDS)[1]
+    assert process.returncode == status and "Traceback" not in errors, errors
+    assert not running(seconds), "a child is left"
+    left = reducer.output.read_bytes()
+    assert b"letters" in left and len(left) < small.stat().st_size
+
+
+TRUE = ("true",)
+REFUSALS = (
+    ("small", ("false",), (), 1, "doesn't accept it"),
+    ("none", TRUE, (), 1, "No such file"),
+    ("text", TRUE, (), 1, "doesn't begin as a module does"),
+    ("cut", TRUE, (), 1, "ends too early"),
+    ("small", ("./no such program",), (), 1, "No such file"),
+    ("small", (), (), 64, "no PREDICATE"),
+    ("small", TRUE, ("--jobs", "0"), 64, "above 0"),
+    ("small", TRUE, ("--no-such-option",), 64, "no-such-option"),
+    ("small", TRUE, ("--validator", "x", "--no-validator"), 64, "exclude"),
+    ("small", TRUE, ("--validator", "./no validator"), 1, "No such file"),
+    ("small", TRUE, ("--program", "./no program"), 1, "No such file"),
+)
+
+
+@pytest.mark.parametrize("module, predicate, options, status, said", REFUSALS)
+def test_refusal(reducer: Reducer, small: Path, module: str, predicate: tuple[str, ...], options: tuple[str, ...], status: int,
+                 said: str) -> None:
+    """What is wrong is told in a line."""
+    files = {name: reducer.folder / f"{name} module" for name in ("none", "text", "cut")}
+    files["text"].write_text("(module)")
+    files["cut"].write_bytes(small.read_bytes()[:-3])
+    done = reducer.run(files.get(module, small), list(predicate), *options)
+    assert done.returncode == status and said in done.stderr, done.stderr
+    assert len(done.stderr.strip().splitlines()) <= (2 if status == 64 else 3) and "Traceback" not in done.stderr
+    assert "--program" in options or not reducer.output.exists()
+
+
+def test_refusal_without_output(small: Path) -> None:
+    command = [sys.executable, str(TOOLS / "teddertempo-reduce"), str(small), "--", "true"]
+    done = subprocess.run(command, capture_output=True, text=True)
+    assert done.returncode == 64 and "no OUTPUT" in done.stderr
+
+
+def program_of_test(reducer: Reducer, log: Path, is_old: bool) -> Path:
+    """The program of the test, which notes its calls; an old one doesn't know places."""
+    program = reducer.folder / "program"
+    program.write_text(PROGRAM.format(python=sys.executable, tools=str(TOOLS), log=str(log), old=is_old))
+    program.chmod(0o755)
+    return program
+
+
+def test_changes(reducer: Reducer, small: Path) -> None:
+    """The program's changes are made in the places that are named."""
+    log = reducer.folder / "called"
+    done, left = reducer.reduced(small, ROTATION, "--program", str(program_of_test(reducer, log, False)), "--json", "-")
+    passes = {each["name"]: each for each in json.loads(done.stdout)["passes"] if each["name"].startswith("change ")}
+    assert len(passes) == 4 and sum(each["accepted"] for each in passes.values()) > 1
+    assert all(call.startswith("--change=") and " --from " in call for call in log.read_text().splitlines())
+    assert len(left) <= 35
+
+
+def test_changes_by_an_old_program(reducer: Reducer, small: Path) -> None:
+    log = reducer.folder / "called"
+    done, _ = reducer.reduced(small, ROTATION, "--program", str(program_of_test(reducer, log, True)), "--json", "-")
+    assert "doesn't know --from" in done.stderr
+    assert not [each for each in json.loads(done.stdout)["passes"] if each["name"].startswith("change ")]
+    assert len(log.read_text().splitlines()) == 1

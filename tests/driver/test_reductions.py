@@ -1,0 +1,90 @@
+"""What the reducer leaves of modules, for predicates on operators, exports and bytes."""
+
+from __future__ import annotations
+
+import json
+import subprocess
+from dataclasses import dataclass
+from pathlib import Path
+
+import pytest
+from support import Reducer
+
+from teddertempo.wasm.reading import read_module
+
+
+@dataclass(frozen=True)
+class Row:
+    """A predicate in the shell's words, on `$1`, and how many bytes are left at most."""
+
+    what: str
+    predicate: str
+    most: int
+    options: tuple[str, ...] = ()
+
+    def __str__(self) -> str:
+        return self.what
+
+
+ROWS = (
+    Row("anything", "true", 8),
+    Row("an operator", "wasm-objdump -d $1 | grep -q i32.rotl", 35),
+    Row("an export", "wasm-objdump -x $1 | grep -q '<wanted>'", 40),
+    Row("bytes of a valid module", "wasm-validate $1 && xxd -p $1 | tr -d '\\n' | grep -q 412a", 31),
+    Row("a call", "wasm-objdump -d $1 | grep -q 'call'", 40),
+    Row("a memory", "wasm-objdump -x $1 | grep -q '^Memory'", 13),
+    Row("data", "grep -q letters $1", 38),
+    Row("a constant in a loop", "wasm-objdump -d $1 | sed -n '/loop/,/end/p' | grep -q 'i32.const 42'", 35),
+    Row("an operator without a validator", "wasm-objdump -d $1 | grep -q i32.rotl", 34, ("--no-validator",)),
+    Row("names", "grep -q helper $1", 60, ("--keep-names",)),
+)
+
+
+@pytest.mark.parametrize("row", ROWS, ids=str)
+def test_row(reducer: Reducer, small: Path, row: Row) -> None:
+    predicate = str(reducer.predicate(row.predicate))
+    done = reducer.run(small, [predicate], *row.options)
+    assert done.returncode == 0, done.stderr
+    assert reducer.output.stat().st_size <= row.most, done.stderr
+    assert subprocess.run([predicate, str(reducer.output)], capture_output=True).returncode == 0
+
+
+@pytest.mark.parametrize("seed", range(2))
+def test_all_sections(reducer: Reducer, all_sections: Path, seed: int) -> None:
+    """A module with all sections: what is left of it is valid whatever the predicate accepts, here by the bytes' digest."""
+    script = f"""[ {all_sections.stat().st_size} -eq $(stat -c %s $1) ] && exit
+wasm-validate --enable-all $1 || exit 1; test $(( 0x$(cat $1 - <<< {seed} | md5sum | cut -c 1-4) % 3 )) -ne 0"""
+    done, _ = reducer.reduced(all_sections, script, "--json", "-")
+    assert done.returncode == 0, done.stderr
+    report = json.loads(done.stdout)
+    assert subprocess.run(["wasm-validate", "--enable-all", str(reducer.output)], capture_output=True).returncode == 0
+    assert report["after"] < report["before"] / 2
+
+
+def test_names_stay(reducer: Reducer, small: Path) -> None:
+    done, left = reducer.reduced(small, "wasm-objdump -x $1 | grep -q 'func.*<wanted>' && grep -q letters $1", "--keep-names")
+    assert done.returncode == 0 and b"\x04name" in left, done.stderr
+
+
+def test_names_are_of_what_is_left(reducer: Reducer) -> None:
+    """With --keep-names each function that is left keeps its name."""
+    named = reducer.compiled("named", '(module (func $gone) (func $kept (export "e") (drop (i32.const 42))) (func $called (call $kept)))')
+    done, left = reducer.reduced(named, "wasm-objdump -d $1 | grep -q 'i32.const 42'", "--keep-names")
+    assert b"kept" in left and b"gone" not in left, done.stderr
+
+
+def test_unknown_operator(reducer: Reducer, small: Path) -> None:
+    """What can't be decoded is left unchanged, and so is what has an index."""
+    data = read_module(small.read_bytes()).encoded
+    broken = reducer.folder / "broken.wasm"
+    broken.write_bytes(data.replace(b"\xa0\x0b", b"\xff\x0b"))
+    done, left = reducer.reduced(broken, "xxd -p $1 | tr -d '\\n' | grep -q ff0b")
+    assert done.returncode == 0 and len(left) < len(data), done.stderr
+    assert "can be decoded" in done.stderr and "doesn't accept the module itself" in done.stderr
+
+
+def test_unknown_section(reducer: Reducer, small: Path) -> None:
+    section = reducer.folder / "section.wasm"
+    section.write_bytes(read_module(small.read_bytes()).encoded + b"\x7e\x02hi")
+    done, left = reducer.reduced(section, "grep -q hi $1")
+    assert done.returncode == 0 and left.endswith(b"\x7e\x02hi"), done.stderr
