@@ -104,7 +104,7 @@ pub fn text_for(
         Misuse::UnknownChange => return change_text(alloc, matches),
         Misuse::NothingToTell =>
             "--json needs --list, --blocks, --list-changes, --stats or --reach",
-        Misuse::Plus => "a number has no plus: leave it out",
+        Misuse::Plus => "a number is written without a plus sign",
         Misuse::NoSeed =>
             "--seed needs a number below 2^64, decimal, or hexadecimal with 0x in front",
         Misuse::NoCount =>
