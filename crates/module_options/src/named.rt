@@ -159,11 +159,11 @@ pub fn place_of(
         function) }
     ensures misuse { IfErr result (AreMisused (rows_of (found_of matches.now))) }
 {
+    let from = size_of(matches, "from");
+    let to = size_of(matches, "to");
     if !is_placed(matches) {
         return Ok(None);
     }
-    let from = size_of(matches, "from");
-    let to = size_of(matches, "to");
     match placed(changes, function, from, to) {
         Some(place) => Ok(Some(place)),
         None => Err(Misuse::Unplaced),
