@@ -1,5 +1,5 @@
 -- A module rewritten as is asked for, and what options ask for.
-use Rattle.std.proofs.Common.{◌≡◌, ℕ, Bool, ◌+◌, List, false, Option, None, Result, Ok, Err, ap, arith}
+use Rattle.std.proofs.Common.{◌≡◌, ℕ, Bool, List, false, Option, None, Result, Ok, Err, ap, arith}
 use Rattle.std.specs.Prelude.{IfOk, IfErr}
 use Rattle.rewrite_rules.specs.declared.rule.Rule.{Rule}
 use Rattle.module_rewrites.specs.Attempt.{IsForSize, IsReason}
