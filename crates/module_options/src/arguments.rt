@@ -91,7 +91,7 @@ fn size_argument<'a>(alloc: Global) -> Arg<'a>
         .long("max-size")
         .value_name("BYTES")
         .value_parser(value_parser!(usize))
-        .help("Discards rewrites and changes that make the module larger")
+        .help("Discards rewrites and changes that make the module larger than BYTES")
 }
 
 fn change_argument<'a>(alloc: Global) -> Arg<'a>
