@@ -18,7 +18,8 @@ from ..wasm.binary import Unreadable
 from ..wasm.module import Module
 from ..wasm.reading import read_module
 from .changes import Changer, program_of
-from .judge import Budget, Command, Exhausted, Failure, Judge
+from .commands import Commands, Exhausted, Failure
+from .judge import Bounds, Command, Judge
 from .output import Output
 from .passes import all_passes
 from .report import Reporter, write_report
@@ -107,26 +108,34 @@ class Reduction:
 
     def run_in(self, folder: Path, state: State) -> None:
         options = self.options
-        budget = Budget(options.max_runs, time.monotonic() + options.time if options.time else None)
-        judge = Judge(Command(tuple(self.predicate)), self.runner, state, budget, folder, options.jobs)
+        commands = Commands(self.runner, time.monotonic() + options.time if options.time else None)
+        bounds = Bounds(options.timeout, options.max_runs)
+        judge = Judge(Command(tuple(self.predicate)), commands, state, bounds, folder, options.jobs)
         output = Output(options.output, state)
         reporter = Reporter(output, judge, options.quiet)
         best = state.best() or self.data
         module = self.decoded(best, reporter)
-        self.choose_validator(judge, reporter)
-        if not judge.judge(best)[0]:
-            raise Failure(f"{self.name}: the predicate doesn't accept it")
+        self.accept(best, judge, reporter)
         output.keep(best)
-        passes = all_passes(self.changer(folder, reporter), options.keep_names)
         search = Search(module, best, judge, options.jobs, reporter)
         stopped = None
         try:
-            search.run(passes)
-        except Exhausted as bound:
-            stopped = str(bound)
+            search.run(all_passes(self.changer(commands, folder, reporter), options.keep_names))
+        except Exhausted as limit:
+            stopped = str(limit)
         reporter.end(len(self.data), search, stopped)
         if options.json:
             write_report(reporter.report(len(self.data), search, stopped), options.json)
+
+    def accept(self, best: bytes, judge: Judge, reporter: Reporter) -> None:
+        """Makes sure that the predicate accepts the module with which the search begins."""
+        try:
+            self.choose_validator(judge, reporter)
+            is_accepted, _ = judge.judge(best)
+        except Exhausted as limit:
+            raise Failure(f"{self.name}: the predicate didn't accept it within {limit}") from limit
+        if not is_accepted:
+            raise Failure(f"{self.name}: the predicate doesn't accept it")
 
     def decoded(self, data: bytes, reporter: Reporter) -> Module:
         try:
@@ -144,13 +153,13 @@ class Reduction:
             if reason:
                 reporter.note(reason)
 
-    def changer(self, folder: Path, reporter: Reporter) -> Changer | None:
-        """The program, where it is there and knows changes in places that are named."""
+    def changer(self, commands: Commands, folder: Path, reporter: Reporter) -> Changer | None:
+        """The program, if there is one and it can change operators that are named."""
         program = program_of(self.options.program)
         if program is None:
-            reporter.note("no program teddertempo is there: its changes aren't tried")
+            reporter.note("no program teddertempo is found: its changes aren't tried; --program names it")
             return None
-        changer = Changer(program, self.runner, folder)
+        changer = Changer(program, commands, folder)
         if changer.knows_places(self.data):
             return changer
         reporter.note(f"{program} doesn't know --from: its changes aren't tried")

@@ -152,7 +152,8 @@ class Search:
         self.listener.passed(report, self.best)
 
     def advance(self, each: Pass, cursor: Cursor, report: PassReport) -> Cursor | None:
-        """Takes the first proposal from a place on that is accepted; answers where it stood."""
+        """Takes the first proposal after the cursor that is accepted; returns its cursor."""
+        self.judge.check_time()
         found = self.first(each.proposals(self.best.module, cursor), report)
         if found is None:
             return None
@@ -182,6 +183,7 @@ class Search:
 
     def attempt(self, make: Callable[[], Module | None], best: Candidate) -> tuple[Candidate | None, Verdict]:
         """Makes what is proposed, and has it judged."""
+        self.judge.check_time()
         module = make()
         if module is None:
             return None, Verdict.NOT_MADE
