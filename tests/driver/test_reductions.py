@@ -9,6 +9,7 @@ from pathlib import Path
 
 import pytest
 from support import Reducer
+from test_modules import OF_2022
 
 from teddertempo.wasm.reading import read_module
 
@@ -130,3 +131,12 @@ def test_unknown_section(reducer: Reducer, small: Path) -> None:
     section.write_bytes(read_module(small.read_bytes()).encoded + b"\x7e\x02hi")
     done, left = reducer.reduced(section, "grep -q hi $1")
     assert done.returncode == 0 and left.endswith(b"\x7e\x02hi"), done.stderr
+
+
+def test_encoding_of_2022(reducer: Reducer) -> None:
+    """What 3.0 reads otherwise stays as it is, with a note; the rest becomes smaller."""
+    module = reducer.folder / "2022.wasm"
+    module.write_bytes(OF_2022)
+    done, left = reducer.reduced(module, "xxd -p $1 | tr -d '\\n' | grep -q 0701016c0141050b", "--no-validator")
+    assert done.returncode == 0 and bytes.fromhex("0701016c0141050b") in left and len(left) < len(OF_2022), done.stderr
+    assert "encoding of 2022" in done.stderr

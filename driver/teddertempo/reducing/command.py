@@ -143,7 +143,8 @@ class Reduction:
         except Unreadable as reason:
             raise Failure(f"{self.name}: {reason}") from reason
         if not module.is_whole():
-            reporter.note("not all of the module can be decoded: what has an index stays")
+            reporter.note("not all of the module can be decoded as WebAssembly 3.0: what has an index stays; if its references are in the "
+                          "encoding of 2022, convert it with a current tool")
         return module
 
     def choose_validator(self, judge: Judge, reporter: Reporter) -> None:

@@ -4,11 +4,11 @@ node 20 still use, gives another meaning to some of the same bytes."""
 from __future__ import annotations
 
 from .module import Context, Function
-from .operators import (BR_ON_NULL, CALL_REF, REF_AS_NON_NULL, REF_EQ, REF_NULL, RETURN_CALL_REF, Body, Operator)
+from .operators import BR_ON_NULL, CALL_REF, REF_AS_NON_NULL, REF_EQ, REF_NULL, RETURN_CALL_REF, Body, Operator
 from .types import ArrayType, StructureType, ValueType
 
-# Operators of one byte, and codes of types, with another meaning or another length in the encoding of 2022. In 3.0 the types begin with
-# the references to a type, 0x63 and 0x64, and with those of structures, arrays and small integers.
+# Operators of one byte, and codes of types, with another meaning or length in the encoding of 2022: there a type's index follows 0x6b and
+# 0x6c, which are references to structures and to small integers in 3.0.
 OTHER_OPERATORS = frozenset((CALL_REF, RETURN_CALL_REF, REF_EQ, REF_AS_NON_NULL, BR_ON_NULL))
 OTHER_TYPES = frozenset(range(0x63, 0x6D))
 
