@@ -28,10 +28,10 @@ from .state import State, StateFolder, StateRefusal
 
 REFUSED = 1
 
-DESCRIPTION = "Makes a WebAssembly module smaller, as long as a predicate accepts it: a command that ends with status 0."
+DESCRIPTION = "Makes a WebAssembly module smaller, as long as a predicate accepts it: a command that exits with status 0."
 
 EPILOG = """\
-In the words of PREDICATE, @@ stands for the file that it judges; without @@ the file stands last. Status 0: done, also where --time or
+In the words of PREDICATE, @@ is replaced by the candidate's file; without @@ the file is the last word. Status 0: done, also if --time or
 --max-runs ended it; 1: the module isn't accepted, or a file can't be read or written; 64: the options are wrong; 70: this program
 failed; 130, 143: stopped by a signal. OUTPUT has the smallest module so far at any time.
 """
@@ -39,24 +39,24 @@ failed; 130, 143: stopped by a signal. OUTPUT has the smallest module so far at 
 
 def parser() -> Parser:
     made = Parser("teddertempo-reduce", "%(prog)s [OPTIONS] MODULE -o OUTPUT -- PREDICATE ARGS..", DESCRIPTION, EPILOG)
-    made.add_argument("modules", metavar="MODULE", nargs="*", help="the module, which the predicate accepts")
-    made.add_argument("-o", "--output", type=Path, metavar="OUTPUT", help="where the smallest module goes")
-    made.add_argument("--jobs", type=positive, default=1, metavar="N", help="how many candidates are tried side by side (1)")
-    made.add_argument("--timeout", type=duration, default=60.0, metavar="TIME", help="ends a run of the predicate behind that time (60s)")
-    made.add_argument("--time", type=duration, metavar="TIME", help="ends behind that time, as 30m or 8h")
-    made.add_argument("--max-runs", type=positive, metavar="N", help="ends behind so many runs of the predicate")
-    made.add_argument("--state", type=Path, metavar="FOLDER", help="keeps what was tried there, and goes on from it")
+    made.add_argument("modules", metavar="MODULE", nargs="*", help="a module that the predicate accepts")
+    made.add_argument("-o", "--output", type=Path, metavar="OUTPUT", help="the file for the smallest module")
+    made.add_argument("--jobs", type=positive, default=1, metavar="N", help="tries N candidates in parallel (1)")
+    made.add_argument("--timeout", type=duration, default=60.0, metavar="TIME", help="ends a run of the predicate after that time (60s)")
+    made.add_argument("--time", type=duration, metavar="TIME", help="ends after that time, as 30m or 8h")
+    made.add_argument("--max-runs", type=positive, metavar="N", help="ends after N runs of the predicate")
+    made.add_argument("--state", type=Path, metavar="FOLDER", help="keeps results there, and continues from them")
     made.add_argument("--validator", metavar="COMMAND", help="judges candidates before the predicate does (wasm-validate or wasm-tools)")
     made.add_argument("--no-validator", action="store_true", help="lets the predicate judge alone")
     made.add_argument("--keep-names", action="store_true", help="keeps the custom section of names")
     made.add_argument("--program", metavar="PROGRAM", help="the program teddertempo, which makes changes")
     made.add_argument("--json", metavar="FILE", help="writes a report as JSON there; - is standard output")
-    made.add_argument("--quiet", action="store_true", help="tells errors alone")
+    made.add_argument("--quiet", action="store_true", help="prints errors only")
     return made
 
 
 class Signals:
-    """Lets signals end the run, but those that are ignored, as under nohup."""
+    """Lets signals end the run, except those that are ignored, as under nohup."""
 
     def __init__(self, runner: Runner):
         self.runner = runner
@@ -81,13 +81,13 @@ def read_file(file: Path) -> bytes:
 
 
 def lasting(options: argparse.Namespace, predicate: list[str], data: bytes) -> dict[str, object]:
-    """What has to be as it was for a reduction to go on."""
+    """The settings that have to be the same for a reduction to continue."""
     validator = "none" if options.no_validator else options.validator or "usual"
     return {"module": hashlib.sha256(data).hexdigest(), "predicate": predicate, "validator": validator, "names": options.keep_names}
 
 
 class Reduction:
-    """What the options ask for."""
+    """A reduction with the settings that the options name."""
 
     def __init__(self, options: argparse.Namespace, predicate: list[str], runner: Runner):
         self.options = options
@@ -97,7 +97,7 @@ class Reduction:
         self.data = read_file(Path(self.name))
 
     def run(self) -> None:
-        """Reduces the module. Where that is stopped, the best module is in its place already."""
+        """Reduces the module. If that is stopped, OUTPUT has the best module already."""
         wanted = lasting(self.options, self.predicate, self.data)
         state = StateFolder(self.options.state, wanted) if self.options.state else State()
         try:
@@ -168,13 +168,13 @@ class Reduction:
 
 
 def check(options: argparse.Namespace, predicate: list[str], made: Parser) -> None:
-    """Refuses options that can't be meant."""
+    """Refuses options that are missing, or exclude each other."""
     if len(options.modules) != 1:
         made.error("no MODULE" if not options.modules else "more than one MODULE")
     if options.output is None:
         made.error("no OUTPUT: -o names it")
     if not predicate:
-        made.error("no PREDICATE: it stands behind --")
+        made.error("no PREDICATE: it follows --")
     if options.validator is not None and options.no_validator:
         made.error("--validator and --no-validator exclude each other")
     try:
