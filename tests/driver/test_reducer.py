@@ -14,6 +14,11 @@ from pathlib import Path
 import pytest
 from support import SECONDS, TOOLS, Reducer, as_json, running, sleep_of_test
 
+from teddertempo.reducing.commands import Commands, Exhausted
+from teddertempo.reducing.passes.trees import Deletions
+from teddertempo.running.processes import Runner
+from teddertempo.wasm.reading import read_module
+
 ROTATION = "wasm-objdump -d $1 | grep -q i32.rotl"
 LETTERS = "grep -q letters $1"
 
@@ -93,6 +98,14 @@ def test_time_ends_other_commands(reducer: Reducer, small: Path, request: pytest
     done, left = reducer.reduced(small, LETTERS, f"--{what}", shlex.quote(str(hangs)) if what == "validator" else str(hangs), "--time", "15s")
     assert 15 <= time.monotonic() - began < 20 + START, done.stderr
     assert done.returncode == 0 and b"letters" in left and not running(seconds), done.stderr
+
+
+def test_time_ends_the_look_for_positions(small: Path) -> None:
+    """A pass checks the time for each function, since a large module takes long."""
+    deletions = Deletions()
+    deletions.commands = Commands(Runner(1), time.monotonic() - 1)
+    with pytest.raises(Exhausted, match="--time"):
+        deletions.positions(read_module(small.read_bytes()))
 
 
 def test_time_is_over_at_first(reducer: Reducer, small: Path) -> None:

@@ -31,6 +31,10 @@ class Commands:
             raise Exhausted("--time")
         return left
 
+    def check_time(self) -> None:
+        """Raises `Exhausted` at the deadline, and `Stopped` after a signal."""
+        self.seconds_left()
+
     def run(self, words: list[str], seconds: float, most: int = MOST_OUTPUT) -> Finished:
         """Runs a command for some seconds at most; `Exhausted` if the deadline ends it, `Failure` if it can't be started."""
         left = self.seconds_left()

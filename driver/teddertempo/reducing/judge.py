@@ -73,7 +73,7 @@ class Judge:
 
     def judge(self, data: bytes) -> tuple[bool, Verdict]:
         """Whether a candidate is accepted, and how that is known. If an equal one is being judged, waits for its result."""
-        self.check_time()
+        self.commands.check_time()
         digest = hashlib.sha256(data).hexdigest()
         with self.lock:
             known = self.state.outcome(digest)
@@ -88,10 +88,6 @@ class Judge:
         if waited_for is not None:
             return waited_for.result(), Verdict.KNOWN
         return self.judge_anew(data, digest, own)
-
-    def check_time(self) -> None:
-        """Raises `Exhausted` at the deadline, and `Stopped` after a signal."""
-        self.commands.seconds_left()
 
     def judge_anew(self, data: bytes, digest: str, own: Future[bool]) -> tuple[bool, Verdict]:
         try:

@@ -52,8 +52,12 @@ class EditPass(PositionPass[Position]):
         raise NotImplementedError
 
     def positions(self, module: Module) -> list[Position]:
-        return [(place, edit) for place, function in enumerate(module.functions) if function.unread is None
-                for edit in self.found(module.context, function)]
+        found = []
+        for place, function in enumerate(module.functions):
+            self.check_time()
+            if function.unread is None:
+                found += [(place, edit) for edit in self.found(module.context, function)]
+        return found
 
     def apply(self, module: Module, chosen: Sequence[Position]) -> Module | None:
         new = {}
