@@ -39,10 +39,10 @@ def candidate_of(module: Module, data: bytes) -> Candidate:
 
 @dataclass(frozen=True)
 class Cursor:
-    """How many positions are chosen at once, and how many after them were tried already."""
+    """How many positions are chosen at once, and how many positions after them were tried already."""
 
     size: int
-    behind: int
+    after: int
 
 
 Proposal = tuple[Cursor, Callable[[], Optional[Module]]]
@@ -88,13 +88,13 @@ class PositionPass(Pass, Generic[Position]):
 
     def proposals(self, module: Module, cursor: Cursor) -> Iterator[Proposal]:
         positions = self.positions(module)
-        size, behind = min(cursor.size, max(1, len(positions))), cursor.behind
+        size, after = min(cursor.size, max(1, len(positions))), cursor.after
         while True:
-            for end in range(len(positions) - behind, 0, -size):
+            for end in range(len(positions) - after, 0, -size):
                 yield Cursor(size, len(positions) - end), partial(self.apply, module, positions[max(0, end - size) : end])
             if size <= self.smallest(len(positions)):
                 return
-            size, behind = (size + 1) // 2, 0
+            size, after = (size + 1) // 2, 0
 
 
 @dataclass

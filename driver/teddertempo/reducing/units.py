@@ -19,11 +19,11 @@ ENDS_CODE = frozenset((UNREACHABLE, BR, BR_TABLE, RETURN, RETURN_CALL, RETURN_CA
 
 @dataclass(frozen=True)
 class Operand:
-    """Code that makes one value, from `first` to `last`, and the statements after it up to `behind`; the type, if it is known."""
+    """Code that makes one value, from `first` to `last`, and the statements after it up to the operator before `end`; the type, if it is known."""
 
     first: int
     last: int
-    behind: int
+    end: int
     type: ValueType | None
 
 
@@ -121,8 +121,8 @@ class Walk:
             else:
                 raise Unknown
         values.reverse()
-        behind = [value.first for value in values[1:]] + [at]
-        return tuple(Operand(value.first, value.last, end, value.type) for value, end in zip(values, behind))
+        ends = [value.first for value in values[1:]] + [at]
+        return tuple(Operand(value.first, value.last, end, value.type) for value, end in zip(values, ends))
 
     def unit(self, at: int, operands: tuple[Operand, ...], results: Types, start: int | None = None) -> None:
         """Adds a unit, and pushes its results."""

@@ -29,8 +29,8 @@ class Drops(EditPass):
     def edits_of(self, body: Body, unit: Unit) -> Iterator[Edit]:
         drop = Operator(DROP)
         for operand in reversed(unit.operands):
-            if operand.first < operand.behind:
-                yield Edit(unit.first, unit.last + 1, (*body[operand.first : operand.behind], drop))
+            if operand.first < operand.end:
+                yield Edit(unit.first, unit.last + 1, (*body[operand.first : operand.end], drop))
         if 1 < len(unit.operands) < len(body[unit.last].encoded()):
             yield Edit(unit.last, unit.last + 1, (drop,) * len(unit.operands))
 
@@ -53,18 +53,18 @@ class Pairs(EditPass):
             if not takes_one_value(body, unit):
                 continue
             operand = unit.operands[0]
-            if operand.last + 1 < operand.behind and pushes(by_last, operand.first, operand.last, operand):
-                found.append(Edit(unit.first, unit.last + 1, body[operand.last + 1 : operand.behind]))
+            if operand.last + 1 < operand.end and pushes(by_last, operand.first, operand.last, operand):
+                found.append(Edit(unit.first, unit.last + 1, body[operand.last + 1 : operand.end]))
             below = unit.below
             if below is not None and pushes(by_last, below.first, below.last, operand):
                 found.append(Edit(below.first, unit.last + 1, body[below.last + 1 : unit.last]))
             if later is not None and pushes(by_last, later.first, later.last, operand):
                 found.append(Edit(unit.last, later.last + 1, body[unit.last + 1 : later.first]))
-        return sorted(found, key=lambda edit: edit.behind)
+        return sorted(found, key=lambda edit: edit.end)
 
 
 def takes_one_value(body: Body, unit: Unit) -> bool:
-    return takes_values(body, unit) and len(unit.operands) == 1 and unit.operands[0].first < unit.operands[0].behind
+    return takes_values(body, unit) and len(unit.operands) == 1 and unit.operands[0].first < unit.operands[0].end
 
 
 def pushes(by_last: dict[int, Unit], first: int, last: int, operand: Operand) -> bool:
