@@ -95,7 +95,8 @@ def test_time_ends_other_commands(reducer: Reducer, small: Path, request: pytest
     log, seconds = reducer.folder / "ran", sleep_of_test(request.node.name)
     hangs = reducer.predicate(f"echo run >> '{log}'; test $(wc -l < '{log}') -lt {3 if what == 'validator' else 1} || sleep {seconds}")
     began = time.monotonic()
-    done, left = reducer.reduced(small, LETTERS, f"--{what}", shlex.quote(str(hangs)) if what == "validator" else str(hangs), "--time", "15s")
+    validator = shlex.quote(str(hangs))
+    done, left = reducer.reduced(small, LETTERS, f"--{what}", validator if what == "validator" else str(hangs), "--time", "15s")
     assert 15 <= time.monotonic() - began < 20 + START, done.stderr
     assert done.returncode == 0 and b"letters" in left and not running(seconds), done.stderr
 

@@ -87,8 +87,8 @@ EXACT = (
 @pytest.mark.parametrize("row", EXACT, ids=str)
 def test_operators_on_the_stack(reducer: Reducer, row: Exact) -> None:
     module = reducer.compiled("stack", f"(module {row.source})")
-    operators = "; ".join(f"grep -q ' {operator}' <<< $text || exit 1" for operator in row.operators)
-    done, left = reducer.reduced(module, f"text=$(wasm-objdump -d $1) || exit 1; {operators}".replace("$text ", '"$text" '))
+    operators = " && ".join(f"grep -q ' {operator}' <<< $text" for operator in row.operators)
+    done, left = reducer.reduced(module, f"text=$(wasm-objdump -d $1) && {operators}")
     assert done.returncode == 0 and left.hex() == HEAD + row.sections + row.code, (left.hex(), done.stderr)
 
 

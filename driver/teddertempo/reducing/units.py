@@ -19,7 +19,8 @@ ENDS_CODE = frozenset((UNREACHABLE, BR, BR_TABLE, RETURN, RETURN_CALL, RETURN_CA
 
 @dataclass(frozen=True)
 class Operand:
-    """Code that makes one value, from `first` to `last`, and the statements after it up to the operator before `end`; the type, if it is known."""
+    """Code that makes one value, from `first` to `last`, and the statements after it, up to the operator before `end`; the type of the
+    value, if it is known."""
 
     first: int
     last: int
