@@ -50,6 +50,12 @@ def transcript(command: list[str], finished: Finished) -> str:
     return "\n".join(line.rstrip("\n") for line in lines if line) + f"\n[status {finished.status}]\n"
 
 
+def with_host(answer: Answer, host: list[str]) -> list[Answer]:
+    """An answer of a call, after what is known of the imports that it called. How often an exhausted call did that depends on the stack,
+    so that it isn't compared."""
+    return [answer] if answer.kind is Kind.EXHAUSTED else [*(Answer(answer.place, Kind.HOST, text) for text in host), answer]
+
+
 class Engine:
     """An engine whose output is taken as it is: what it prints, and its status.
 
@@ -179,11 +185,10 @@ class Node(Engine):
             return [Answer("module", Kind.UNLINKED, text)]
         if word == "instance":
             return [Answer(place, Kind.HOST, text)]
-        noted = [Answer(place, Kind.HOST, text) for text in host]
         if word in ("trap", "exhausted"):
             cause = cause_of(text) if word == "trap" else Answer("", Kind.EXHAUSTED)
-            return [*noted, Answer(place, cause.kind, cause.text)]
-        return [*noted, Answer(place, Kind(word), text)]
+            return with_host(Answer(place, cause.kind, cause.text), host)
+        return with_host(Answer(place, Kind(word), text), host)
 
 
 class Spectest(Engine):
@@ -252,10 +257,9 @@ class Spectest(Engine):
                 host.append(line[len("called host "):].replace("-nan", "nan"))
             elif " =>" in line and (question := next(asked, None)):
                 place, kind, kinds = question
-                if host:
-                    answers.append(Answer(place, Kind.HOST, "; ".join(host)))
-                    host = []
-                answers.append(self.answer_of(place, kind, kinds, line.split(" =>", 1)[1].strip()))
+                answer = self.answer_of(place, kind, kinds, line.split(" =>", 1)[1].strip())
+                answers += with_host(answer, ["; ".join(host)] if host else [])
+                host = []
         return answers
 
     def asked(self, plan: Plan) -> list[tuple[str, Kind, tuple[str, ...]]]:
