@@ -1,4 +1,4 @@
-"""How runs of the driver stop, continue and share a machine."""
+"""How runs of the driver end by time or by a signal, continue and share a machine."""
 
 from __future__ import annotations
 
@@ -6,9 +6,35 @@ import json
 import os
 import signal
 import subprocess
+import sys
 import time
+from pathlib import Path
 
-from support import RULES, SECONDS, Driver
+import pytest
+from support import PROGRAM_THAT_HANGS, RULES, SECONDS, Driver, Json, findings_in, lines_of, running, sleep_of_test, wait_for
+
+SIGNALS = ((signal.SIGINT, 130), (signal.SIGTERM, 143))
+
+# An engine that is called as node is, and never ends in each third call that it makes.
+CALLS_THAT_HANG = """
+import json, subprocess, sys
+from pathlib import Path
+calls = json.loads(Path(sys.argv[1]).with_name("plan.json").read_text())["calls"]
+print('["instance", ""]', flush=True)
+for place, _ in enumerate(calls):
+    if place % 3 == 2: subprocess.run(["sleep", {sleep!r}])
+    print('["value", "", ""]', flush=True)
+"""
+
+
+@pytest.fixture
+def sleep(request: pytest.FixtureRequest) -> str:
+    """The seconds of the `sleep` that engines of this test start."""
+    return sleep_of_test(request.node.name)
+
+
+def tried_in(output: Path) -> list[Json]:
+    return lines_of((output / "tried.jsonl").read_text())
 
 
 def test_stop_and_continue(driver: Driver) -> None:
@@ -40,7 +66,72 @@ def test_stop_and_continue(driver: Driver) -> None:
 def test_time_without_a_mutant(driver: Driver) -> None:
     done, _ = driver.run_mode("slow", "--time", "0.01s")
     assert done.returncode == 2, done.stderr
-    assert "ended early: the time was over before a mutant was tried" in done.stdout
+    assert "the time was over before a mutant was tried" in done.stdout + done.stderr
+
+
+@pytest.mark.parametrize("hanging", ("each third run", "each third call", "the program"))
+def test_time(driver: Driver, sleep: str, hanging: str) -> None:
+    """A run ends at most five seconds late, whatever doesn't end: the engine, a call of the examination, the program that rewrites."""
+    engine = driver.engine("third" if hanging == "each third run" else "same")
+    if hanging == "each third call":
+        driver.engine_file.write_text(CALLS_THAT_HANG.format(sleep=sleep))
+        engine = [sys.executable, str(driver.engine_file)]
+    if hanging == "the program":
+        driver.hang(sleep)
+    options = ("--as", "node") if hanging == "each third call" else ()
+    began = time.monotonic()
+    done, _ = driver.run([driver.module], engine, "--time", "5s", *options)
+    seconds = time.monotonic() - began
+    assert 5 <= seconds <= 10, (seconds, done.stdout, done.stderr)
+    assert not running(sleep), "a child is left"
+
+
+def test_time_in_a_trace(driver: Driver, sleep: str) -> None:
+    """A difference that isn't traced when the time is over is found by --continue."""
+    options = (*RULES, "--jobs", "1", "--json")
+    began = time.monotonic()
+    done, output = driver.run_mode("traced", *options, "--time", "12s", "--timeout", "100")
+    assert time.monotonic() - began <= 17, "ends late"
+    assert lines_of(done.stdout)[-1]["summary"]["not traced"] == 1, (done.stdout, done.stderr)
+    assert findings_in(output) == [] and "different" not in (output / "tried.jsonl").read_text()
+    done, _ = driver.run_mode("traced", *options, "--first", "--continue", output=output)
+    assert [finding["number"] for finding in findings_in(output)] == [1], (done.stdout, done.stderr)
+    assert not running(sleep), "a child is left"
+
+
+def test_time_of_a_reduction(driver: Driver, sleep: str) -> None:
+    """A reduction ends at most five seconds late, with the predicate that runs and its engine."""
+    command = driver.command([driver.module], driver.engine("kept"), driver.folder / "found", *RULES, "--dose", "20", "--jobs", "1", "--first",
+                             "--json", "--reduce", "4s", "--timeout", "100")
+    process = driver.start(command)
+    assert process.stdout is not None
+    line = process.stdout.readline()
+    began = time.monotonic()
+    assert "finding" in json.loads(line)
+    output, errors = process.communicate(timeout=SECONDS)
+    assert time.monotonic() - began <= 9, "ends late"
+    assert process.returncode == 1 and lines_of(output)[0]["reduced"], (output, errors)
+    assert not running(sleep), "a child is left"
+
+
+@pytest.mark.parametrize("number, status", SIGNALS)
+@pytest.mark.parametrize("place", ("engine", "program", "reduction"))
+def test_signal(driver: Driver, sleep: str, place: str, number: signal.Signals, status: int) -> None:
+    """A signal ends the run with all its children: the engine, the program that rewrites, or the reducer, its predicate and their engine."""
+    output, mode = driver.folder / "found", {"engine": "always", "program": "same", "reduction": "kept"}[place]
+    if place == "program":
+        driver.hang(sleep)
+    command = driver.command([driver.module], driver.engine(mode), output, *RULES, "--dose", "20", "--jobs", "1", "--first", "--reduce", "100s",
+                             "--timeout", "100")
+    process = driver.start(command)
+    wait_for(process, sleep)
+    process.send_signal(number)
+    printed, errors = process.communicate(timeout=SECONDS)
+    assert process.returncode == status and "Traceback" not in errors, (printed, errors)
+    assert "stopped: --continue continues the run" in printed
+    assert not running(sleep), "a child is left"
+    assert len(findings_in(output)) == (1 if place == "reduction" else 0)
+    assert len(tried_in(output)) == len(findings_in(output)), "a mutant that was under way isn't noted"
 
 
 def test_two_at_once(driver: Driver) -> None:

@@ -5,15 +5,13 @@ from __future__ import annotations
 import argparse
 import hashlib
 import shlex
-import signal
 import sys
 import tempfile
-import time
 import traceback
 from pathlib import Path
 
 from ..options import FAILED, Parser, duration, positive, split_command
-from ..running.processes import Runner, Stopped
+from ..running.processes import OutOfTime, Runner, Stopped
 from ..wasm.binary import Unreadable
 from ..wasm.module import Module
 from ..wasm.reading import read_module
@@ -54,24 +52,6 @@ def parser() -> Parser:
     return made
 
 
-class Signals:
-    """Lets signals end the run, but those that are ignored, as under nohup."""
-
-    def __init__(self, runner: Runner):
-        self.runner = runner
-        self.caught = signal.SIGINT
-        for number in (signal.SIGINT, signal.SIGTERM, signal.SIGHUP):
-            if signal.getsignal(number) is not signal.SIG_IGN:
-                signal.signal(number, self.stop)
-
-    def stop(self, number: int, _frame: object) -> None:
-        self.caught = signal.Signals(number)
-        self.runner.stop()
-
-    def status(self) -> int:
-        return 128 + self.caught
-
-
 def read_file(file: Path) -> bytes:
     try:
         return file.read_bytes()
@@ -100,14 +80,14 @@ class Reduction:
         wanted = lasting(self.options, self.predicate, self.data)
         state = StateFolder(self.options.state, wanted) if self.options.state else State()
         try:
-            with tempfile.TemporaryDirectory(prefix="teddertempo-reduce-") as folder:
+            with tempfile.TemporaryDirectory(prefix="teddertempo-reduce-") as folder, self.runner.within(self.options.time):
                 self.run_in(Path(folder), state)
         finally:
             state.close()
 
     def run_in(self, folder: Path, state: State) -> None:
         options = self.options
-        budget = Budget(options.max_runs, time.monotonic() + options.time if options.time else None)
+        budget = Budget(options.max_runs)
         judge = Judge(Command(tuple(self.predicate)), self.runner, state, budget, folder, options.jobs)
         output = Output(options.output, state)
         reporter = Reporter(output, judge, options.quiet)
@@ -124,6 +104,8 @@ class Reduction:
             search.run(passes)
         except Exhausted as bound:
             stopped = str(bound)
+        except OutOfTime:
+            stopped = "--time"
         reporter.end(len(self.data), search, stopped)
         if options.json:
             write_report(reporter.report(len(self.data), search, stopped), options.json)
@@ -181,12 +163,15 @@ def main() -> int:
     options = made.parse_intermixed_args(own)
     check(options, predicate, made)
     runner = Runner(options.timeout)
-    signals = Signals(runner)
+    runner.stop_on_signals()
     try:
         Reduction(options, predicate, runner).run()
         return 0
-    except Stopped:
-        return signals.status()
+    except Stopped as stopped:
+        return stopped.status
+    except OutOfTime:
+        print(f"teddertempo-reduce: {options.modules[0]}: the time was over before the predicate accepted it", file=sys.stderr)
+        return REFUSED
     except (Failure, StateRefusal, OSError) as reason:
         print(f"teddertempo-reduce: {reason}", file=sys.stderr)
         return REFUSED

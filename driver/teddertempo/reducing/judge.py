@@ -6,7 +6,6 @@ import hashlib
 import queue
 import shutil
 import threading
-import time
 from concurrent.futures import Future
 from contextlib import contextmanager
 from dataclasses import dataclass
@@ -14,11 +13,14 @@ from enum import Enum
 from pathlib import Path
 from typing import Iterator
 
-from ..running.processes import Runner, Stopped
+from ..running.processes import Runner
 from .state import State
 
 # How long a validator may take.
 VALIDATOR_SECONDS = 60.0
+
+# The seconds that a predicate or a validator has to end processes in other groups, if it is ended early.
+GRACE = 1.5
 
 VALIDATORS = (("wasm-validate", "--enable-all"), ("wasm-tools", "validate"))
 
@@ -55,10 +57,9 @@ class Command:
 
 @dataclass(frozen=True)
 class Budget:
-    """How many runs of the predicate there may be, and until when."""
+    """How many runs of the predicate there may be."""
 
     runs: int | None = None
-    deadline: float | None = None
 
 
 class Judge:
@@ -84,7 +85,7 @@ class Judge:
         """Whether a candidate is accepted, and how that is known. Where an equal one is under way, it is waited for."""
         digest = hashlib.sha256(data).hexdigest()
         with self.lock:
-            self.stop_in_time()
+            self.runner.check()
             known = self.state.outcome(digest)
             waited_for = self.under_way.get(digest)
             if known is None and waited_for is None:
@@ -122,12 +123,6 @@ class Judge:
                 self.runs += 1
             return Verdict.ACCEPTED if self.succeeds(self.predicate, file, self.runner.seconds) else Verdict.REFUSED
 
-    def stop_in_time(self) -> None:
-        if self.runner.stopped.is_set():
-            raise Stopped
-        if self.budget.deadline is not None and time.monotonic() >= self.budget.deadline:
-            raise Exhausted("--time")
-
     @contextmanager
     def written(self, data: bytes) -> Iterator[Path]:
         """A file with the bytes, which nobody else has for that time."""
@@ -141,7 +136,7 @@ class Judge:
     def succeeds(self, command: Command, file: Path, seconds: float) -> bool:
         """Whether a command ends with status 0; one that takes too long, or writes too much, is ended and doesn't."""
         try:
-            finished = self.runner.run(command.on(file), seconds)
+            finished = self.runner.run(command.on(file), seconds, grace=GRACE)
         except OSError as error:
             raise Failure(f"{command.words[0]}: {error.strerror}") from error
         return finished.status == 0 and not finished.out_of_time and not finished.too_much_output
