@@ -118,6 +118,13 @@ def wait_for(process: subprocess.Popen[str], word: str) -> None:
         time.sleep(0.05)
 
 
+def startup(tool: str) -> float:
+    """How many seconds a tool takes to start, with what else the machine does now."""
+    began = time.monotonic()
+    subprocess.run([sys.executable, str(TOOLS / tool), "--version"], check=True, capture_output=True)
+    return time.monotonic() - began
+
+
 def as_json(file: Path) -> Json:
     read: Json = json.loads(file.read_text())
     return read
