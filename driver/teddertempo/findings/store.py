@@ -48,7 +48,7 @@ class Store:
         folder.mkdir(parents=True, exist_ok=True)
         settings_file = folder / "settings.json"
         if not settings_file.exists() and any(entry.name[0] != "." and entry.name != "lock" for entry in folder.iterdir()):
-            raise StoreRefusal(f"{folder} isn't empty, and no run of teddertempo-diff wrote it")
+            raise StoreRefusal(f"{folder} isn't empty, and no run of teddertempo-diff wrote it: --output names another folder")
         self.taken = self.take()
         if settings_file.exists():
             if not goes_on:
@@ -62,13 +62,13 @@ class Store:
     def take(self) -> TextIO:
         lock = lock_folder(self.folder)
         if lock is None:
-            raise StoreRefusal(f"another run has {self.folder}")
+            raise StoreRefusal(f"another run uses {self.folder}: --output names another folder")
         return lock
 
     def compare(self, before: dict[str, object], now: dict[str, object]) -> None:
         changed = differing(before, now)
         if changed:
-            raise StoreRefusal(f"the run in {self.folder} had another {', '.join(changed)}: --output names another folder")
+            raise StoreRefusal(f"the run in {self.folder} has another {', '.join(changed)}: --output names another folder")
 
     def load(self) -> None:
         """Reads the results of an earlier run. A last line that was cut short is dropped, and an unfinished folder is removed."""

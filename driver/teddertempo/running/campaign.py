@@ -140,11 +140,12 @@ class Campaign:
     # ---- turns
 
     def work(self) -> None:
-        """Takes turns until there are no more. An error that isn't expected ends the work of all."""
+        """Examines modules and tries mutants until there are no more. An error that isn't expected ends the work of all."""
         try:
-            while turn := self.next_turn():
-                if turn.subject:
-                    self.try_next(turn, turn.subject)
+            while task := self.next_task():
+                turn, seed = task
+                if turn.subject and seed is not None:
+                    self.try_mutant(turn.subject, seed)
                 else:
                     self.examine(turn)
         except Ended:
@@ -156,15 +157,29 @@ class Campaign:
             self.ended.set()
             raise
 
-    def next_turn(self) -> Turn | None:
-        """The next module in the queue. If there is none, it waits for those that are under examination."""
+    def next_task(self) -> tuple[Turn, int | None] | None:
+        """The next module in the queue, to be examined or with the seed of its next mutant; all others come before the mutant after that
+        one. If the queue is empty, modules that are under examination are waited for."""
         with self.changed:
-            self.changed.wait_for(lambda: self.queue or not self.under_examination)
-            self.check()
-            turn = self.queue.popleft() if self.queue else None
-            if turn and not turn.subject:
-                self.under_examination += 1
-            return turn
+            while self.changed.wait_for(lambda: self.queue or not self.under_examination) and self.queue:
+                self.check()
+                turn = self.queue.popleft()
+                if turn.subject is None:
+                    self.under_examination += 1
+                    return turn, None
+                seed = self.next_seed(turn.subject, turn.seeds)
+                if seed is not None:
+                    self.queue.append(turn)
+                    return turn, seed
+        return None
+
+    def next_seed(self, subject: Subject, seeds: Iterator[int]) -> int | None:
+        """The next seed whose mutant wasn't tried yet."""
+        for seed in seeds:
+            if not self.store.was_tried(subject.digest, seed):
+                return seed
+            self.mutants += 1
+        return None
 
     def check(self) -> None:
         """Raises `Ended` if the run has ended."""
@@ -173,7 +188,7 @@ class Campaign:
             raise Ended
 
     def examine(self, turn: Turn) -> None:
-        """Examines a module. If it can be tried, it has the next turn."""
+        """Examines a module. If it can be tried, it is the first one in the queue."""
         reason = None
         try:
             with folder_with(turn.path, None, self.folder) as folder:
@@ -192,26 +207,14 @@ class Campaign:
             self.examined += 1
             self.tell()
 
-    def try_next(self, turn: Turn, subject: Subject) -> None:
-        """Tries the next mutant of a module that wasn't tried yet. The other modules have their turns before the one after it."""
-        seed = self.next_seed(turn, subject)
-        if seed is not None:
-            outcome = self.outcome(subject, seed)
-            self.store.note(subject.digest, str(subject.path), seed, outcome)
-            with self.lock:
-                self.mutants += 1
-                self.summary.outcomes[outcome.split(":")[0]] += 1
-                self.tell()
-
-    def next_seed(self, turn: Turn, subject: Subject) -> int | None:
-        with self.changed:
-            for seed in turn.seeds:
-                if not self.store.was_tried(subject.digest, seed):
-                    self.queue.append(turn)
-                    self.changed.notify()
-                    return seed
-                self.mutants += 1
-        return None
+    def try_mutant(self, subject: Subject, seed: int) -> None:
+        """Tries a mutant, and notes the outcome."""
+        outcome = self.outcome(subject, seed)
+        self.store.note(subject.digest, str(subject.path), seed, outcome)
+        with self.lock:
+            self.mutants += 1
+            self.summary.outcomes[outcome.split(":")[0]] += 1
+            self.tell()
 
     def tell(self) -> None:
         mutants = (self.examined - len(self.summary.skipped)) * len(self.settings.seeds)
