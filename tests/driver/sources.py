@@ -66,6 +66,7 @@ SMALL = """(module
 PROGRAM = """#!{python}
 import sys
 sys.path.insert(0, {tools!r})
+sys.dont_write_bytecode = True
 from dataclasses import replace
 from teddertempo.wasm.immediates import Space
 from teddertempo.reducing.passes.edits import edited, with_functions

@@ -33,6 +33,7 @@ ENGINE = """
 import os, subprocess, sys, time
 from pathlib import Path
 sys.path.insert(0, {tools!r})
+sys.dont_write_bytecode = True
 from teddertempo.wasm.reading import read_declarations
 mode, file = sys.argv[1:]
 own = Path(__file__).parent
