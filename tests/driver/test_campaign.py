@@ -12,8 +12,9 @@ import pytest
 from support import TOP, Driver, Json, lines_of
 
 from teddertempo.engines.engine import Engine
+from teddertempo.findings.report import line_of
 from teddertempo.findings.store import Finding, Store
-from teddertempo.running.campaign import Campaign, Listener, Settings
+from teddertempo.running.campaign import Campaign, Listener, Progress, Settings
 from teddertempo.running.mutator import Choice, Dose, Mutator
 from teddertempo.running.processes import Runner
 
@@ -39,6 +40,11 @@ def test_modules_and_mutants_alternate(driver: Driver) -> None:
     assert "".join(ran) == "00m11m22mmmm"
     tried = [(digests.index(entry["digest"]), entry["seed"]) for entry in lines_of((output / "tried.jsonl").read_text())]
     assert tried == [(0, 0), (1, 0), (2, 0), (0, 1), (1, 1), (2, 1)]
+
+
+def test_progress() -> None:
+    assert line_of(Progress(3, 10, 2, 12, 1)) == "3 of 10 modules examined, 2 mutants, 1 found"
+    assert line_of(Progress(10, 10, 1234, 5000, 0)) == "1,234 of 5,000 mutants, 0 found"
 
 
 @pytest.fixture

@@ -171,7 +171,7 @@ class Reducer:
                     return Reduced(before, trouble=finished.errors.decode("utf-8", "replace").strip().split("\n")[-1])
                 return self.explained(folder, before)
         except OutOfTime:
-            return Reduced(before, trouble="the time was over")
+            return Reduced(before, trouble="the time was over before a rewrite of reduced.wasm was found")
         except MutatorFailure as failure:
             return Reduced(before, trouble=str(failure))
 
@@ -206,12 +206,15 @@ def kept(folder: Path, before: int, witness: Witness, module: Path, mutant: Muta
 
 def text_of(finding: Finding, reduced: Reduced, mutant: Mutant, shown: str) -> str:
     """The text for people about a reduced finding."""
+    rewrites = "One rewrite" if mutant.count == 1 else f"A sequence of {mutant.count} rewrites"
     lines = [
-        f"reduced.wasm has {reduced.after:,} bytes, good.wasm {reduced.before:,}. The last of {mutant.count:,} rewrites by the rule "
-        f"{finding.rule}, all of which may be needed, is below. The engine's answer changes ({finding.kind}):",
+        f"reduced.wasm has {reduced.after:,} bytes, good.wasm {reduced.before:,}. {rewrites} by the rule {finding.rule} changes the engine's "
+        f"answer ({finding.kind}):",
         "",
         f"before  {mutant.difference.original}",
         f"after   {mutant.difference.rewrite}",
+        "",
+        "The last rewrite:",
         "",
         *(f"    {line}" for line in shown.rstrip("\n").split("\n")),
         "",
@@ -219,7 +222,7 @@ def text_of(finding: Finding, reduced: Reduced, mutant: Mutant, shown: str) -> s
         "",
         f"    {reduced.command}",
         "",
-        "What the engine wrote for it:",
+        "The engine's output for it:",
         "",
         *(f"    {line}" for line in mutant.observation.text.rstrip("\n").split("\n")),
     ]
