@@ -62,7 +62,7 @@ def parser() -> Parser:
     made.add_argument("--as", dest="engine", choices=sorted(ENGINES), help="the kind of engine, if the name of its program doesn't show it")
     made.add_argument("--timeout", type=duration, default=10.0, metavar="TIME", help="ends each run of the engine after that time (10s)")
     made.add_argument("--time", type=duration, metavar="TIME",
-                      help="ends all runs on mutants after that time, as 30m or 8h; --reduce adds to it")
+                      help="ends after that time, as 30m or 8h; the time for --reduce is in addition")
     made.add_argument("--jobs", type=positive, default=processors(), metavar="N",
                       help="how many runs at the same time (one for each core)")
     made.add_argument("--first", action="store_true", help="ends after the first finding")
@@ -76,7 +76,7 @@ def parser() -> Parser:
     made.add_argument("--differs", type=Path, metavar="FINDING",
                       help="only reports whether rewrites of MODULE differ as those of the finding in that folder do: status 0 if so, else 1")
     made.add_argument("--rule", action="append", default=[], metavar="NAME", help="uses only this rule (again for more)")
-    made.add_argument("--not-rule", action="append", default=[], metavar="NAME", help="uses all rules but this (again for more)")
+    made.add_argument("--not-rule", action="append", default=[], metavar="NAME", help="uses all rules except this (again for more)")
     made.add_argument("--swarm", type=positive, default=1, metavar="N",
                       help="makes each mutant by an Nth of the rules, for each of N seeds by another Nth (1: by all)")
     made.add_argument("--max-size", type=positive, metavar="BYTES", help="makes no mutant that is larger")
