@@ -13,7 +13,7 @@ cd "$(dirname "$0")/.."
 
 work=$(mktemp -d)
 trap 'rm -rf "$work"' EXIT
-export PYTHONPYCACHEPREFIX=$work/bytecode
+export PYTHONDONTWRITEBYTECODE=1
 
 python=
 for candidate in ${PYTHON:-python3 /usr/bin/python3}; do

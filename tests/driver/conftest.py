@@ -24,12 +24,6 @@ def pytest_collection_modifyitems(items: list[pytest.Item]) -> None:
     items.sort(key=lambda item: bool({"driver", "reducer"} & {*getattr(item, "fixturenames", ())}))
 
 
-@pytest.fixture(scope="session", autouse=True)
-def bytecode(tmp_path_factory: pytest.TempPathFactory) -> None:
-    """Lets the many processes of the tests share what Python compiles, in a folder of their own."""
-    os.environ.setdefault("PYTHONPYCACHEPREFIX", str(tmp_path_factory.mktemp("bytecode")))
-
-
 @pytest.fixture(scope="session")
 def program() -> Path:
     found = Path(os.environ.get("TEDDERTEMPO", TOP / "crates/teddertempo/out/teddertempo")).resolve()

@@ -14,9 +14,9 @@ from pathlib import Path
 import pytest
 from support import SECONDS, TOOLS, Reducer, as_json, running, sleep_of_test
 
-from teddertempo.reducing.commands import Commands, Exhausted
+from teddertempo.reducing.commands import Commands
 from teddertempo.reducing.passes.trees import Deletions
-from teddertempo.running.processes import Runner
+from teddertempo.running.processes import OutOfTime, Runner
 from teddertempo.wasm.reading import read_module
 
 ROTATION = "wasm-objdump -d $1 | grep -q i32.rotl"
@@ -104,15 +104,16 @@ def test_time_ends_other_commands(reducer: Reducer, small: Path, request: pytest
 def test_time_ends_the_look_for_positions(small: Path) -> None:
     """A pass checks the time for each function, since a large module takes long."""
     deletions = Deletions()
-    deletions.commands = Commands(Runner(1), time.monotonic() - 1)
-    with pytest.raises(Exhausted, match="--time"):
+    runner = Runner(1)
+    deletions.commands = Commands(runner)
+    with runner.within(0), pytest.raises(OutOfTime):
         deletions.positions(read_module(small.read_bytes()))
 
 
 def test_time_is_over_at_first(reducer: Reducer, small: Path) -> None:
     """Nothing is known of the module, so that no OUTPUT is written."""
     done, left = reducer.reduced(small, "sleep 100", "--time", "1s")
-    assert done.returncode == 1 and "didn't accept it within --time" in done.stderr and not left, done.stderr
+    assert done.returncode == 1 and "the time was over" in done.stderr and not left, done.stderr
 
 
 def test_state(reducer: Reducer, small: Path) -> None:

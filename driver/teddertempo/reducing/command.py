@@ -5,15 +5,13 @@ from __future__ import annotations
 import argparse
 import hashlib
 import shlex
-import signal
 import sys
 import tempfile
-import time
 import traceback
 from pathlib import Path
 
 from ..options import FAILED, Parser, duration, positive, split_command
-from ..running.processes import Runner, Stopped
+from ..running.processes import OutOfTime, Runner, Stopped
 from ..wasm.binary import Unreadable
 from ..wasm.module import Module
 from ..wasm.reading import read_module
@@ -55,24 +53,6 @@ def parser() -> Parser:
     return made
 
 
-class Signals:
-    """Lets signals end the run, except those that are ignored, as under nohup."""
-
-    def __init__(self, runner: Runner):
-        self.runner = runner
-        self.caught = signal.SIGINT
-        for number in (signal.SIGINT, signal.SIGTERM, signal.SIGHUP):
-            if signal.getsignal(number) is not signal.SIG_IGN:
-                signal.signal(number, self.stop)
-
-    def stop(self, number: int, _frame: object) -> None:
-        self.caught = signal.Signals(number)
-        self.runner.stop()
-
-    def status(self) -> int:
-        return 128 + self.caught
-
-
 def read_file(file: Path) -> bytes:
     try:
         return file.read_bytes()
@@ -101,15 +81,15 @@ class Reduction:
         wanted = lasting(self.options, self.predicate, self.data)
         state = StateFolder(self.options.state, wanted) if self.options.state else State()
         try:
-            with tempfile.TemporaryDirectory(prefix="teddertempo-reduce-") as folder:
+            with tempfile.TemporaryDirectory(prefix="teddertempo-reduce-") as folder, self.runner.within(self.options.time):
                 self.run_in(Path(folder), state)
         finally:
             state.close()
 
     def run_in(self, folder: Path, state: State) -> None:
         options = self.options
-        commands = Commands(self.runner, time.monotonic() + options.time if options.time else None)
-        bounds = Bounds(options.timeout, options.max_runs)
+        commands = Commands(self.runner)
+        bounds = Bounds(self.runner.seconds, options.max_runs)
         judge = Judge(Command(tuple(self.predicate)), commands, state, bounds, folder, options.jobs)
         output = Output(options.output, state)
         reporter = Reporter(output, judge, options.quiet)
@@ -123,18 +103,16 @@ class Reduction:
             search.run(all_passes(self.changer(commands, folder, reporter), options.keep_names))
         except Exhausted as limit:
             stopped = str(limit)
+        except OutOfTime:
+            stopped = "--time"
         reporter.end(len(self.data), search, stopped)
         if options.json:
             write_report(reporter.report(len(self.data), search, stopped), options.json)
 
     def accept(self, best: bytes, judge: Judge, reporter: Reporter) -> None:
         """Makes sure that the predicate accepts the module with which the search begins."""
-        try:
-            self.choose_validator(judge, reporter)
-            is_accepted, _ = judge.judge(best)
-        except Exhausted as limit:
-            raise Failure(f"{self.name}: the predicate didn't accept it within {limit}") from limit
-        if not is_accepted:
+        self.choose_validator(judge, reporter)
+        if not judge.judge(best)[0]:
             raise Failure(f"{self.name}: the predicate doesn't accept it")
 
     def decoded(self, data: bytes, reporter: Reporter) -> Module:
@@ -191,12 +169,15 @@ def main() -> int:
     options = made.parse_intermixed_args(own)
     check(options, predicate, made)
     runner = Runner(options.timeout)
-    signals = Signals(runner)
+    runner.stop_on_signals()
     try:
         Reduction(options, predicate, runner).run()
         return 0
-    except Stopped:
-        return signals.status()
+    except Stopped as stopped:
+        return stopped.status
+    except OutOfTime:
+        print(f"teddertempo-reduce: {options.modules[0]}: the time was over before the predicate accepted it", file=sys.stderr)
+        return REFUSED
     except (Failure, StateRefusal, OSError) as reason:
         print(f"teddertempo-reduce: {reason}", file=sys.stderr)
         return REFUSED

@@ -57,7 +57,7 @@ class Pass:
     commands: Commands | None = None
 
     def check_time(self) -> None:
-        """Raises `Exhausted` if the search has a deadline and it is reached; for use between parts of long work."""
+        """Raises an exception if the search has to end; for use between parts of long work."""
         if self.commands is not None:
             self.commands.check_time()
 
