@@ -3,6 +3,7 @@
 from __future__ import annotations
 
 import argparse
+import os
 import re
 import sys
 from typing import NoReturn
@@ -35,6 +36,11 @@ def positive(text: str) -> int:
     if not re.fullmatch(r"\d+", text) or int(text) == 0:
         raise argparse.ArgumentTypeError("a number above 0")
     return int(text)
+
+
+def processors() -> int:
+    """How many processors this process may use, if the system reports it, else how many there are."""
+    return len(os.sched_getaffinity(0)) if hasattr(os, "sched_getaffinity") else os.cpu_count() or 1
 
 
 def split_command(words: list[str]) -> tuple[list[str], list[str]]:

@@ -1,4 +1,4 @@
-"""Modules in the text format, and the program of the tests, which makes changes as teddertempo would."""
+"""Modules in the text format."""
 
 # A module with something in each section, which names all that it has.
 ALL = """(module
@@ -60,32 +60,4 @@ SMALL = """(module
     (i32.add (local.get 1) (local.get 2)))
   (func (export "other") (result f64) (f64.add (f64.const 1.5) (f64.const 2)))
   (data (i32.const 8) "zeros and letters"))
-"""
-
-# The program of the test: it deletes statements, or makes constants of trees, as its change is named, in the places that are named.
-PROGRAM = """#!{python}
-import sys
-sys.path.insert(0, {tools!r})
-sys.dont_write_bytecode = True
-from dataclasses import replace
-from teddertempo.wasm.immediates import Space
-from teddertempo.reducing.passes.edits import edited, with_functions
-from teddertempo.reducing.passes.trees import Constants, Deletions, Operands
-from teddertempo.wasm.reading import read_module
-words = sys.argv[1:]
-open({log!r}, "a").write(" ".join(words) + "\\n")
-if {old}: sys.exit(64)
-change = [word[9:] for word in words if word.startswith("--change=")][0]
-named = dict(zip(words[1::2], words[2::2]))
-source, new = words[-3], words[-1]
-made = {{"delete": Deletions(), "draw": Constants(), "first_operand": Operands(False), "last_operand": Operands(True)}}[change]
-module = read_module(open(source, "rb").read())
-before = module.encoded
-index = int(named["--function"]) - module.imported(Space.FUNCTION)
-first, last = int(named["--from"]), int(named.get("--to", 1 << 30))
-own = module.functions[index]
-edits = [edit for edit in made.found(module.context, own) if first <= edit.behind - 1 <= last]
-module = with_functions(module, {{index: replace(own, body=edited(own.body, edits))}})
-if module.encoded == before: sys.exit(2)
-open(new, "wb").write(module.encoded)
 """

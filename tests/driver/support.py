@@ -4,8 +4,10 @@ from __future__ import annotations
 
 import json
 import os
+import signal
 import subprocess
 import sys
+import time
 from dataclasses import dataclass
 from pathlib import Path
 from typing import Any
@@ -25,20 +27,32 @@ RULES = ("--rule", "through_global", "--rule", "commute", "--rule", "with_nop")
 # How long a run may take, on a machine that has much else to do too.
 SECONDS = 900
 
-# The engine of the tests: ENGINE MODE MODULE. It is wrong on a module with more globals than `first`.
+# The engine of the tests: ENGINE MODE MODULE. It is wrong on a module with more globals than `first`, and notes its runs in `runs`:
+# `+` for such a module, else `-`.
 ENGINE = """
 import os, subprocess, sys, time
+from pathlib import Path
 sys.path.insert(0, {tools!r})
 sys.dont_write_bytecode = True
 from teddertempo.wasm.reading import read_declarations
 mode, file = sys.argv[1:]
+own = Path(__file__).parent
 falls = len(read_declarations(open(file, "rb").read()).globals) > {first}
+with open(own / "runs", "a") as runs: runs.write("+" if falls else "-")
+noted = (own / "runs").read_text()
+hangs = {{
+    "always": True,
+    "third": len(noted) % 3 == 0,
+    "traced": noted.endswith("+") and noted.count("+") == 2,
+    "kept": list(own.glob("*/0001-*/finding.json")),
+}}
+if hangs.get(mode): subprocess.run(["sleep", {sleep!r}])
 if mode == "slow": time.sleep(float(os.environ.get("SLOW", "0.1")))
 if mode == "unsteady": print(time.time_ns())
 if mode == "child":
     subprocess.Popen(["sleep", {sleep!r}])
 if falls:
-    if mode == "value": print("other"); sys.exit()
+    if mode in ("value", "traced", "kept"): print("other"); sys.exit()
     if mode == "crash": os.abort()
     if mode == "trap": sys.exit("RuntimeError: unreachable")
     if mode == "refusal": sys.exit("CompileError: type mismatch")
@@ -50,6 +64,12 @@ if falls:
         while True: sys.stdout.write("x" * 65536)
 print("one")
 if mode == "status": sys.exit("RuntimeError: unreachable")
+"""
+
+# A program that does what teddertempo does, but never ends if it is asked for a mutant.
+PROGRAM_THAT_HANGS = """#!/bin/bash
+for word; do if [ "$word" = --seed ]; then sleep {sleep}; fi; done
+exec '{program}' "$@"
 """
 
 Json = dict[str, Any]
@@ -93,6 +113,19 @@ def running(word: str) -> list[str]:
     return found
 
 
+def wait_for(process: subprocess.Popen[str], word: str) -> None:
+    """Waits until a process with a word on its command line runs, or the given one has ended."""
+    while process.poll() is None and not running(word):
+        time.sleep(0.05)
+
+
+def startup(tool: str) -> float:
+    """How many seconds a tool takes to start, with what else the machine does now."""
+    began = time.monotonic()
+    subprocess.run([sys.executable, str(TOOLS / tool), "--version"], check=True, capture_output=True)
+    return time.monotonic() - began
+
+
 def as_json(file: Path) -> Json:
     read: Json = json.loads(file.read_text())
     return read
@@ -127,9 +160,21 @@ class Driver:
         command = self.command(modules, engine, output, *options)
         return subprocess.run(command, capture_output=True, text=True, timeout=SECONDS), output
 
-    def run_mode(self, mode: str, *options: str) -> tuple[Process, Path]:
+    def run_mode(self, mode: str, *options: str, output: Path | None = None) -> tuple[Process, Path]:
         timeout = () if "--timeout" in options else ("--timeout", "20")
-        return self.run([self.module], self.engine(mode), *timeout, "--dose", "20", "--seeds", "4", *options)
+        return self.run([self.module], self.engine(mode), *timeout, "--dose", "20", "--seeds", "4", *options, output=output)
+
+    def start(self, command: list[str]) -> subprocess.Popen[str]:
+        """Starts a command that a signal may end, also if the tests ignore SIGINT."""
+        return subprocess.Popen(command, stdout=subprocess.PIPE, stderr=subprocess.PIPE, text=True,
+                                preexec_fn=lambda: signal.signal(signal.SIGINT, signal.SIG_DFL))
+
+    def hang(self, sleep: str) -> None:
+        """Lets the program that rewrites hang: it starts a `sleep`."""
+        file = self.folder / "program"
+        file.write_text(PROGRAM_THAT_HANGS.format(sleep=sleep, program=self.program))
+        file.chmod(0o755)
+        self.program = file
 
     def rewrite(self, *words: str) -> subprocess.CompletedProcess[bytes]:
         return subprocess.run([str(self.program), *words], capture_output=True, cwd=self.folder)

@@ -8,7 +8,7 @@ import subprocess
 from dataclasses import dataclass
 
 import pytest
-from support import RULES, Driver, as_json, findings_in, globals_in, lines_of, running, sleep_of_test
+from support import RULES, Driver, as_json, findings_in, globals_in, lines_of, running, sleep_of_test, startup
 
 FILES = ["README.txt", "bad.txt", "bad.wasm", "finding.json", "good.txt", "good.wasm", "original.txt", "original.wasm", "rewrite.txt"]
 
@@ -110,7 +110,8 @@ def test_quiet(driver: Driver) -> None:
 
 def test_reduced_finding(driver: Driver) -> None:
     """A finding gets smaller, and stays one; the predicate tells it from other modules."""
-    done, output = driver.run_mode("value", *RULES, "--reduce", "20s", "--json")
+    seconds = 20 + 60 * startup("teddertempo-diff")  # many predicates and engines start in it
+    done, output = driver.run_mode("value", *RULES, "--reduce", f"{seconds:.0f}s", "--json")
     lines = lines_of(done.stdout)
     assert [list(line)[0] for line in lines] == ["finding", "reduced", "summary"], done.stderr
     folder = next(output.glob("0001-*"))

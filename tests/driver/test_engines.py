@@ -4,15 +4,17 @@ from __future__ import annotations
 
 import json
 import shutil
+import subprocess
 from pathlib import Path
 
 import pytest
 from support import TOP, Driver, lines_of, module_of, sum_with
 
-from teddertempo.engines.engine import Plan, engine_of
-from teddertempo.engines.interface import read_interface
+from teddertempo.engines.calls import Call
+from teddertempo.engines.engine import Node, Plan, Spectest, engine_of
+from teddertempo.engines.interface import FunctionExport, FunctionType, Interface, read_interface
 from teddertempo.engines.outcomes import Answer, Kind, difference_of
-from teddertempo.running.processes import Runner
+from teddertempo.running.processes import Finished, Runner
 
 NOT_A_NUMBER = b"\x43" + (0x7FC00001).to_bytes(4, "little") + b"\x43\0\0\0\0\x92"
 
@@ -77,3 +79,40 @@ def test_many_traps(driver: Driver) -> None:
     module.write_bytes(module_of([*traps, sum_with(3)]))
     done, _ = driver.run([module], ["spectest-interp"], "--seeds", "2", "--json")
     assert lines_of(done.stdout)[-1]["summary"]["mutants"] == {"same": 2}
+
+
+# A recursion whose calls call an import, and the same with larger frames and twice as many: deeper than the stack of either engine.
+DEEP = """(module
+  (import "spectest" "print_i32" (func $log (param i32)))
+  (func $deeper (param i32) {locals}
+    (call $log (local.get 0))
+    (if (local.get 0) (then (call ${next} (i32.sub (local.get 0) (i32.const 1))))))
+  (func $between (param i32) (call $deeper (local.get 0)))
+  (func (export "deep") (call $deeper (i32.const 1500))))
+"""
+
+
+def test_an_exhausted_stack_is_no_difference(engine: str, folder: Path) -> None:
+    """How often an import was called before the stack was exhausted isn't compared."""
+    answers = []
+    for name, place, locals in (("shallow", "deeper", ""), ("deep", "between", f"(local{' i64' * 5000})")):
+        source, module = folder / f"{name}.wat", folder / f"{name}.wasm"
+        source.write_text(DEEP.format(next=place, locals=locals))
+        subprocess.run(["wat2wasm", str(source), "-o", str(module)], check=True)
+        answers.append(answers_to(engine, folder / name, module.read_bytes()))
+    shallow, deep = answers
+    assert [answer.kind for answer in shallow if answer.place == "deep()"] == [Kind.HOST, Kind.VALUE] * 2
+    assert [answer.kind for answer in deep if answer.place == "deep()"] == [Kind.EXHAUSTED] * 2
+    assert difference_of(shallow, deep, False) is None and difference_of(deep, shallow, False) is None
+
+
+def test_calls_of_imports_are_noted_unless_the_stack_is_exhausted() -> None:
+    assert Node.answers_of("f()", "value", "i32:1", ["2 ab"]) == [Answer("f()", Kind.HOST, "2 ab"), Answer("f()", Kind.VALUE, "i32:1")]
+    assert Node.answers_of("f()", "trap", "unreachable", ["2 ab"]) == [Answer("f()", Kind.HOST, "2 ab"), Answer("f()", Kind.TRAP, "unreachable")]
+    for word, text in (("exhausted", ""), ("trap", "RuntimeError: stack overflow")):
+        assert Node.answers_of("f()", word, text, ["2 ab"]) == [Answer("f()", Kind.EXHAUSTED)]
+    call = Call("f", ())
+    plan = Plan(Interface(functions=(FunctionExport("f", FunctionType((), ())),)), [call, call])
+    printed = b"called host spectest.print() =>\nf() =>\ncalled host spectest.print() =>\nf() => error: call stack exhausted\n"
+    answers = Spectest(["spectest-interp"], 1).read_cut(plan, [Finished(0, printed, b"")])
+    assert answers == [Answer("f()", Kind.HOST, "spectest.print() =>"), Answer("f()", Kind.VALUE), Answer("f()", Kind.EXHAUSTED)]

@@ -87,6 +87,24 @@ def test_broken_body_is_rejected(broken: bytes) -> None:
         read_body(Reader(broken))
 
 
+# What `wasm-as -all` of binaryen 108 writes, and node 20 accepts with --experimental-wasm-gc, of a module in the encoding of 2022:
+# (module (type $p (struct (field i32) (field (mut i64))))
+#   (func (export "s") (result i32) (struct.get $p 0 (struct.new $p (i32.const 7) (i64.const 9))))
+#   (func (export "n") (result i32) (local (ref null $p)) (i32.const 5))
+#   (func (export "c") (result i32) (i32.const 3)))
+DECLARED = "0061736d01000000010b026000017f5f027f007e01030403000000070d0301730000016e000101630002"
+OF_2022 = bytes.fromhex(DECLARED + "0a1c03" "0d0041074209fb0701fb0301000b" "0701016c0141050b" "040041030b")
+OF_3_0 = bytes.fromhex(DECLARED + "0a1c03" "0d0041074209fb0001fb0201000b" "070101630141050b" "040041030b")
+
+
+def test_encodings() -> None:
+    """Code that the encodings of 2022 and 3.0 read differently is kept as it is, in a module that can't be of 3.0."""
+    older, newer = read_module(OF_2022), read_module(OF_3_0)
+    assert older.encoded == OF_2022 and newer.encoded == OF_3_0
+    assert [function.unread is None for function in older.functions] == [False, False, True]
+    assert newer.is_whole() and not older.is_whole()
+
+
 def test_interface(all_sections: Path) -> None:
     """The imports and exports of a module that was written by hand."""
     interface = read_interface(all_sections.read_bytes())

@@ -3,18 +3,27 @@
 from __future__ import annotations
 
 import json
+import shlex
 import signal
 import subprocess
 import sys
 import time
+from dataclasses import dataclass
 from pathlib import Path
 
 import pytest
-from sources import PROGRAM
 from support import SECONDS, TOOLS, Reducer, as_json, running, sleep_of_test
+
+from teddertempo.reducing.commands import Commands
+from teddertempo.reducing.passes.trees import Deletions
+from teddertempo.running.processes import OutOfTime, Runner
+from teddertempo.wasm.reading import read_module
 
 ROTATION = "wasm-objdump -d $1 | grep -q i32.rotl"
 LETTERS = "grep -q letters $1"
+
+# How long a start of the reducer takes on a machine that has much else to do too.
+START = 10
 
 
 def test_report(reducer: Reducer, small: Path) -> None:
@@ -64,6 +73,47 @@ def test_max_runs(reducer: Reducer, small: Path) -> None:
 def test_time(reducer: Reducer, small: Path) -> None:
     done, left = reducer.reduced(small, f"sleep 0.2; {LETTERS}", "--time", "1s")
     assert done.returncode == 0 and b"letters" in left, done.stderr
+
+
+@pytest.mark.parametrize("jobs", ("1", "3"))
+def test_time_ends_a_run(reducer: Reducer, small: Path, request: pytest.FixtureRequest, jobs: str) -> None:
+    """A predicate that hangs at the third candidate is ended when the time is over, with its children; the best module stays."""
+    log, seconds = reducer.folder / "ran", sleep_of_test(request.node.name)
+    script = f"echo run >> '{log}'; test $(wc -l < '{log}') -lt 3 || sleep {seconds}; {LETTERS}"
+    options = ("--timeout", "500s", "--time", "15s", "--jobs", jobs, "--json", str(reducer.folder / "report"))
+    began = time.monotonic()
+    done, left = reducer.reduced(small, script, *options)
+    assert 15 <= time.monotonic() - began < 20 + START, done.stderr
+    assert done.returncode == 0 and b"letters" in left and "stopped: --time" in done.stderr, done.stderr
+    assert as_json(reducer.folder / "report")["after"] == len(left)
+    assert not running(seconds), "a child is left"
+
+
+@pytest.mark.parametrize("what", ("validator", "program"))
+def test_time_ends_other_commands(reducer: Reducer, small: Path, request: pytest.FixtureRequest, what: str) -> None:
+    """A validator that hangs at the third candidate, and a program that hangs at once."""
+    log, seconds = reducer.folder / "ran", sleep_of_test(request.node.name)
+    hangs = reducer.predicate(f"echo run >> '{log}'; test $(wc -l < '{log}') -lt {3 if what == 'validator' else 1} || sleep {seconds}")
+    began = time.monotonic()
+    validator = shlex.quote(str(hangs))
+    done, left = reducer.reduced(small, LETTERS, f"--{what}", validator if what == "validator" else str(hangs), "--time", "15s")
+    assert 15 <= time.monotonic() - began < 20 + START, done.stderr
+    assert done.returncode == 0 and b"letters" in left and not running(seconds), done.stderr
+
+
+def test_time_ends_the_look_for_positions(small: Path) -> None:
+    """A pass checks the time for each function, since a large module takes long."""
+    deletions = Deletions()
+    runner = Runner(1)
+    deletions.commands = Commands(runner)
+    with runner.within(0), pytest.raises(OutOfTime):
+        deletions.positions(read_module(small.read_bytes()))
+
+
+def test_time_is_over_at_first(reducer: Reducer, small: Path) -> None:
+    """Nothing is known of the module, so that no OUTPUT is written."""
+    done, left = reducer.reduced(small, "sleep 100", "--time", "1s")
+    assert done.returncode == 1 and "the time was over" in done.stderr and not left, done.stderr
 
 
 def test_state(reducer: Reducer, small: Path) -> None:
@@ -138,27 +188,51 @@ def test_refusal_without_output(small: Path) -> None:
     assert done.returncode == 64 and "no OUTPUT" in done.stderr
 
 
-def program_of_test(reducer: Reducer, log: Path, is_old: bool) -> Path:
-    """The program of the test, which notes its calls; an old one doesn't know places."""
-    program = reducer.folder / "program"
-    program.write_text(PROGRAM.format(python=sys.executable, tools=str(TOOLS), log=str(log), old=is_old))
-    program.chmod(0o755)
-    return program
+@dataclass(frozen=True)
+class Wrapper:
+    """The program, which refuses options as an older one does, and notes the status and the words of each call."""
+
+    file: Path
+    log: Path
+
+    def calls(self) -> list[str]:
+        return self.log.read_text().splitlines()
 
 
-def test_changes(reducer: Reducer, small: Path) -> None:
-    """The program's changes are made in the places that are named."""
-    log = reducer.folder / "called"
-    done, left = reducer.reduced(small, ROTATION, "--program", str(program_of_test(reducer, log, False)), "--json", "-")
+def wrapper_of(reducer: Reducer, program: Path, refused: str) -> Wrapper:
+    made = Wrapper(reducer.folder / "a program", reducer.folder / "calls")
+    made.file.write_text(f"""#!/bin/bash
+case "$*" in {refused}) status=64;; *) '{program}' "$@"; status=$?;; esac
+echo "$status $*" >> '{made.log}'
+exit $status
+""")
+    made.file.chmod(0o755)
+    return made
+
+
+def test_changes(reducer: Reducer, small: Path, program: Path) -> None:
+    """The program lists the places of its changes: each change that it is asked for is made. Functions are counted with imported ones."""
+    wrapper = wrapper_of(reducer, program, "nothing")
+    done, left = reducer.reduced(small, ROTATION, "--program", str(wrapper.file), "--json", "-")
     passes = {each["name"]: each for each in json.loads(done.stdout)["passes"] if each["name"].startswith("change ")}
     assert len(passes) == 4 and sum(each["accepted"] for each in passes.values()) > 1
-    assert all(call.startswith("--change=") and " --from " in call for call in log.read_text().splitlines())
+    probe, *calls = wrapper.calls()
+    assert "--from 0" in probe and all(call.startswith("0 --change=") for call in calls), calls
+    assert any(" --list --json " in call for call in calls) and any(" --from " in call for call in calls), calls
     assert len(left) <= 35
 
 
-def test_changes_by_an_old_program(reducer: Reducer, small: Path) -> None:
-    log = reducer.folder / "called"
-    done, _ = reducer.reduced(small, ROTATION, "--program", str(program_of_test(reducer, log, True)), "--json", "-")
+def test_changes_by_a_program_without_lists(reducer: Reducer, small: Path, program: Path) -> None:
+    """It is asked for a list once, and leaves as little."""
+    wrapper = wrapper_of(reducer, program, '*" --list "*')
+    done, left = reducer.reduced(small, ROTATION, "--program", str(wrapper.file))
+    assert len([call for call in wrapper.calls() if " --list " in call]) == 1
+    assert done.returncode == 0 and len(left) <= 35, done.stderr
+
+
+def test_changes_by_an_old_program(reducer: Reducer, small: Path, program: Path) -> None:
+    wrapper = wrapper_of(reducer, program, "*")
+    done, _ = reducer.reduced(small, ROTATION, "--program", str(wrapper.file), "--json", "-")
     assert "doesn't know --from" in done.stderr
     assert not [each for each in json.loads(done.stdout)["passes"] if each["name"].startswith("change ")]
-    assert len(log.read_text().splitlines()) == 1
+    assert len(wrapper.calls()) == 1

@@ -9,6 +9,7 @@ from pathlib import Path
 
 import pytest
 from support import Reducer
+from test_modules import OF_2022
 
 from teddertempo.wasm.reading import read_module
 
@@ -47,6 +48,48 @@ def test_row(reducer: Reducer, small: Path, row: Row) -> None:
     assert done.returncode == 0, done.stderr
     assert reducer.output.stat().st_size <= row.most, done.stderr
     assert subprocess.run([predicate, str(reducer.output)], capture_output=True).returncode == 0
+
+
+GLOBAL = "(global $g (mut i32) (i32.const 0))"
+ROTATION = "(i32.rotl (local.get 0) (i32.const 3))"
+HEAD = "0061736d01000000"
+NO_RESULT, ONE_RESULT = "01040160000003020100", "0105016000017f03020100"  # a function's type and its index
+
+
+@dataclass(frozen=True)
+class Exact:
+    """A module, operators that are looked for, and what is left: its first sections, and its code, which were written by hand."""
+
+    what: str
+    source: str
+    operators: tuple[str, ...]
+    sections: str
+    code: str
+
+    def __str__(self) -> str:
+        return self.what
+
+
+EXACT = (
+    Exact("a store becomes a drop", f'(memory 1) (func (export "e") (param i32) (i32.store offset=4 (i32.const 8) {ROTATION}))',
+          ("i32.rotl",), NO_RESULT, "0a0a01080041004100771a0b"),
+    Exact("a value takes the place of a constant below it",
+          f'{GLOBAL} (func (export "e") (param i32) (result i32) i32.const 5 (global.set $g {ROTATION}))',
+          ("i32.rotl",), ONE_RESULT, "0a0901070041004100770b"),
+    Exact("a value takes the place of a later constant",
+          f'{GLOBAL} (func (export "e") (param i32) (result i32) (global.set $g {ROTATION}) nop (i32.const 5))',
+          ("i32.rotl", "nop"), ONE_RESULT, "0a0a0108004100410077010b"),
+    Exact("a constant and a distant global.set go", f'{GLOBAL} (func (export "e") i32.const 5 nop global.set $g)',
+          ("nop",), NO_RESULT, "0a05010300010b"),
+)
+
+
+@pytest.mark.parametrize("row", EXACT, ids=str)
+def test_operators_on_the_stack(reducer: Reducer, row: Exact) -> None:
+    module = reducer.compiled("stack", f"(module {row.source})")
+    operators = " && ".join(f"grep -q ' {operator}' <<< $text" for operator in row.operators)
+    done, left = reducer.reduced(module, f"text=$(wasm-objdump -d $1) && {operators}")
+    assert done.returncode == 0 and left.hex() == HEAD + row.sections + row.code, (left.hex(), done.stderr)
 
 
 @pytest.mark.parametrize("seed", range(2))
@@ -88,3 +131,12 @@ def test_unknown_section(reducer: Reducer, small: Path) -> None:
     section.write_bytes(read_module(small.read_bytes()).encoded + b"\x7e\x02hi")
     done, left = reducer.reduced(section, "grep -q hi $1")
     assert done.returncode == 0 and left.endswith(b"\x7e\x02hi"), done.stderr
+
+
+def test_encoding_of_2022(reducer: Reducer) -> None:
+    """What 3.0 reads otherwise stays as it is, with a note; the rest becomes smaller."""
+    module = reducer.folder / "2022.wasm"
+    module.write_bytes(OF_2022)
+    done, left = reducer.reduced(module, "xxd -p $1 | tr -d '\\n' | grep -q 0701016c0141050b", "--no-validator")
+    assert done.returncode == 0 and bytes.fromhex("0701016c0141050b") in left and len(left) < len(OF_2022), done.stderr
+    assert "encoding of 2022" in done.stderr

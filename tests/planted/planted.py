@@ -163,7 +163,7 @@ class Experiment:
         for amount in self.options.doses:
             campaign = bench.campaign(amount, modules, self.options.jobs, first=False)
             for finding, _ in campaign.summary.findings:
-                print(f"without a fault: {finding.module}: {finding.rule}: {finding.before}; {finding.behind}", flush=True)
+                print(f"without a fault: {finding.module}: {finding.rule}: {finding.before}; {finding.after}", flush=True)
                 self.differing.add(Path(finding.module))
             self.subjects = [subject for subject in campaign.subjects if subject.path not in self.differing]
             modules = [subject.path for subject in self.subjects]

@@ -1,4 +1,4 @@
-"""The engines: how each is asked to make the calls on a module, and how its answers are read."""
+"""The engines: how each is run to make the calls on a module, and how its output is read."""
 
 from __future__ import annotations
 
@@ -20,7 +20,7 @@ FILE = "@@"
 
 @dataclass(frozen=True)
 class Observation:
-    """What a module's run came to, and what the engine wrote."""
+    """The answers of a run of a module, and what the engine wrote."""
 
     answers: tuple[Answer, ...]
     text: str
@@ -28,7 +28,7 @@ class Observation:
 
 @dataclass(frozen=True)
 class Plan:
-    """What is asked of a module and of its rewrites: their interface, and the calls."""
+    """The interface of a module and of its rewrites, and the calls that are made on them."""
 
     interface: Interface
     calls: list[Call]
@@ -39,22 +39,28 @@ def text_of(data: bytes) -> str:
 
 
 def without(finished: Finished, folder: str) -> Finished:
-    """What a command came to, without the folder's name in what it wrote."""
+    """The result of a command, without the folder's name in its output."""
     name = folder.encode()
     return replace(finished, output=finished.output.replace(name, b""), errors=finished.errors.replace(name, b""))
 
 
 def transcript(command: list[str], finished: Finished) -> str:
-    """What a command wrote, as it is kept beside a finding."""
+    """The output of a command, as it is kept in the folder of a finding."""
     lines = [f"$ {' '.join(command)}", text_of(finished.output), text_of(finished.errors)]
     return "\n".join(line.rstrip("\n") for line in lines if line) + f"\n[status {finished.status}]\n"
 
 
-class Engine:
-    """An engine whose output is taken as it is: what it prints, and its status.
+def with_host(answer: Answer, host: list[str]) -> list[Answer]:
+    """The answer of a call, after the text about its calls of imports. The number of these depends on the stack if the call exhausts it:
+    then they aren't compared."""
+    return [answer] if answer.kind is Kind.EXHAUSTED else [*(Answer(answer.place, Kind.HOST, text) for text in host), answer]
 
-    `takes` are the types of values that it is asked with; `tells_signals`, whether a status above 128 tells a signal, as in shells;
-    `answers_at_once`, whether each answer is written as soon as it is there.
+
+class Engine:
+    """An engine of which the output and the status are compared.
+
+    `takes`: the types of values of the functions that it calls. `tells_signals`: whether a status above 128 means a signal, as in shells.
+    `answers_at_once`: whether it prints each answer before it makes the next call.
     """
 
     name = "plain"
@@ -67,33 +73,33 @@ class Engine:
         self.calls_of_each = calls_of_each
 
     def commanded(self, file: str) -> list[str]:
-        """The command on a file."""
+        """The command for a file."""
         if any(FILE in word for word in self.command):
             return [word.replace(FILE, file) for word in self.command]
         return [*self.command, file]
 
     def interface_of(self, module: bytes) -> Interface:
-        """What the module asks for and offers, as far as the engine is asked for it; `Unreadable` where that isn't known."""
+        """The imports and exports of a module, if the engine makes calls; `Unreadable` if the module can't be read."""
         return read_interface(module) if self.takes else Interface()
 
     def calls(self, interface: Interface) -> list[Call]:
         return calls_of(interface, self.calls_of_each, self.takes)
 
     def lay_out(self, folder: Path, named: Path, module: str, plan: Plan) -> list[list[str]]:
-        """Writes what a run needs beside the module into a folder, and answers its commands, in which the folder is named so."""
+        """Writes the files of a run, beside the module, into a folder; returns the commands, which name the folder `named`."""
         return [self.commanded(str(named / module))]
 
     def read(self, plan: Plan, finished: list[Finished]) -> list[Answer]:
-        """The answers of a run that neither a bound nor a crash ended."""
+        """The answers of a run that no bound and no crash ended."""
         last = finished[-1]
         return [failure_of(last) if last.status else Answer("status", Kind.VALUE, "0"), Answer("output", Kind.VALUE, text_of(last.output))]
 
     def read_cut(self, plan: Plan, finished: list[Finished]) -> list[Answer]:
-        """The answers that a run had given when it was ended."""
+        """The answers of a run that was cut short."""
         return []
 
     def observe(self, runner: Runner, folder: Path, module: str, plan: Plan, seconds: float | None = None) -> Observation:
-        """Runs a module that stands in a folder of its own, whose name doesn't count in what is written."""
+        """Runs a module in a folder of its own, whose name is removed from the output."""
         done: list[Finished] = []
         texts = []
         for command in self.lay_out(folder, folder, module, plan):
@@ -107,7 +113,7 @@ class Engine:
 
 
 class Node(Engine):
-    """Node: by a script that makes the calls on one instance."""
+    """Node, which runs a script that makes the calls on one instance."""
 
     name = "node"
     answers_at_once = True
@@ -119,7 +125,7 @@ class Node(Engine):
         return [[*self.commanded(str(named / "run.cjs")), str(named / module)]]
 
     def script(self, plan: Plan) -> dict[str, object]:
-        """What is read by the script that makes the calls."""
+        """The input of the script that makes the calls."""
         results = {export.name: export.type.results for export in plan.interface.functions}
         return {
             "imports": [self.import_of(item) for item in plan.interface.imports],
@@ -149,7 +155,7 @@ class Node(Engine):
 
     @staticmethod
     def looks(interface: Interface) -> list[dict[str, str]]:
-        """The memories and globals that are looked at behind the calls."""
+        """The memories and globals that are read after the calls."""
         memories = [{"kind": "memory", "name": export.name} for export in interface.memories]
         values = [{"kind": "global", "name": export.name, "value": export.type.value} for export in interface.globals
                   if export.type.value in Node.takes]
@@ -179,15 +185,14 @@ class Node(Engine):
             return [Answer("module", Kind.UNLINKED, text)]
         if word == "instance":
             return [Answer(place, Kind.HOST, text)]
-        noted = [Answer(place, Kind.HOST, text) for text in host]
         if word in ("trap", "exhausted"):
             cause = cause_of(text) if word == "trap" else Answer("", Kind.EXHAUSTED)
-            return [*noted, Answer(place, cause.kind, cause.text)]
-        return [*noted, Answer(place, Kind(word), text)]
+            return with_host(Answer(place, cause.kind, cause.text), host)
+        return with_host(Answer(place, Kind(word), text), host)
 
 
 class Spectest(Engine):
-    """wabt's spectest-interp: by a script in JSON, and a module beside it that gives floats by their bits and a digest of the memory."""
+    """wabt's spectest-interp, which runs a script in JSON. A second module returns floats by their bits, and a digest of the memory."""
 
     name = "spectest-interp"
     tells_signals = False
@@ -198,7 +203,7 @@ class Spectest(Engine):
 
     @staticmethod
     def is_plain(name: str) -> bool:
-        """Whether the script can have a name."""
+        """Whether the script can contain a name."""
         return bool(re.fullmatch(r'[ !#-\[\]-~]+', name))
 
     def lay_out(self, folder: Path, named: Path, module: str, plan: Plan) -> list[list[str]]:
@@ -252,14 +257,13 @@ class Spectest(Engine):
                 host.append(line[len("called host "):].replace("-nan", "nan"))
             elif " =>" in line and (question := next(asked, None)):
                 place, kind, kinds = question
-                if host:
-                    answers.append(Answer(place, Kind.HOST, "; ".join(host)))
-                    host = []
-                answers.append(self.answer_of(place, kind, kinds, line.split(" =>", 1)[1].strip()))
+                answer = self.answer_of(place, kind, kinds, line.split(" =>", 1)[1].strip())
+                answers += with_host(answer, ["; ".join(host)] if host else [])
+                host = []
         return answers
 
     def asked(self, plan: Plan) -> list[tuple[str, Kind, tuple[str, ...]]]:
-        """What the script asks for, in its order: a place, the class of its answer, and the types of that."""
+        """The questions of the script, in their order: the place, the kind of the answer, and its types."""
         results = {export.name: export.type.results for export in plan.interface.functions}
         asked = [(str(call), Kind.VALUE, results[call.function]) for call in plan.calls]
         values = {export.name: export.type.value for export in plan.interface.globals}
@@ -268,7 +272,7 @@ class Spectest(Engine):
 
     @staticmethod
     def refusal(what: str, message: str, errors: str) -> Answer:
-        """Why there is no instance of the module: it can't be read, or not be linked, or its start function traps."""
+        """The answer if there is no instance: the module can't be read or linked, or its start function traps."""
         if what == "reading":
             return refusal_of(errors or message)
         if re.search(r"\bimport\b", message):
@@ -286,13 +290,13 @@ class Spectest(Engine):
 
 
 def engine_failed(finished: Finished) -> Answer:
-    """The end of a run in which the engine didn't do what it was asked for."""
+    """The end of a run in which the engine itself failed."""
     lines = text_of(finished.errors or finished.output).strip().split("\n")
     return Answer("run", Kind.FAILED, f"status {finished.status}: {lines[0][:200]}")
 
 
 def exact(kind: str, word: str) -> str:
-    """A value as it was printed; that of a float, which was printed by its bits, with all that is no number as one."""
+    """A value as it was printed. A float was printed by its bits; all NaNs are written the same."""
     if kind not in ("f32", "f64"):
         return word
     bits = int(word.split(":")[1])
@@ -301,24 +305,24 @@ def exact(kind: str, word: str) -> str:
 
 
 class Invoking(Engine):
-    """An engine that makes one call of a new instance: a run for each call."""
+    """An engine that makes one call on a new instance: one run for each call."""
 
     takes = frozenset(("i32", "i64", "f32", "f64"))
 
     def calls(self, interface: Interface) -> list[Call]:
-        """The calls of functions whose names a command line can have."""
+        """The calls of functions whose names can be on a command line."""
         return [call for call in super().calls(interface) if "\0" not in call.function and not call.function.startswith("-")]
 
     def words(self, call: Call) -> tuple[list[str], list[str]]:
-        """What stands before the file, and behind it."""
+        """The words before the file, and those after it."""
         raise NotImplementedError
 
     def lay_out(self, folder: Path, named: Path, module: str, plan: Plan) -> list[list[str]]:
         command = self.commanded(str(named / module))
         place = next((place for place, word in enumerate(self.command) if FILE in word), len(self.command))
         commands = []
-        for before, behind in map(self.words, plan.calls):
-            commands.append([*command[:place], *before, command[place], *behind, *command[place + 1 :]])
+        for before, after in map(self.words, plan.calls):
+            commands.append([*command[:place], *before, command[place], *after, *command[place + 1 :]])
         return commands
 
     def read(self, plan: Plan, finished: list[Finished]) -> list[Answer]:
@@ -336,7 +340,7 @@ class Invoking(Engine):
 
 
 def decimal(kind: str, bits: int) -> str:
-    """An argument as a command line has it: integers with a sign, floats with all their digits."""
+    """An argument for a command line: integers with a sign, floats with all their digits."""
     if kind in ("i32", "i64"):
         width = 32 if kind == "i32" else 64
         return str(bits - (1 << width) if bits >> (width - 1) else bits)
@@ -345,7 +349,7 @@ def decimal(kind: str, bits: int) -> str:
 
 
 class Wasmtime(Invoking):
-    """wasmtime, as its documents have it: `wasmtime run --invoke NAME FILE ARGUMENTS`."""
+    """wasmtime, by its documentation: `wasmtime run --invoke NAME FILE ARGUMENTS`."""
 
     name = "wasmtime"
 
@@ -354,7 +358,7 @@ class Wasmtime(Invoking):
 
 
 class Wasmer(Invoking):
-    """wasmer, as its documents have it: `wasmer run FILE --invoke NAME ARGUMENTS`."""
+    """wasmer, by its documentation: `wasmer run FILE --invoke NAME ARGUMENTS`."""
 
     name = "wasmer"
 
@@ -366,6 +370,6 @@ ENGINES = {engine.name: engine for engine in (Node, Spectest, Wasmtime, Wasmer, 
 
 
 def engine_of(command: list[str], name: str | None, calls_of_each: int) -> Engine:
-    """The engine of a command: the one that is named, or by the name of the program; any other is taken as it is."""
+    """The engine of a command: the one that is named, else the one of the program's name, else one whose output is compared."""
     program = re.sub(r"(\.exe|[-\d.]+)$", "", Path(command[0]).name)
     return ENGINES.get(name or ("node" if program == "nodejs" else program), Engine)(command, calls_of_each)

@@ -1,4 +1,4 @@
-"""What a run of an engine comes to, in classes; and where those of a module and of its rewrite differ."""
+"""The answers of a run of an engine, in classes, and the first difference between those of a module and of its rewrite."""
 
 from __future__ import annotations
 
@@ -30,17 +30,17 @@ class Kind(enum.Enum):
     DONE = "done"
 
 
-# What bounds of an engine, or of a run, bring about: rewritten code may take more, or less, of what they bound.
+# The results of bounds of an engine or of a run: a rewritten module may use more or less of what is bounded.
 BOUNDS = frozenset((Kind.EXHAUSTED, Kind.TIME, Kind.OUTPUT, Kind.LIMIT))
 
-# What ends a run, so that no further answer is there.
+# The results that end a run, so that no answer follows.
 ENDS = BOUNDS | frozenset((Kind.CRASH, Kind.REFUSED, Kind.UNLINKED, Kind.FAILED))
 
 CRASH_SIGNALS = frozenset((signal.SIGSEGV, signal.SIGABRT, signal.SIGBUS, signal.SIGILL, signal.SIGFPE, signal.SIGTRAP, signal.SIGSYS))
 
 CRASH_TEXT = re.compile(rb"(Address|Memory|Thread|UndefinedBehavior)Sanitizer|# Fatal error in|Assertion .* failed")
 
-# A panic of a program in Rust; with another status it may be one of the module's own.
+# A panic of a program in Rust; with another status it may be the module's own.
 PANIC_TEXT, PANIC_STATUS = re.compile(rb"panicked at"), 101
 
 MEMORY_TEXT = re.compile(rb"out of memory|bad_alloc|memory allocation of \d+ bytes failed", re.I)
@@ -75,7 +75,7 @@ CAUSES = (
 
 @dataclass(frozen=True)
 class Answer:
-    """What a call, or a look at what it left, came to; `place` says of what."""
+    """The result of a call, or the value of a memory or a global after the calls; `place` names it."""
 
     place: str
     kind: Kind
@@ -87,7 +87,7 @@ class Answer:
 
 @dataclass(frozen=True)
 class Difference:
-    """Where two runs differ first: the answer of the original, that of the rewrite, and the class of the difference."""
+    """The first difference of two runs: the answer of the original, the answer of the rewrite, and the class of the difference."""
 
     original: Answer
     rewrite: Answer
@@ -95,25 +95,25 @@ class Difference:
 
 
 def known_cause(message: str) -> Answer | None:
-    """The answer of a call that ended with a message that is known: a trap by its cause, or an exhaustion."""
+    """The answer of a call that ended with a known message: a trap by its cause, or an exhaustion."""
     if EXHAUSTED_TEXT.search(message):
         return Answer("", Kind.EXHAUSTED)
     return next((Answer("", Kind.TRAP, cause) for cause, pattern in CAUSES if re.search(pattern, message, re.I)), None)
 
 
 def cause_of(message: str) -> Answer:
-    """The same of any message; where it isn't known, it is the cause, without the numbers in it."""
+    """As `known_cause`, for any message; an unknown one is the cause itself, without its numbers."""
     return known_cause(message) or Answer("", Kind.TRAP, re.sub(r"0x[0-9a-f]+|\d+", "N", message.strip()[:200], flags=re.I))
 
 
 def refusal_of(message: str) -> Answer:
-    """The end of a run whose module was refused with a message."""
+    """The end of a run of which the module was refused with a message."""
     kind = Kind.LIMIT if LIMIT_TEXT.search(message) else Kind.REFUSED
     return Answer("module", kind, message.strip()[:200])
 
 
 def bound_or_crash(finished: Finished, tells_signals: bool) -> Answer | None:
-    """The end of a run that a bound ended, or a crash; none where it ended by itself. Statuses above 128 may tell signals, as in shells."""
+    """The end of a run by a bound or a crash, if there is one. Statuses above 128 may mean signals, as in shells."""
     if finished.out_of_time:
         return Answer("run", Kind.TIME)
     if finished.too_much_output:
@@ -130,7 +130,7 @@ def bound_or_crash(finished: Finished, tells_signals: bool) -> Answer | None:
 
 
 def failure_of(finished: Finished) -> Answer:
-    """What a status other than 0 stands for, by what was written: a refusal, an exhaustion, a trap, or a module that isn't linked."""
+    """The meaning of a status other than 0, by the output: a refusal, an exhaustion, a trap, or a module that isn't linked."""
     errors = finished.errors.decode("utf-8", "replace")
     if REFUSED_TEXT.search(errors):
         return refusal_of(errors)
@@ -154,7 +154,7 @@ def class_of(original: Answer, rewrite: Answer) -> str:
 
 
 def difference_of(original: tuple[Answer, ...], rewrite: tuple[Answer, ...], strict: bool) -> Difference | None:
-    """Where the two differ first. Behind a bound nothing is told by either: what stands there is no difference, unless `strict`."""
+    """The first difference, if there is one. Unless `strict`, nothing after a bound of either run is compared."""
     missing = Answer("run", Kind.DONE)
     for before, after in zip_longest(original, rewrite, fillvalue=missing):
         if before == after and before.kind not in BOUNDS:
@@ -167,7 +167,7 @@ def difference_of(original: tuple[Answer, ...], rewrite: tuple[Answer, ...], str
 
 
 def brief(answer: Answer, other: Answer) -> Answer:
-    """An answer by the first line in which it differs from another one, as far as it can be printed on a line."""
+    """An answer by the first line in which it differs from another one, in printable characters."""
     pairs = zip_longest(answer.text.split("\n"), other.text.split("\n"), fillvalue="")
     line = next((str(own) for own, others in pairs if own != others), answer.text)
     return replace(answer, text="".join(c if c.isprintable() else "?" for c in line[:200]))

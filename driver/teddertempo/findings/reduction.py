@@ -1,4 +1,4 @@
-"""A finding made smaller: the predicate, which a module meets of which rewrites by the finding's rule differ in its way, and the reducer."""
+"""Reduces a finding: the predicate, which accepts a module if rewrites by the finding's rule differ in its class, and the reducer."""
 
 from __future__ import annotations
 
@@ -14,27 +14,30 @@ from typing import Any
 from ..engines.engine import Engine, Observation, Plan, engine_of
 from ..engines.outcomes import ENDS, Difference, difference_of
 from ..running.mutator import Choice, Mutator, MutatorFailure
-from ..running.processes import Runner
+from ..running.processes import OutOfTime, Runner
 from ..wasm.binary import Unreadable
 from .store import Finding
 
-# Under how many seeds a module is rewritten, and how often at most, for each place of the rule so many times.
+# The number of seeds with which a module is rewritten, and of rewrites: at most, and for each place of the rule.
 SEEDS, MOST_REWRITES, REWRITES_OF_PLACE = 4, 400, 2
 
-# How many seeds are looked through for a single rewrite that differs.
+# The number of seeds with which a single rewrite that differs is searched for.
 SINGLE_SEEDS = 64
 
-# What the reducer may take beside the time that it was given, to end.
-SLACK = 60.0
+# The reducer has this part of the time. The rest is for the search for a rewrite of the reduced module.
+REDUCER_SHARE = 0.75
+
+# The seconds that the reducer has to end its predicates if it is ended.
+GRACE = 3.0
 
 
 class NoFinding(Exception):
-    """The folder isn't that of a finding, or of a run."""
+    """The folder has no finding of a run."""
 
 
 @dataclass(frozen=True)
 class Mutant:
-    """Rewrites of a module over which the engine falls."""
+    """Rewrites of a module for which the engine's answers differ."""
 
     seed: int
     count: int
@@ -44,7 +47,7 @@ class Mutant:
 
 @dataclass(frozen=True)
 class Witness:
-    """Looks for rewrites by a rule over which the engine falls in one way."""
+    """Searches for rewrites by a rule that differ in one class."""
 
     engine: Engine
     mutator: Mutator
@@ -53,7 +56,7 @@ class Witness:
     strict: bool
 
     def observe(self, module: Path, plan: Plan) -> Observation:
-        """Runs a module under the same name, which an engine may print."""
+        """Runs a module, always under the same name, which an engine may print."""
         folder = module.parent / "run"
         folder.mkdir(exist_ok=True)
         shutil.copyfile(module, folder / "module.wasm")
@@ -64,8 +67,8 @@ class Witness:
         return Plan(interface, self.engine.calls(interface))
 
     def find(self, module: Path, attempts: list[tuple[int, int]]) -> Mutant | None:
-        """The first of these mutants, by seed and number of rewrites, that differs so; none where the module answers one time this way and
-        one time another. The mutant stands beside the module, as `mutant.wasm`."""
+        """The first of these mutants, by seed and number of rewrites, that differs in the class, if the module's own answers are the same
+        in two runs. The mutant is written beside the module, as `mutant.wasm`."""
         plan = self.plan(module)
         answers = self.observe(module, plan).answers
         if any(answer.kind in ENDS for answer in answers):
@@ -81,18 +84,25 @@ class Witness:
         return None
 
     def differs(self, module: Path) -> bool:
-        """Whether rewrites by the rule, many at once, differ so."""
+        """Whether many rewrites by the rule differ in the class."""
         try:
-            count = min(MOST_REWRITES, REWRITES_OF_PLACE * self.mutator.places(module))
-            return count > 0 and self.find(module, [(seed, count) for seed in range(SEEDS)]) is not None
+            return self.many(module) is not None
         except (MutatorFailure, Unreadable):
             return False
 
-    def single(self, module: Path) -> Mutant | None:
-        """One rewrite that differs so, else the fewest at once under a seed."""
-        found = self.find(module, [(seed, 1) for seed in range(SINGLE_SEEDS)])
-        most = min(MOST_REWRITES, REWRITES_OF_PLACE * self.mutator.places(module))
-        return found or self.find(module, [(seed, count) for count in range(2, most + 1) for seed in range(SEEDS)])
+    def most(self, module: Path) -> int:
+        return min(MOST_REWRITES, REWRITES_OF_PLACE * self.mutator.places(module))
+
+    def many(self, module: Path) -> Mutant | None:
+        """A mutant of many rewrites that differs in the class."""
+        count = self.most(module)
+        return self.find(module, [(seed, count) for seed in range(SEEDS)]) if count else None
+
+    def few(self, module: Path) -> Mutant | None:
+        """A mutant of one rewrite that differs in the class, else one of the fewest for some seeds."""
+        counts = range(2, self.most(module) + 1)
+        single = self.find(module, [(seed, 1) for seed in range(SINGLE_SEEDS)])
+        return single or self.find(module, [(seed, count) for count in counts for seed in range(SEEDS)])
 
 
 def load(folder: Path) -> tuple[Finding, dict[str, Any]]:
@@ -106,7 +116,7 @@ def load(folder: Path) -> tuple[Finding, dict[str, Any]]:
 
 
 def witness_of(folder: Path, program: str, runner: Runner) -> Witness:
-    """What looks for the finding's difference by its rule alone."""
+    """Searches for the finding's difference by its rule alone."""
     finding, settings = load(folder)
     mutator = Mutator(program, Choice(only=(finding.rule,)), [], runner)
     engine = engine_of(settings["engine"], settings["as"], settings["calls"])
@@ -114,7 +124,7 @@ def witness_of(folder: Path, program: str, runner: Runner) -> Witness:
 
 
 def differs(folder: Path, module: Path, program: str, runner: Runner) -> bool:
-    """Whether rewrites of the module by the finding's rule differ as those of the finding do."""
+    """Whether rewrites of the module by the finding's rule differ in the finding's class."""
     with tempfile.TemporaryDirectory(prefix="teddertempo-diff-") as own:
         copy = Path(own) / "module.wasm"
         shutil.copyfile(module, copy)
@@ -123,8 +133,8 @@ def differs(folder: Path, module: Path, program: str, runner: Runner) -> bool:
 
 @dataclass(frozen=True)
 class Reduced:
-    """What became of a finding: the bytes of the module before the rewrite, at first and now, and how a mutant is made of it again; or why
-    it isn't smaller."""
+    """The result for a finding: the bytes of its module and of the reduced one, and the command that makes the mutant of that again; or why
+    there is none."""
 
     before: int
     after: int = 0
@@ -134,7 +144,7 @@ class Reduced:
 
 @dataclass(frozen=True)
 class Reducer:
-    """Makes findings smaller by teddertempo-reduce, which stands beside this program."""
+    """Reduces findings by teddertempo-reduce, which is beside this program."""
 
     runner: Runner
     program: str
@@ -148,48 +158,71 @@ class Reducer:
         predicate = [sys.executable, str(own), "--teddertempo", self.program, "--timeout", f"{self.runner.seconds}", "--differs",
                      str(folder.resolve())]
         return [sys.executable, str(own.with_name("teddertempo-reduce")), str(folder / "good.wasm"), "-o", str(folder / "reduced.wasm"),
-                "--program", self.program, "--time", f"{self.seconds}", "--timeout", f"{self.runner.seconds * runs}",
+                "--program", self.program, "--time", f"{self.seconds * REDUCER_SHARE}", "--timeout", f"{self.runner.seconds * runs}",
                 "--jobs", str(self.jobs), "--quiet", "--", *predicate]
 
     def reduce(self, folder: Path) -> Reduced:
-        """Writes `reduced.wasm`, `reduced_bad.wasm` and `reduced.txt` beside a finding."""
+        """Writes `reduced.wasm`, `reduced_bad.wasm` and `reduced.txt` beside a finding, in the time of a reduction."""
         before = (folder / "good.wasm").stat().st_size
-        finished = self.runner.run(self.words(folder), self.seconds + SLACK)
-        if finished.status != 0:
-            return Reduced(before, trouble=finished.errors.decode("utf-8", "replace").strip().split("\n")[-1])
-        finding, _ = load(folder)
+        try:
+            with self.runner.within(self.seconds):
+                finished = self.runner.run(self.words(folder), self.seconds, grace=GRACE)
+                if finished.status != 0:
+                    return Reduced(before, trouble=finished.errors.decode("utf-8", "replace").strip().split("\n")[-1])
+                return self.explained(folder, before)
+        except OutOfTime:
+            return Reduced(before, trouble="the time was over before a rewrite of reduced.wasm was found")
+        except MutatorFailure as failure:
+            return Reduced(before, trouble=str(failure))
+
+    def explained(self, folder: Path, before: int) -> Reduced:
+        """Writes a mutant of the reduced module, with few rewrites if there is time to find them."""
+        witness = witness_of(folder, self.program, self.runner)
         with tempfile.TemporaryDirectory(prefix="teddertempo-diff-") as own:
             module = Path(own) / "module.wasm"
             shutil.copyfile(folder / "reduced.wasm", module)
-            witness = witness_of(folder, self.program, self.runner)
-            mutant = witness.single(module)
+            mutant = witness.many(module)
             if mutant is None:
-                return Reduced(before, trouble="what is left doesn't differ any more")
-            shutil.copyfile(module.with_name("mutant.wasm"), folder / "reduced_bad.wasm")
-            words = witness.mutator.words_by(module, mutant.seed)
-            shown = witness.mutator.shown(module, mutant.seed, mutant.count).text
-            command = shlex.join(witness.mutator.command(words, mutant.seed, mutant.count, str(folder / "reduced.wasm"), "reduced_bad.wasm"))
-        reduced = Reduced(before, (folder / "reduced.wasm").stat().st_size, command)
-        (folder / "reduced.txt").write_text(text_of(finding, reduced, mutant, shown), encoding="utf-8", errors="backslashreplace")
-        return reduced
+                return Reduced(before, trouble="the reduced module doesn't differ any more")
+            reduced = kept(folder, before, witness, module, mutant)
+            try:
+                fewer = witness.few(module)
+                return kept(folder, before, witness, module, fewer) if fewer else reduced
+            except OutOfTime:
+                return reduced
+
+
+def kept(folder: Path, before: int, witness: Witness, module: Path, mutant: Mutant) -> Reduced:
+    """Keeps a mutant of the reduced module beside the finding."""
+    words = witness.mutator.words_by(module, mutant.seed)
+    shown = witness.mutator.shown(module, mutant.seed, mutant.count).text
+    command = shlex.join(witness.mutator.command(words, mutant.seed, mutant.count, str(folder / "reduced.wasm"), "reduced_bad.wasm"))
+    reduced = Reduced(before, module.stat().st_size, command)
+    shutil.copyfile(module.with_name("mutant.wasm"), folder / "reduced_bad.wasm")
+    text = text_of(load(folder)[0], reduced, mutant, shown)
+    (folder / "reduced.txt").write_text(text, encoding="utf-8", errors="backslashreplace")
+    return reduced
 
 
 def text_of(finding: Finding, reduced: Reduced, mutant: Mutant, shown: str) -> str:
-    """What a person reads of a reduced finding."""
+    """The text for people about a reduced finding."""
+    rewrites = "One rewrite" if mutant.count == 1 else f"A sequence of {mutant.count} rewrites"
     lines = [
-        f"reduced.wasm has {reduced.after:,} bytes, good.wasm {reduced.before:,}. By the rule {finding.rule} the engine answers otherwise "
-        f"({finding.kind}):",
+        f"reduced.wasm has {reduced.after:,} bytes, good.wasm {reduced.before:,}. {rewrites} by the rule {finding.rule} changes the engine's "
+        f"answer ({finding.kind}):",
         "",
         f"before  {mutant.difference.original}",
-        f"behind  {mutant.difference.rewrite}",
+        f"after   {mutant.difference.rewrite}",
+        "",
+        "The last rewrite:",
         "",
         *(f"    {line}" for line in shown.rstrip("\n").split("\n")),
         "",
-        "reduced_bad.wasm is made again by",
+        "This command makes reduced_bad.wasm again:",
         "",
         f"    {reduced.command}",
         "",
-        "What the engine wrote of it:",
+        "The engine's output for it:",
         "",
         *(f"    {line}" for line in mutant.observation.text.rstrip("\n").split("\n")),
     ]

@@ -1,4 +1,4 @@
-"""The folder of a run: which mutants were tried, so that a run that was stopped goes on, and a folder for each finding."""
+"""The folder of a run: which mutants were tried, so that a stopped run can be continued, and a folder for each finding."""
 
 from __future__ import annotations
 
@@ -6,15 +6,16 @@ import json
 import os
 import shutil
 import threading
+from contextlib import contextmanager
 from dataclasses import asdict, dataclass
 from pathlib import Path
-from typing import TextIO
+from typing import Iterator, TextIO
 
 from ..files import differing, lock_folder, write_whole
 
 
 class StoreRefusal(Exception):
-    """The folder can't be that of this run."""
+    """The folder doesn't belong to this run."""
 
 
 @dataclass(frozen=True)
@@ -29,28 +30,29 @@ class Finding:
     seed: int
     count: int
     before: str
-    behind: str
+    after: str
 
     def name(self) -> str:
         return f"{self.number:04}-{self.rule}-{self.kind.replace(' ', '-')}"
 
 
 class Store:
-    """The folder, which one run at a time has."""
+    """The folder, which one run at a time has. Its methods are called from several threads."""
 
     def __init__(self, folder: Path, settings: dict[str, object], goes_on: bool):
         self.folder = folder
         self.lock = threading.Lock()
+        self.numbering = threading.Lock()
         self.tried: set[tuple[str, int]] = set()
         self.findings: list[Finding] = []
         folder.mkdir(parents=True, exist_ok=True)
         settings_file = folder / "settings.json"
         if not settings_file.exists() and any(entry.name[0] != "." and entry.name != "lock" for entry in folder.iterdir()):
-            raise StoreRefusal(f"{folder} isn't empty, and no run of teddertempo-diff wrote it")
+            raise StoreRefusal(f"{folder} isn't empty, and no run of teddertempo-diff wrote it: --output names another folder")
         self.taken = self.take()
         if settings_file.exists():
             if not goes_on:
-                raise StoreRefusal(f"{folder} has a run already: --continue goes on with it, --output names another folder")
+                raise StoreRefusal(f"{folder} has a run already: --continue continues it, --output names another folder")
             self.compare(json.loads(settings_file.read_text(encoding="utf-8")), settings)
             self.load()
         else:
@@ -60,16 +62,16 @@ class Store:
     def take(self) -> TextIO:
         lock = lock_folder(self.folder)
         if lock is None:
-            raise StoreRefusal(f"another run has {self.folder}")
+            raise StoreRefusal(f"another run uses {self.folder}: --output names another folder")
         return lock
 
     def compare(self, before: dict[str, object], now: dict[str, object]) -> None:
         changed = differing(before, now)
         if changed:
-            raise StoreRefusal(f"the run in {self.folder} had another {', '.join(changed)}: --output names another folder")
+            raise StoreRefusal(f"the run in {self.folder} has another {', '.join(changed)}: --output names another folder")
 
     def load(self) -> None:
-        """Reads what an earlier run left; a last line that was cut short, and a folder that wasn't finished, don't count."""
+        """Reads the results of an earlier run. A last line that was cut short is dropped, and an unfinished folder is removed."""
         tried = self.folder / "tried.jsonl"
         if tried.exists():
             for line in tried.read_text(encoding="utf-8").splitlines(keepends=True):
@@ -85,8 +87,11 @@ class Store:
                 report = json.loads((entry / "finding.json").read_text(encoding="utf-8"))
                 self.findings.append(Finding(**report["finding"]))
 
-    def next_number(self) -> int:
-        return max((finding.number for finding in self.findings), default=0) + 1
+    @contextmanager
+    def numbered(self) -> Iterator[int]:
+        """The number of the finding that the block adds. Blocks follow one another, so that no number is left without a folder."""
+        with self.numbering:
+            yield max((finding.number for finding in self.findings), default=0) + 1
 
     def was_tried(self, digest: str, seed: int) -> bool:
         return (digest, seed) in self.tried
@@ -100,7 +105,7 @@ class Store:
             self.tried.add((digest, seed))
 
     def add(self, finding: Finding, report: dict[str, object], made: Path) -> Path:
-        """Keeps a finding with the files of a folder that was made for it; it is there whole, or not at all."""
+        """Keeps a finding, with a copy of the folder that was made for it: the new folder appears when it is complete."""
         (made / "finding.json").write_text(json.dumps({"finding": asdict(finding), **report}, indent=1) + "\n", encoding="utf-8")
         beside = self.folder / f".new-{finding.name()}"
         shutil.copytree(made, beside)

@@ -5,20 +5,19 @@ from __future__ import annotations
 import argparse
 import hashlib
 import shlex
-import signal
 import sys
 import tempfile
-import time
 import traceback
 from pathlib import Path
 
 from ..options import FAILED, Parser, duration, positive, split_command
-from ..running.processes import Runner, Stopped
+from ..running.processes import OutOfTime, Runner, Stopped
 from ..wasm.binary import Unreadable
 from ..wasm.module import Module
 from ..wasm.reading import read_module
 from .changes import Changer, program_of
-from .judge import Budget, Command, Exhausted, Failure, Judge
+from .commands import Commands, Exhausted, Failure
+from .judge import Bounds, Command, Judge
 from .output import Output
 from .passes import all_passes
 from .report import Reporter, write_report
@@ -27,10 +26,10 @@ from .state import State, StateFolder, StateRefusal
 
 REFUSED = 1
 
-DESCRIPTION = "Makes a WebAssembly module smaller, as long as a predicate accepts it: a command that ends with status 0."
+DESCRIPTION = "Makes a WebAssembly module smaller, as long as a predicate accepts it: a command that exits with status 0."
 
 EPILOG = """\
-In the words of PREDICATE, @@ stands for the file that it judges; without @@ the file stands last. Status 0: done, also where --time or
+In the words of PREDICATE, @@ is replaced by the candidate's file; without @@ the file is the last word. Status 0: done, also if --time or
 --max-runs ended it; 1: the module isn't accepted, or a file can't be read or written; 64: the options are wrong; 70: this program
 failed; 130, 143: stopped by a signal. OUTPUT has the smallest module so far at any time.
 """
@@ -38,38 +37,20 @@ failed; 130, 143: stopped by a signal. OUTPUT has the smallest module so far at 
 
 def parser() -> Parser:
     made = Parser("teddertempo-reduce", "%(prog)s [OPTIONS] MODULE -o OUTPUT -- PREDICATE ARGS..", DESCRIPTION, EPILOG)
-    made.add_argument("modules", metavar="MODULE", nargs="*", help="the module, which the predicate accepts")
-    made.add_argument("-o", "--output", type=Path, metavar="OUTPUT", help="where the smallest module goes")
-    made.add_argument("--jobs", type=positive, default=1, metavar="N", help="how many candidates are tried side by side (1)")
-    made.add_argument("--timeout", type=duration, default=60.0, metavar="TIME", help="ends a run of the predicate behind that time (60s)")
-    made.add_argument("--time", type=duration, metavar="TIME", help="ends behind that time, as 30m or 8h")
-    made.add_argument("--max-runs", type=positive, metavar="N", help="ends behind so many runs of the predicate")
-    made.add_argument("--state", type=Path, metavar="FOLDER", help="keeps what was tried there, and goes on from it")
+    made.add_argument("modules", metavar="MODULE", nargs="*", help="a module that the predicate accepts")
+    made.add_argument("-o", "--output", type=Path, metavar="OUTPUT", help="the file for the smallest module")
+    made.add_argument("--jobs", type=positive, default=1, metavar="N", help="tries N candidates in parallel (1)")
+    made.add_argument("--timeout", type=duration, default=60.0, metavar="TIME", help="ends a run of the predicate after that time (60s)")
+    made.add_argument("--time", type=duration, metavar="TIME", help="ends after that time, as 30m or 8h")
+    made.add_argument("--max-runs", type=positive, metavar="N", help="ends after N runs of the predicate")
+    made.add_argument("--state", type=Path, metavar="FOLDER", help="keeps results there, and continues from them")
     made.add_argument("--validator", metavar="COMMAND", help="judges candidates before the predicate does (wasm-validate or wasm-tools)")
     made.add_argument("--no-validator", action="store_true", help="lets the predicate judge alone")
     made.add_argument("--keep-names", action="store_true", help="keeps the custom section of names")
     made.add_argument("--program", metavar="PROGRAM", help="the program teddertempo, which makes changes")
     made.add_argument("--json", metavar="FILE", help="writes a report as JSON there; - is standard output")
-    made.add_argument("--quiet", action="store_true", help="tells errors alone")
+    made.add_argument("--quiet", action="store_true", help="prints errors only")
     return made
-
-
-class Signals:
-    """Lets signals end the run, but those that are ignored, as under nohup."""
-
-    def __init__(self, runner: Runner):
-        self.runner = runner
-        self.caught = signal.SIGINT
-        for number in (signal.SIGINT, signal.SIGTERM, signal.SIGHUP):
-            if signal.getsignal(number) is not signal.SIG_IGN:
-                signal.signal(number, self.stop)
-
-    def stop(self, number: int, _frame: object) -> None:
-        self.caught = signal.Signals(number)
-        self.runner.stop()
-
-    def status(self) -> int:
-        return 128 + self.caught
 
 
 def read_file(file: Path) -> bytes:
@@ -80,13 +61,13 @@ def read_file(file: Path) -> bytes:
 
 
 def lasting(options: argparse.Namespace, predicate: list[str], data: bytes) -> dict[str, object]:
-    """What has to be as it was for a reduction to go on."""
+    """The settings that have to be the same for a reduction to continue."""
     validator = "none" if options.no_validator else options.validator or "usual"
     return {"module": hashlib.sha256(data).hexdigest(), "predicate": predicate, "validator": validator, "names": options.keep_names}
 
 
 class Reduction:
-    """What the options ask for."""
+    """A reduction with the settings that the options name."""
 
     def __init__(self, options: argparse.Namespace, predicate: list[str], runner: Runner):
         self.options = options
@@ -96,37 +77,43 @@ class Reduction:
         self.data = read_file(Path(self.name))
 
     def run(self) -> None:
-        """Reduces the module. Where that is stopped, the best module is in its place already."""
+        """Reduces the module. If that is stopped, OUTPUT has the best module already."""
         wanted = lasting(self.options, self.predicate, self.data)
         state = StateFolder(self.options.state, wanted) if self.options.state else State()
         try:
-            with tempfile.TemporaryDirectory(prefix="teddertempo-reduce-") as folder:
+            with tempfile.TemporaryDirectory(prefix="teddertempo-reduce-") as folder, self.runner.within(self.options.time):
                 self.run_in(Path(folder), state)
         finally:
             state.close()
 
     def run_in(self, folder: Path, state: State) -> None:
         options = self.options
-        budget = Budget(options.max_runs, time.monotonic() + options.time if options.time else None)
-        judge = Judge(Command(tuple(self.predicate)), self.runner, state, budget, folder, options.jobs)
+        commands = Commands(self.runner)
+        bounds = Bounds(self.runner.seconds, options.max_runs)
+        judge = Judge(Command(tuple(self.predicate)), commands, state, bounds, folder, options.jobs)
         output = Output(options.output, state)
         reporter = Reporter(output, judge, options.quiet)
         best = state.best() or self.data
         module = self.decoded(best, reporter)
-        self.choose_validator(judge, reporter)
-        if not judge.judge(best)[0]:
-            raise Failure(f"{self.name}: the predicate doesn't accept it")
+        self.accept(best, judge, reporter)
         output.keep(best)
-        passes = all_passes(self.changer(folder, reporter), options.keep_names)
         search = Search(module, best, judge, options.jobs, reporter)
         stopped = None
         try:
-            search.run(passes)
-        except Exhausted as bound:
-            stopped = str(bound)
+            search.run(all_passes(self.changer(commands, folder, reporter), options.keep_names))
+        except Exhausted as limit:
+            stopped = str(limit)
+        except OutOfTime:
+            stopped = "--time"
         reporter.end(len(self.data), search, stopped)
         if options.json:
             write_report(reporter.report(len(self.data), search, stopped), options.json)
+
+    def accept(self, best: bytes, judge: Judge, reporter: Reporter) -> None:
+        """Makes sure that the predicate accepts the module with which the search begins."""
+        self.choose_validator(judge, reporter)
+        if not judge.judge(best)[0]:
+            raise Failure(f"{self.name}: the predicate doesn't accept it")
 
     def decoded(self, data: bytes, reporter: Reporter) -> Module:
         try:
@@ -134,7 +121,8 @@ class Reduction:
         except Unreadable as reason:
             raise Failure(f"{self.name}: {reason}") from reason
         if not module.is_whole():
-            reporter.note("not all of the module can be decoded: what has an index stays")
+            reporter.note("not all of the module can be decoded as WebAssembly 3.0: what has an index stays; if its references are in the "
+                          "encoding of 2022, convert it with a current tool")
         return module
 
     def choose_validator(self, judge: Judge, reporter: Reporter) -> None:
@@ -144,13 +132,13 @@ class Reduction:
             if reason:
                 reporter.note(reason)
 
-    def changer(self, folder: Path, reporter: Reporter) -> Changer | None:
-        """The program, where it is there and knows changes in places that are named."""
+    def changer(self, commands: Commands, folder: Path, reporter: Reporter) -> Changer | None:
+        """The program, if there is one and it can change operators that are named."""
         program = program_of(self.options.program)
         if program is None:
-            reporter.note("no program teddertempo is there: its changes aren't tried")
+            reporter.note("no program teddertempo is found: its changes aren't tried; --program names it")
             return None
-        changer = Changer(program, self.runner, folder)
+        changer = Changer(program, commands, folder)
         if changer.knows_places(self.data):
             return changer
         reporter.note(f"{program} doesn't know --from: its changes aren't tried")
@@ -158,13 +146,13 @@ class Reduction:
 
 
 def check(options: argparse.Namespace, predicate: list[str], made: Parser) -> None:
-    """Refuses options that can't be meant."""
+    """Refuses options that are missing, or exclude each other."""
     if len(options.modules) != 1:
         made.error("no MODULE" if not options.modules else "more than one MODULE")
     if options.output is None:
         made.error("no OUTPUT: -o names it")
     if not predicate:
-        made.error("no PREDICATE: it stands behind --")
+        made.error("no PREDICATE: it follows --")
     if options.validator is not None and options.no_validator:
         made.error("--validator and --no-validator exclude each other")
     try:
@@ -181,12 +169,15 @@ def main() -> int:
     options = made.parse_intermixed_args(own)
     check(options, predicate, made)
     runner = Runner(options.timeout)
-    signals = Signals(runner)
+    runner.stop_on_signals()
     try:
         Reduction(options, predicate, runner).run()
         return 0
-    except Stopped:
-        return signals.status()
+    except Stopped as stopped:
+        return stopped.status
+    except OutOfTime:
+        print(f"teddertempo-reduce: {options.modules[0]}: the time was over before the predicate accepted it", file=sys.stderr)
+        return REFUSED
     except (Failure, StateRefusal, OSError) as reason:
         print(f"teddertempo-reduce: {reason}", file=sys.stderr)
         return REFUSED

@@ -1,4 +1,4 @@
-"""Judges candidates: by a validator, where there is one, and then by the predicate; none of equal bytes twice."""
+"""Judges candidates: by a validator, if there is one, and then by the predicate; no candidate of equal bytes twice."""
 
 from __future__ import annotations
 
@@ -6,7 +6,6 @@ import hashlib
 import queue
 import shutil
 import threading
-import time
 from concurrent.futures import Future
 from contextlib import contextmanager
 from dataclasses import dataclass
@@ -14,25 +13,17 @@ from enum import Enum
 from pathlib import Path
 from typing import Iterator
 
-from ..running.processes import Runner, Stopped
+from .commands import Commands, Exhausted
 from .state import State
 
-# How long a validator may take.
+# The time limit of a validator.
 VALIDATOR_SECONDS = 60.0
 
 VALIDATORS = (("wasm-validate", "--enable-all"), ("wasm-tools", "validate"))
 
 
-class Failure(Exception):
-    """The reduction can't go on, and why."""
-
-
-class Exhausted(Exception):
-    """What the reduction may take is used up."""
-
-
 class Verdict(Enum):
-    """What came of a candidate."""
+    """The result of trying a candidate."""
 
     NOT_MADE = "not made"
     KNOWN = "tried before"
@@ -43,7 +34,7 @@ class Verdict(Enum):
 
 @dataclass(frozen=True)
 class Command:
-    """A command on a file, which stands for `@@` in its words, or last."""
+    """A command on a file, which replaces `@@` in its words, or is its last word."""
 
     words: tuple[str, ...]
 
@@ -54,22 +45,22 @@ class Command:
 
 
 @dataclass(frozen=True)
-class Budget:
-    """How many runs of the predicate there may be, and until when."""
+class Bounds:
+    """How often the predicate may run, and for how many seconds each time."""
 
+    seconds: float
     runs: int | None = None
-    deadline: float | None = None
 
 
 class Judge:
     """Judges candidates, from several threads at once."""
 
-    def __init__(self, predicate: Command, runner: Runner, state: State, budget: Budget, folder: Path, jobs: int):
+    def __init__(self, predicate: Command, commands: Commands, state: State, bounds: Bounds, folder: Path, jobs: int):
         self.predicate = predicate
         self.validator: Command | None = None
-        self.runner = runner
+        self.commands = commands
         self.state = state
-        self.budget = budget
+        self.bounds = bounds
         self.lock = threading.Lock()
         self.under_way: dict[str, Future[bool]] = {}
         self.runs = 0
@@ -81,10 +72,10 @@ class Judge:
             self.files.put(own / "module.wasm")
 
     def judge(self, data: bytes) -> tuple[bool, Verdict]:
-        """Whether a candidate is accepted, and how that is known. Where an equal one is under way, it is waited for."""
+        """Whether a candidate is accepted, and how that is known. If an equal one is being judged, waits for its result."""
+        self.commands.check_time()
         digest = hashlib.sha256(data).hexdigest()
         with self.lock:
-            self.stop_in_time()
             known = self.state.outcome(digest)
             waited_for = self.under_way.get(digest)
             if known is None and waited_for is None:
@@ -117,20 +108,14 @@ class Judge:
             if self.validator and not self.succeeds(self.validator, file, VALIDATOR_SECONDS):
                 return Verdict.INVALID
             with self.lock:
-                if self.budget.runs is not None and self.runs >= self.budget.runs:
+                if self.bounds.runs is not None and self.runs >= self.bounds.runs:
                     raise Exhausted("--max-runs")
                 self.runs += 1
-            return Verdict.ACCEPTED if self.succeeds(self.predicate, file, self.runner.seconds) else Verdict.REFUSED
-
-    def stop_in_time(self) -> None:
-        if self.runner.stopped.is_set():
-            raise Stopped
-        if self.budget.deadline is not None and time.monotonic() >= self.budget.deadline:
-            raise Exhausted("--time")
+            return Verdict.ACCEPTED if self.succeeds(self.predicate, file, self.bounds.seconds) else Verdict.REFUSED
 
     @contextmanager
     def written(self, data: bytes) -> Iterator[Path]:
-        """A file with the bytes, which nobody else has for that time."""
+        """A file with the bytes, which no other thread uses meanwhile."""
         file = self.files.get()
         try:
             file.write_bytes(data)
@@ -139,15 +124,12 @@ class Judge:
             self.files.put(file)
 
     def succeeds(self, command: Command, file: Path, seconds: float) -> bool:
-        """Whether a command ends with status 0; one that takes too long, or writes too much, is ended and doesn't."""
-        try:
-            finished = self.runner.run(command.on(file), seconds)
-        except OSError as error:
-            raise Failure(f"{command.words[0]}: {error.strerror}") from error
+        """Whether a command ends with status 0; one that takes too long, or writes too much, is ended and doesn't succeed."""
+        finished = self.commands.run(command.on(file), seconds)
         return finished.status == 0 and not finished.out_of_time and not finished.too_much_output
 
     def choose_validator(self, data: bytes, named: Command | None) -> str | None:
-        """Takes the validator that is named, or the first one that is there, where it accepts the module; answers why there is none."""
+        """Takes the validator that is named, or the first one on the path, that accepts the module; returns why there is none."""
         found = [named] if named else [Command(words) for words in VALIDATORS if shutil.which(words[0])]
         if not found:
             return "no validator is on the path: the predicate judges alone"

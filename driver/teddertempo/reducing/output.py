@@ -5,7 +5,7 @@ from __future__ import annotations
 from pathlib import Path
 
 from ..files import write_whole
-from .judge import Failure
+from .commands import Failure
 from .state import State
 
 

@@ -1,12 +1,12 @@
-"""The search: each pass proposes what a part of the module may become, for ranges of its positions by delta debugging, and the first
-proposal that is accepted is the best module from then on.
+"""The search: each pass proposes simpler parts of the module, for ranges of its positions by delta debugging. The first proposal that is
+accepted is the best module from then on.
 
-A module is smaller than another one where it has fewer bytes; or as many, and fewer operators; or as many of both, and fewer operators
-that name a local, a function or something else; or all that alike, and its bytes come earlier in the dictionary. What isn't smaller than
-the best isn't tried, so that each search ends.
+A module is smaller than another one if it has fewer bytes; or as many, and fewer operators; or as many of both, and fewer operators
+that name a local, a function or something else; or all that alike, and its bytes come earlier in the dictionary. A module that isn't
+smaller than the best isn't tried, so that each search ends.
 
-With several jobs proposals are tried side by side, each as if those before it weren't accepted. The first in order that is accepted is
-taken, whatever came of those behind it, so that the answer doesn't depend on the number of jobs."""
+With several jobs proposals are tried in parallel, each as if those before it weren't accepted. The first accepted one in order is taken,
+whatever the result of later ones, so that the number of jobs doesn't change what is left."""
 
 from __future__ import annotations
 
@@ -18,6 +18,7 @@ from functools import partial
 from typing import Callable, Generic, Iterator, Optional, Sequence, TypeVar
 
 from ..wasm.module import Module
+from .commands import Commands
 from .judge import Judge, Verdict
 
 
@@ -38,10 +39,10 @@ def candidate_of(module: Module, data: bytes) -> Candidate:
 
 @dataclass(frozen=True)
 class Cursor:
-    """How many positions are chosen at once, and how many come after them, which were tried already."""
+    """How many positions are chosen at once, and how many positions after them were tried already."""
 
     size: int
-    behind: int
+    after: int
 
 
 Proposal = tuple[Cursor, Callable[[], Optional[Module]]]
@@ -49,10 +50,16 @@ Position = TypeVar("Position")
 
 
 class Pass:
-    """Something that may become smaller in a module, at a number of positions."""
+    """One way to make a module smaller, at a number of positions."""
 
     name = ""
-    needs_whole = False  # whether each place that names an index is to be known
+    needs_whole = False  # whether each place that names an index has to be known
+    commands: Commands | None = None
+
+    def check_time(self) -> None:
+        """Raises an exception if the search has to end; for use between parts of long work."""
+        if self.commands is not None:
+            self.commands.check_time()
 
     def count(self, module: Module) -> int:
         """How many positions there are."""
@@ -70,7 +77,7 @@ class PositionPass(Pass, Generic[Position]):
         raise NotImplementedError
 
     def smallest(self, count: int) -> int:
-        """How many of so many positions are chosen at once at least."""
+        """The least number of positions, of `count`, that are chosen at once."""
         return 1
 
     def apply(self, module: Module, chosen: Sequence[Position]) -> Module | None:
@@ -81,18 +88,18 @@ class PositionPass(Pass, Generic[Position]):
 
     def proposals(self, module: Module, cursor: Cursor) -> Iterator[Proposal]:
         positions = self.positions(module)
-        size, behind = min(cursor.size, max(1, len(positions))), cursor.behind
+        size, after = min(cursor.size, max(1, len(positions))), cursor.after
         while True:
-            for end in range(len(positions) - behind, 0, -size):
+            for end in range(len(positions) - after, 0, -size):
                 yield Cursor(size, len(positions) - end), partial(self.apply, module, positions[max(0, end - size) : end])
             if size <= self.smallest(len(positions)):
                 return
-            size, behind = (size + 1) // 2, 0
+            size, after = (size + 1) // 2, 0
 
 
 @dataclass
 class PassReport:
-    """What came of a pass."""
+    """The results of a pass."""
 
     name: str
     accepted: int = 0
@@ -102,7 +109,7 @@ class PassReport:
 
 
 class Listener:
-    """What is told while a search goes on; here, nothing."""
+    """Learns of the progress of a search; this one ignores it."""
 
     def improved(self, best: Candidate) -> None:
         """There is a smaller module."""
@@ -111,7 +118,7 @@ class Listener:
         """One more candidate was judged."""
 
     def passed(self, report: PassReport, best: Candidate) -> None:
-        """A pass came to its end."""
+        """A pass has ended."""
 
 
 class Search:
@@ -141,6 +148,7 @@ class Search:
 
     def run_pass(self, each: Pass) -> None:
         report = self.reports.setdefault(each.name, PassReport(each.name))
+        each.commands = self.judge.commands
         began, before = time.monotonic(), self.best.size[0]
         try:
             cursor: Cursor | None = Cursor(max(1, each.count(self.best.module)), 0)
@@ -152,7 +160,8 @@ class Search:
         self.listener.passed(report, self.best)
 
     def advance(self, each: Pass, cursor: Cursor, report: PassReport) -> Cursor | None:
-        """Takes the first proposal from a place on that is accepted; answers where it stood."""
+        """Takes the first proposal after the cursor that is accepted; returns its cursor."""
+        self.judge.commands.check_time()
         found = self.first(each.proposals(self.best.module, cursor), report)
         if found is None:
             return None
@@ -182,6 +191,7 @@ class Search:
 
     def attempt(self, make: Callable[[], Module | None], best: Candidate) -> tuple[Candidate | None, Verdict]:
         """Makes what is proposed, and has it judged."""
+        self.judge.commands.check_time()
         module = make()
         if module is None:
             return None, Verdict.NOT_MADE

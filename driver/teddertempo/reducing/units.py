@@ -1,5 +1,5 @@
-"""Units of a function's body: an operator, or a block, with all that its operands are made by. A unit needs nothing from the stack below
-it, so that it may become other code that leaves what it leaves. Where an operator isn't known, no unit is found behind it."""
+"""Units of a function's body: an operator, or a block, with all code that makes its operands. A unit needs nothing from the stack below
+it, so that other code with the same results can replace it. No unit is found after an operator that isn't known."""
 
 from __future__ import annotations
 
@@ -19,36 +19,45 @@ ENDS_CODE = frozenset((UNREACHABLE, BR, BR_TABLE, RETURN, RETURN_CALL, RETURN_CA
 
 @dataclass(frozen=True)
 class Operand:
-    """Code that leaves one value: its first operator, the one behind its last, and the type, where it is known."""
+    """Code that makes one value, from `first` to `last`, and the statements after it, up to the operator before `end`; the type of the
+    value, if it is known."""
 
     first: int
-    behind: int
+    last: int
+    end: int
     type: ValueType | None
 
 
 @dataclass(frozen=True)
 class Unit:
-    """The code from `first` to `last`, what it leaves, and its operands."""
+    """The code from `first` to `last`, its results, and its operands; the operator that opens the block around it (-1 for the function),
+    the number of values on the stack below it, and the uppermost of them that belongs to that block."""
 
     first: int
     last: int
     results: Types
     operands: tuple[Operand, ...]
+    block: int
+    height: int
+    below: Value | None
 
 
-@dataclass
+@dataclass(frozen=True)
 class Value:
-    """A value on the stack: its type, and where the code begins that made it."""
+    """A value on the stack: its type, and the first and the last operator of the code that made it."""
 
     type: ValueType | None
     first: int
+    last: int
 
 
 @dataclass
 class Frame:
-    """A block that is open: its operator, where its code begins, what it takes and leaves, and what was on the stack."""
+    """A block that is open: its operator and the operator's place, where its code begins, what it takes and leaves, and how many values
+    were on the stack."""
 
     operator: Operator | None
+    at: int
     first: int
     taken: Types
     results: Types
@@ -76,7 +85,7 @@ class Walk:
         if own is None:
             return []
         self.kinds = own.parameters + self.function.locals
-        self.frames.append(Frame(None, 0, (), own.results, 0))
+        self.frames.append(Frame(None, -1, 0, (), own.results, 0))
         try:
             for at, operator in enumerate(self.function.body[:-1]):
                 self.step(at, operator)
@@ -100,29 +109,32 @@ class Walk:
     # ---- the stack
 
     def pop(self, at: int, taken: Types) -> tuple[Operand, ...]:
-        """Takes values; answers the code that made each, up to the next one."""
+        """Takes values; returns the code that made each, up to the next one."""
         frame = self.frames[-1]
         values = []
         for kind in reversed(taken):
             if len(self.stack) > frame.height:
                 value = self.stack.pop()
-                values.append(Value(value.type or kind, value.first))
+                values.append(Value(value.type or kind, value.first, value.last))
             elif frame.is_dead:
-                values.append(Value(kind, values[-1].first if values else at))
+                first = values[-1].first if values else at
+                values.append(Value(kind, first, first - 1))
             else:
                 raise Unknown
         values.reverse()
-        behind = [value.first for value in values[1:]] + [at]
-        return tuple(Operand(value.first, end, value.type) for value, end in zip(values, behind))
+        ends = [value.first for value in values[1:]] + [at]
+        return tuple(Operand(value.first, value.last, end, value.type) for value, end in zip(values, ends))
 
     def unit(self, at: int, operands: tuple[Operand, ...], results: Types, start: int | None = None) -> None:
-        """Adds a unit, and puts on the stack what it leaves."""
+        """Adds a unit, and pushes its results."""
         first = operands[0].first if operands else at if start is None else start
-        self.units.append(Unit(first, at, results, operands))
-        self.stack += [Value(kind, first) for kind in results]
+        frame, height = self.frames[-1], len(self.stack)
+        below = self.stack[-1] if height > frame.height else None
+        self.units.append(Unit(first, at, results, operands, frame.at, height, below))
+        self.stack += [Value(kind, first, at) for kind in results]
 
     def die(self) -> None:
-        """The code behind isn't reached."""
+        """The code after it isn't reached."""
         self.frames[-1].is_dead = True
         del self.stack[self.frames[-1].height :]
 
@@ -145,8 +157,8 @@ class Walk:
         taken, results = self.block_type(operator.values[0])
         operands = self.pop(at, (*taken, I32) if operator.code == IF else taken)
         first = operands[0].first if operands else at
-        self.frames.append(Frame(operator, first, taken, results, len(self.stack), operands))
-        self.stack += [Value(kind, at + 1) for kind in taken]
+        self.frames.append(Frame(operator, at, first, taken, results, len(self.stack), operands))
+        self.stack += [Value(kind, at + 1, at) for kind in taken]
 
     def part(self, at: int, operator: Operator) -> None:
         """Begins another part of the block."""
@@ -154,12 +166,12 @@ class Walk:
         del self.stack[frame.height :]
         frame.is_dead = False
         if operator.code == ELSE:
-            self.stack += [Value(kind, at + 1) for kind in frame.taken]
+            self.stack += [Value(kind, at + 1, at) for kind in frame.taken]
         elif operator.code == CATCH:
             tag = operator.number()
             if tag >= len(self.context.tags):
                 raise Unknown
-            self.stack += [Value(kind, at + 1) for kind in self.types_of(self.context.tags[tag])[0]]
+            self.stack += [Value(kind, at + 1, at) for kind in self.types_of(self.context.tags[tag])[0]]
 
     def close(self, at: int) -> None:
         frame = self.frames.pop()

@@ -1,38 +1,27 @@
-"""A run: each module and its mutants on the engine, and each difference traced to the one rewrite that it begins with."""
+"""A run: the engine on each module and on its mutants, and each difference traced to the one rewrite that it begins with."""
 
 from __future__ import annotations
 
-import hashlib
 import os
-import shlex
 import shutil
 import tempfile
 import threading
 import time
-from collections import Counter
+from collections import Counter, deque
 from concurrent.futures import ThreadPoolExecutor
 from contextlib import contextmanager
-from dataclasses import dataclass, field, replace
+from dataclasses import dataclass, field
 from pathlib import Path
 from typing import Iterator
 
-from ..engines.calls import Call
 from ..engines.engine import Engine, Observation, Plan
-from ..engines.outcomes import BOUNDS, ENDS, Answer, Difference, Kind, difference_of
+from ..engines.outcomes import Difference, difference_of
+from ..findings.account import Account, modules_of
 from ..findings.store import Finding, Store
 from ..wasm.binary import Unreadable
+from .examining import Examiner, Skipped, Subject, folder_with, is_bounded
 from .mutator import Dose, Mutator, MutatorFailure, Rewrite
-from .processes import Runner, Stopped
-
-# The calls on a module have to end in this part of the time that a run of the engine has, so that its mutants have time to spare.
-OWN_SHARE = 0.25
-
-# Where they don't, a part of them has to end in this part of that time, or in so many times what the module takes without a call.
-PART_SHARE, PART_TIMES = 0.125, 4.0
-
-
-class Skipped(Exception):
-    """A module isn't tried, and why."""
+from .processes import Ended, Runner
 
 
 class EngineGone(Exception):
@@ -40,19 +29,8 @@ class EngineGone(Exception):
 
 
 @dataclass(frozen=True)
-class Subject:
-    """A module that is tried: what it answers, and how many rewrites its mutants have."""
-
-    path: Path
-    digest: str
-    plan: Plan
-    answers: tuple[Answer, ...]
-    count: int
-
-
-@dataclass(frozen=True)
 class Settings:
-    """What a run is asked for."""
+    """The options of a run."""
 
     seeds: range
     dose: Dose
@@ -60,36 +38,55 @@ class Settings:
     strict: bool = False
     every: bool = False
     first: bool = False
-    deadline: float | None = None
 
 
 @dataclass
 class Summary:
-    """What a run came to; `failing` modules fail by themselves, and `trouble` is what ended the run early."""
+    """The result of a run. `failing` modules fail by themselves, `unexamined` ones and `untraced` differences were left when it ended,
+    and `trouble` is what ended it early."""
 
     modules: int = 0
     failing: int = 0
+    unexamined: int = 0
     skipped: dict[str, str] = field(default_factory=dict)
     outcomes: Counter[str] = field(default_factory=Counter)
     findings: list[tuple[Finding, Path]] = field(default_factory=list)
     again: Counter[tuple[str, str]] = field(default_factory=Counter)
+    untraced: int = 0
     runs: int = 0
     seconds: float = 0.0
     stopped: bool = False
     trouble: str = ""
 
 
+@dataclass(frozen=True)
+class Progress:
+    """How far a run is: how many of the modules were examined, how many of their mutants were tried, and how many findings there are."""
+
+    modules: int
+    all_modules: int
+    mutants: int
+    all_mutants: int
+    findings: int
+
+
 class Listener:
-    """What is told while a run goes on; here, nothing."""
+    """Is informed while a run continues; this one does nothing."""
 
-    def begin(self, modules: int, all_modules: int) -> None:
-        """So many of the modules were looked at."""
-
-    def tell(self, summary: Summary, mutants: int, all_mutants: int) -> None:
-        """So many of the mutants were tried."""
+    def tell(self, progress: Progress) -> None:
+        """A module was examined, or a mutant was tried."""
 
     def found(self, finding: Finding, folder: Path) -> None:
-        """There is a finding more."""
+        """There is one more finding."""
+
+
+@dataclass
+class Turn:
+    """A module in the queue of the run: what is known of it once it was examined, and the seeds that are left."""
+
+    path: Path
+    seeds: Iterator[int]
+    subject: Subject | None = None
 
 
 class Campaign:
@@ -102,75 +99,130 @@ class Campaign:
         self.runner = runner
         self.store = store
         self.listener = listener
-        self.lock = threading.RLock()  # a finding is kept, and so run, while it is held
+        self.examiner = Examiner(engine, mutator, settings.dose, runner.seconds, self.observe)
+        self.lock = threading.RLock()
+        self.changed = threading.Condition(self.lock)
         self.summary = Summary()
-        self.subjects: list[Subject] = []
+        self.turns: list[Turn] = []
+        self.queue: deque[Turn] = deque()
+        self.under_examination = 0
+        self.examined = 0
+        self.mutants = 0
         self.ended = threading.Event()
         self.seen = {(finding.rule, finding.kind) for finding in store.findings}
         self.folder = Path()
-        self.looked_at = 0
-        self.mutants = 0
+
+    @property
+    def subjects(self) -> list[Subject]:
+        """The modules that are tried, in their order."""
+        return [turn.subject for turn in self.turns if turn.subject]
 
     def run(self, modules: list[Path]) -> Summary:
-        """Tries the modules, and answers what came of it; also where the runner is told to stop."""
+        """Tries the modules, until all is done or the runner ends."""
         began = time.monotonic()
+        self.turns = [Turn(path, iter(self.settings.seeds)) for path in modules]
+        self.queue.extend(self.turns)
         with tempfile.TemporaryDirectory(prefix="teddertempo-diff-") as folder:
             self.folder = Path(folder)
-            try:
-                self.look_at(modules)
-                tasks = self.tasks()
-                with ThreadPoolExecutor(self.settings.jobs) as pool:
-                    for worker in [pool.submit(self.work, tasks) for _ in range(self.settings.jobs)]:
-                        worker.result()
-                if self.is_late() and self.subjects and self.mutants == 0:
-                    self.summary.trouble = "the time was over before a mutant was tried"
-            except Stopped:
-                pass
-        self.summary.stopped = self.runner.stopped.is_set()
+            with ThreadPoolExecutor(self.settings.jobs) as pool:
+                for worker in [pool.submit(self.work) for _ in range(self.settings.jobs)]:
+                    worker.result()
+        subjects = self.subjects
+        self.summary.modules = len(subjects)
+        self.summary.failing = sum(subject.fails() for subject in subjects)
+        self.summary.unexamined = len(modules) - self.examined
+        self.summary.stopped = self.runner.stopped_by is not None
+        if self.runner.is_late() and self.mutants == 0 and len(self.summary.skipped) < len(modules):
+            self.summary.trouble = "the time was over before a mutant was tried"
         self.summary.seconds = time.monotonic() - began
         return self.summary
 
-    # ---- modules
+    # ---- turns
 
-    def look_at(self, modules: list[Path]) -> None:
-        """Runs each module itself, and keeps those that can be tried."""
-        with ThreadPoolExecutor(self.settings.jobs) as pool:
-            found = pool.map(lambda path: self.subject_or_none(path, len(modules)), modules)
-            self.subjects = [subject for subject in found if subject]
-        self.summary.modules = len(self.subjects)
-        self.summary.failing = sum(any(answer.place == "status" and answer.kind is Kind.TRAP for answer in subject.answers)
-                                   for subject in self.subjects)
-
-    def subject_or_none(self, path: Path, all_modules: int) -> Subject | None:
-        subject = None
+    def work(self) -> None:
+        """Examines modules and tries mutants until there are no more. An error that isn't expected ends the work of all."""
         try:
-            subject = self.subject(path)
-        except (Skipped, EngineGone, MutatorFailure, OSError, Unreadable) as reason:
-            with self.lock:
-                self.summary.skipped[str(path)] = str(reason)
-        with self.lock:
-            self.looked_at += 1
-            self.listener.begin(self.looked_at, all_modules)
-        return subject
+            while task := self.next_task():
+                turn, seed = task
+                if turn.subject and seed is not None:
+                    self.try_mutant(turn.subject, seed)
+                else:
+                    self.examine(turn)
+        except Ended:
+            pass
+        except EngineGone as gone:
+            self.summary.trouble = str(gone)
+            self.ended.set()
+        except BaseException:
+            self.ended.set()
+            raise
 
-    def subject(self, path: Path) -> Subject:
-        """A module that can be tried; `Skipped` where it can't."""
-        with self.own_folder(path, None) as folder:
-            data = (folder / "original.wasm").read_bytes()
-            interface = self.engine.interface_of(data)
-            plan, observation = self.settled(folder, Plan(interface, self.engine.calls(interface)))
-            end = next((answer for answer in observation.answers if answer.kind in ENDS), None)
-            if end:
-                raise Skipped(str(end))
-            if self.observe(folder, "original.wasm", plan).answers != observation.answers:
-                raise Skipped("its answers change from one run to the next")
-            rewritable = self.mutator.rewritable(folder / "original.wasm")
-        if rewritable == 0:
-            raise Skipped("no rule applies")
-        return Subject(path, hashlib.sha256(data).hexdigest(), plan, observation.answers, self.settings.dose.count(rewritable))
+    def next_task(self) -> tuple[Turn, int | None] | None:
+        """The next module in the queue, to be examined or with the seed of its next mutant; all others come before the mutant after that
+        one. If the queue is empty, modules that are under examination are waited for."""
+        with self.changed:
+            while self.changed.wait_for(lambda: self.queue or not self.under_examination) and self.queue:
+                self.check()
+                turn = self.queue.popleft()
+                if turn.subject is None:
+                    self.under_examination += 1
+                    return turn, None
+                seed = self.next_seed(turn.subject, turn.seeds)
+                if seed is not None:
+                    self.queue.append(turn)
+                    return turn, seed
+        return None
+
+    def next_seed(self, subject: Subject, seeds: Iterator[int]) -> int | None:
+        """The next seed whose mutant wasn't tried yet."""
+        for seed in seeds:
+            if not self.store.was_tried(subject.digest, seed):
+                return seed
+            self.mutants += 1
+        return None
+
+    def check(self) -> None:
+        """Raises `Ended` if the run has ended."""
+        self.runner.check()
+        if self.ended.is_set():
+            raise Ended
+
+    def examine(self, turn: Turn) -> None:
+        """Examines a module. If it can be tried, it is the first one in the queue."""
+        reason = None
+        try:
+            with folder_with(turn.path, None, self.folder) as folder:
+                turn.subject = self.examiner.subject(turn.path, folder)
+        except (Skipped, EngineGone, MutatorFailure, OSError, Unreadable) as error:
+            reason = str(error)
+        finally:
+            with self.changed:
+                self.under_examination -= 1
+                if turn.subject:
+                    self.queue.appendleft(turn)
+                self.changed.notify_all()
+        with self.lock:
+            if reason is not None:
+                self.summary.skipped[str(turn.path)] = reason
+            self.examined += 1
+            self.tell()
+
+    def try_mutant(self, subject: Subject, seed: int) -> None:
+        """Tries a mutant, and notes the outcome."""
+        outcome = self.outcome(subject, seed)
+        self.store.note(subject.digest, str(subject.path), seed, outcome)
+        with self.lock:
+            self.mutants += 1
+            self.summary.outcomes[outcome.split(":")[0]] += 1
+            self.tell()
+
+    def tell(self) -> None:
+        mutants = (self.examined - len(self.summary.skipped)) * len(self.settings.seeds)
+        self.listener.tell(Progress(self.examined, len(self.turns), self.mutants, mutants, len(self.summary.findings)))
 
     def observe(self, folder: Path, module: str, plan: Plan, seconds: float | None = None) -> Observation:
-        """Runs a module of a task's folder, each under the same name, which an engine may print."""
+        """Runs a module of a task's folder, always under the same name, which an engine may print."""
+        self.check()
         shutil.copyfile(folder / module, folder / "run" / "module.wasm")
         with self.lock:
             self.summary.runs += 1
@@ -179,120 +231,29 @@ class Campaign:
         except OSError as error:
             raise EngineGone(f"{error.filename or self.engine.command[0]}: {error.strerror}") from error
 
-    def settled(self, folder: Path, plan: Plan) -> tuple[Plan, Observation]:
-        """The plan with the calls that meet no bound, all together in the module's share of the time, and what the module answers."""
-        seconds = self.runner.seconds * (OWN_SHARE if plan.calls else 1)
-        observation = self.observe(folder, "original.wasm", plan, seconds)
-        if plan.calls and is_bounded(observation):
-            began = time.monotonic()
-            alone = self.observe(folder, "original.wasm", replace(plan, calls=[]), seconds)
-            if is_bounded(alone):
-                return plan, alone
-            part = min(seconds, max(seconds * PART_SHARE, (time.monotonic() - began) * PART_TIMES))
-            plan = replace(plan, calls=self.unbounded(folder, plan, plan.calls, part))
-            observation = self.observe(folder, "original.wasm", plan, seconds)
-        while is_bounded(observation) and plan.calls:
-            plan = replace(plan, calls=plan.calls[1::2])
-            observation = self.observe(folder, "original.wasm", plan, seconds)
-        return plan, observation
-
-    def unbounded(self, folder: Path, plan: Plan, calls: list[Call], seconds: float) -> list[Call]:
-        """The calls that meet no bound of the run. One that does may leave anything behind, so that it can't stand before others."""
-        kept: list[Call] = []
-        parts = [calls]
-        while parts:
-            part = parts.pop()
-            observation = self.observe(folder, "original.wasm", replace(plan, calls=part), seconds)
-            if not is_bounded(observation):
-                kept += part
-            elif len(part) > 1:
-                parts += reversed(self.parted(part, observation))
-        return kept
-
-    def parted(self, calls: list[Call], observation: Observation) -> list[list[Call]]:
-        """The calls in parts without one that met a bound, where it is known, else in halves."""
-        exhausted = {answer.place for answer in observation.answers if answer.kind is Kind.EXHAUSTED}
-        left = [call for call in calls if str(call) not in exhausted]
-        if len(left) < len(calls):
-            return [left] if left else []
-        if self.engine.answers_at_once:
-            place = sum(answer.kind in (Kind.VALUE, Kind.TRAP) and answer.place != "instance" for answer in observation.answers)
-            return [part for part in (calls[:place], calls[place + 1 :]) if part]
-        half = len(calls) // 2
-        return [calls[:half], calls[half:]]
-
-    @contextmanager
-    def own_folder(self, module: Path, digest: str | None) -> Iterator[Path]:
-        """A folder of a task's own, with the module in it, which goes with the task; the module has to be what it was."""
-        folder = Path(tempfile.mkdtemp(dir=self.folder))
-        try:
-            data = module.read_bytes()
-            if digest and hashlib.sha256(data).hexdigest() != digest:
-                raise Skipped("the module is another one than at the beginning")
-            (folder / "original.wasm").write_bytes(data)
-            (folder / "run").mkdir()
-            yield folder
-        finally:
-            shutil.rmtree(folder, ignore_errors=True)
-
     # ---- mutants
 
-    def tasks(self) -> Iterator[tuple[Subject, int]]:
-        """The mutants that weren't tried yet: of each module one, then of each another."""
-        for seed in self.settings.seeds:
-            for subject in self.subjects:
-                if self.store.was_tried(subject.digest, seed):
-                    self.mutants += 1
-                else:
-                    yield subject, seed
-
-    def work(self, tasks: Iterator[tuple[Subject, int]]) -> None:
-        """Tries mutants until there are no more. What isn't foreseen ends the work of all."""
-        try:
-            while not self.is_over():
-                with self.lock:
-                    task = next(tasks, None)
-                if task is None:
-                    return
-                self.note(*task, self.outcome(*task))
-        except EngineGone as gone:
-            self.summary.trouble = str(gone)
-            self.ended.set()
-        except BaseException:
-            self.ended.set()
-            raise
-
-    def is_late(self) -> bool:
-        return self.settings.deadline is not None and time.monotonic() >= self.settings.deadline
-
-    def is_over(self) -> bool:
-        return self.is_late() or self.ended.is_set() or self.runner.stopped.is_set()
-
-    def note(self, subject: Subject, seed: int, outcome: str) -> None:
-        self.store.note(subject.digest, str(subject.path), seed, outcome)
-        with self.lock:
-            self.mutants += 1
-            self.summary.outcomes[outcome.split(":")[0]] += 1
-            self.listener.tell(self.summary, self.mutants, len(self.subjects) * len(self.settings.seeds))
-
     def outcome(self, subject: Subject, seed: int) -> str:
-        """What a mutant comes to, in a word, and more behind a colon."""
+        """What a mutant comes to, in a word, and more after a colon."""
         try:
-            with self.own_folder(subject.path, subject.digest) as folder:
+            with folder_with(subject.path, subject.digest, self.folder) as folder:
                 return self.attempt(folder, subject, seed)
         except (Skipped, MutatorFailure) as error:
             return f"not made: {error}"
 
     def attempt(self, folder: Path, subject: Subject, seed: int) -> str:
-        """Makes a mutant and runs it; where it differs, both run once more."""
+        """Makes a mutant and runs it. A difference that isn't traced when the run ends is counted, and its mutant isn't noted as tried."""
         if not self.mutator.rewrite(folder / "original.wasm", seed, subject.count, folder / "bad.wasm"):
             return "nothing to rewrite"
         observation = self.observe(folder, "bad.wasm", subject.plan)
         if self.difference(subject, observation) is None:
             return "bounded" if is_bounded(observation) else "same"
-        if self.differs(folder, subject, seed, subject.count) is None or self.is_unsteady(folder, subject):
-            return "unsteady"
-        return self.trace(folder, subject, seed)
+        try:
+            return self.trace(folder, subject, seed)
+        except Ended:
+            with self.lock:
+                self.summary.untraced += 1
+            raise
 
     def difference(self, subject: Subject, observation: Observation) -> Difference | None:
         return difference_of(subject.answers, observation.answers, self.settings.strict)
@@ -301,7 +262,7 @@ class Campaign:
         return self.observe(folder, "original.wasm", subject.plan).answers != subject.answers
 
     def differs(self, folder: Path, subject: Subject, seed: int, count: int) -> tuple[Difference, Observation] | None:
-        """How the mutant of so many rewrites differs from the module."""
+        """How the mutant with that many rewrites differs from the module."""
         if not self.mutator.rewrite(folder / "original.wasm", seed, count, folder / "bad.wasm"):
             return None
         observation = self.observe(folder, "bad.wasm", subject.plan)
@@ -309,7 +270,9 @@ class Campaign:
         return (difference, observation) if difference else None
 
     def trace(self, folder: Path, subject: Subject, seed: int) -> str:
-        """Finds the rewrite with which a mutant begins to differ, and keeps it where it is the first of its rule and class."""
+        """Runs a mutant that differs and its module once more, and finds the rewrite with which the mutant begins to differ."""
+        if self.differs(folder, subject, seed, subject.count) is None or self.is_unsteady(folder, subject):
+            return "unsteady"
         good, bad = 0, subject.count
         while bad - good > 1:
             middle = (good + bad) // 2
@@ -320,22 +283,42 @@ class Campaign:
         found = self.differs(folder, subject, seed, bad)
         if found is None:
             return "unsteady"
-        difference, observation = found
-        rewrite = self.rewrite_shown(folder, seed, bad)
-        with self.lock:
-            key = rewrite.rule, difference.kind
-            if key in self.seen and not self.settings.every:
-                self.summary.again[key] += 1
+        return self.reported(folder, subject, seed, bad, *found)
+
+    def reported(self, folder: Path, subject: Subject, seed: int, count: int, difference: Difference, observation: Observation) -> str:
+        """Keeps a finding if it is the first one of its rule and class."""
+        rewrite = self.rewrite_shown(folder, seed, count)
+        key = rewrite.rule, difference.kind
+        with self.reserved(*key) as is_first:
+            if not is_first:
                 return "different: found before"
-            finding = Finding(self.store.next_number(), *key, str(subject.path), subject.digest, seed, bad,
-                              str(difference.original), str(difference.rewrite))
-            final = Account(self, subject, finding, rewrite).keep(folder, observation)
-            self.seen.add(key)
+            account = self.account(folder, subject, seed, count, rewrite, observation)
+            with self.store.numbered() as number:
+                finding = Finding(number, *key, str(subject.path), subject.digest, seed, count, str(difference.original),
+                                  str(difference.rewrite))
+                final = account.keep(finding, self.store)
+        with self.lock:
             self.summary.findings.append((finding, final))
             self.listener.found(finding, final)
         if self.settings.first:
             self.ended.set()
         return f"different: {finding.name()}"
+
+    @contextmanager
+    def reserved(self, rule: str, kind: str) -> Iterator[bool]:
+        """Whether the block may keep a finding of a rule and class; no other one of them is kept, unless the block fails."""
+        key = rule, kind
+        with self.lock:
+            is_first = self.settings.every or key not in self.seen
+            self.seen.add(key)
+            if not is_first:
+                self.summary.again[key] += 1
+        try:
+            yield is_first
+        except BaseException:
+            with self.lock:
+                self.seen.discard(key)
+            raise
 
     def rewrite_shown(self, folder: Path, seed: int, count: int) -> Rewrite:
         try:
@@ -343,67 +326,14 @@ class Campaign:
         except MutatorFailure as failure:
             return Rewrite("unknown", f"It can't be shown: {failure}\n")
 
-
-@dataclass(frozen=True)
-class Account:
-    """What is kept of a finding: the modules before and behind the rewrite, what both answer, and how to see it again."""
-
-    campaign: Campaign
-    subject: Subject
-    finding: Finding
-    rewrite: Rewrite
-
-    def keep(self, folder: Path, bad: Observation) -> Path:
-        """Makes the folder of the finding, and answers where it is."""
-        made = folder / "finding"
-        made.mkdir()
-        shutil.copyfile(folder / "original.wasm", made / "original.wasm")
-        shutil.copyfile(folder / "original.wasm", made / "good.wasm")
-        if self.finding.count > 1:
-            self.campaign.mutator.rewrite(made / "original.wasm", self.finding.seed, self.finding.count - 1, made / "good.wasm")
-        shutil.copyfile(folder / "bad.wasm", made / "bad.wasm")
-        final = self.campaign.store.folder / self.finding.name()
-        commands = [shlex.join(command) for module in ("good.wasm", "bad.wasm")
-                    for command in self.campaign.engine.lay_out(made, final, module, self.subject.plan)]
-        words = self.campaign.mutator.words_by(made / "original.wasm", self.finding.seed)
-        mutate = self.campaign.mutator.command(words, self.finding.seed, self.finding.count, str(final / "original.wasm"), "bad.wasm")
-        version = self.campaign.mutator.version()
-        texts = {"bad.txt": bad.text, "rewrite.txt": self.rewrite.text}
+    def account(self, folder: Path, subject: Subject, seed: int, count: int, rewrite: Rewrite, bad: Observation) -> Account:
+        """Gathers what is kept of a finding: nothing is run after this."""
+        made = modules_of(folder, self.mutator, seed, count)
+        texts = {"bad.txt": bad.text}
         for name, module in (("original.txt", "original.wasm"), ("good.txt", "finding/good.wasm")):
-            texts[name] = self.campaign.observe(folder, module, self.subject.plan).text
-        texts["README.txt"] = self.text(version, shlex.join(mutate), commands)
-        for name, text in texts.items():
-            (made / name).write_text(text, encoding="utf-8", errors="backslashreplace")
-        report: dict[str, object] = {"version": version, "folder": os.getcwd(), "mutate": shlex.join(mutate), "run": commands,
-                                     "shown": self.rewrite.text}
-        return self.campaign.store.add(self.finding, report, made)
-
-    def text(self, version: str, mutate: str, commands: list[str]) -> str:
-        """What a person reads first."""
-        finding = self.finding
-        made = f"good.wasm has {finding.count - 1} rewrites, bad.wasm one more" if finding.count > 1 else "bad.wasm has this one alone"
-        lines = [
-            f"{finding.module}, seed {finding.seed}: rewrite {finding.count} changes what the engine answers ({finding.kind}).",
-            "",
-            f"before  {finding.before}",
-            f"behind  {finding.behind}",
-            "",
-            f"The rewrite, by the rule {finding.rule}, which keeps what the module does:",
-            "",
-            *(f"    {line}" for line in self.rewrite.text.rstrip("\n").split("\n")),
-            "",
-            f"{made}. It is made again by {version}, and seen again by the engine, in {os.getcwd()}:",
-            "",
-            f"    {mutate}",
-            *(f"    {command}" for command in commands),
-            "",
-            "original.txt, good.txt and bad.txt are what the engine wrote.",
-        ]
-        return "\n".join(lines) + "\n"
-
-
-def is_bounded(observation: Observation) -> bool:
-    return any(answer.kind in BOUNDS for answer in observation.answers)
+            texts[name] = self.observe(folder, module, subject.plan).text
+        words = self.mutator.words_by(made / "original.wasm", seed)
+        return Account(self.engine, subject.plan, rewrite, self.mutator.version(), words, made, texts)
 
 
 def find_modules(names: list[str]) -> list[Path]:

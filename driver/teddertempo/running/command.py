@@ -4,38 +4,35 @@ from __future__ import annotations
 
 import argparse
 import io
-import os
 import re
-import signal
 import sys
-import time
 import traceback
+from contextlib import closing
 from pathlib import Path
 
 from ..engines.engine import ENGINES, engine_of
 from ..findings.reduction import NoFinding, Reducer, differs
 from ..findings.report import Reporter
 from ..findings.store import Store, StoreRefusal
-from ..options import FAILED, MISUSED, Parser, duration, positive, split_command
+from ..options import FAILED, MISUSED, Parser, duration, positive, processors, split_command
 from .campaign import Campaign, Settings, Summary, find_modules
 from .mutator import Choice, Dose, Mutator, MutatorFailure, MutatorMisuse, program_of
-from .processes import Runner, Stopped
+from .processes import OutOfTime, Runner, Stopped
 
-FOUND, NOTHING_RUN, STOPPED = 1, 2, 130
+FOUND, NOTHING_RUN = 1, 2
 
 # Of --differs: whether the module differs.
 DIFFERS, SAME = 0, 1
 
-# How much is rewritten if nothing else is said (docs/TESTED.md tells why).
+# The default of --dose (docs/TESTED.md has the reason).
 USUAL_DOSE = "400"
 
-DESCRIPTION = "Runs an engine on WebAssembly modules and on their rewrites by teddertempo, and names the rewrite that it falls over."
+DESCRIPTION = "Runs an engine on WebAssembly modules and on their rewrites by teddertempo, and names the rewrite that changes its answers."
 
 EPILOG = """\
-In the words of ENGINE, @@ stands for the file that it runs; without @@ the file stands last. node and spectest-interp are asked to
-call each exported function; so are wasmtime and wasmer, as their documents have it, untried; any other engine's output is taken as it
-is. Status 0: nothing found; 1: something found; 2: nothing could be run; 64: the options are wrong; 70: this program failed; 130:
-stopped.
+In the words of ENGINE, @@ is the file that it runs; without @@ the file is the last word. node and spectest-interp call each exported
+function; so do wasmtime and wasmer, by their documentation, untested; of any other engine the output is compared. Status 0: nothing
+found; 1: something found; 2: nothing could be run; 64: wrong options; 70: this program failed; 130, 143: stopped by a signal.
 """
 
 
@@ -60,31 +57,32 @@ def parser() -> Parser:
     made.add_argument("--seeds", type=seeds, default=range(50), metavar="N",
                       help="the seeds below N, or A..B: a mutant of each module by each (50)")
     made.add_argument("--dose", type=dose, default=dose(USUAL_DOSE), metavar="N",
-                      help=f"rewrites of a mutant: a number, or a share as 20%% of the operators that a rule may rewrite ({USUAL_DOSE})")
+                      help=f"rewrites of a mutant: a number, or a share as 20%% of the operators that a rule can rewrite ({USUAL_DOSE})")
     made.add_argument("--calls", type=positive, default=12, metavar="N", help="calls of each exported function (12)")
-    made.add_argument("--as", dest="engine", choices=sorted(ENGINES), help="how the engine is asked, if its name doesn't say so")
-    made.add_argument("--timeout", type=duration, default=10.0, metavar="TIME", help="ends a run of the engine behind that time (10s)")
-    made.add_argument("--time", type=duration, metavar="TIME", help="ends behind that time, as 30m or 8h")
-    made.add_argument("--jobs", type=positive, default=len(os.sched_getaffinity(0)), metavar="N",
-                      help="how many run side by side (one a core)")
-    made.add_argument("--first", action="store_true", help="ends with the first finding")
+    made.add_argument("--as", dest="engine", choices=sorted(ENGINES), help="the kind of engine, if the name of its program doesn't show it")
+    made.add_argument("--timeout", type=duration, default=10.0, metavar="TIME", help="ends each run of the engine after that time (10s)")
+    made.add_argument("--time", type=duration, metavar="TIME",
+                      help="ends after that time, as 30m or 8h; the time for --reduce is in addition")
+    made.add_argument("--jobs", type=positive, default=processors(), metavar="N",
+                      help="how many runs at the same time (one for each core)")
+    made.add_argument("--first", action="store_true", help="ends after the first finding")
     made.add_argument("--all", action="store_true", help="keeps each difference, not only the first of a rule and class")
     made.add_argument("--strict", action="store_true", help="counts exhaustion, time and limits as differences too")
     made.add_argument("-o", "--output", type=Path, default=Path("teddertempo-findings"), metavar="FOLDER",
-                      help="keeps the findings there (teddertempo-findings)")
-    made.add_argument("--continue", dest="goes_on", action="store_true", help="goes on with the run in FOLDER")
+                      help="the folder for findings (teddertempo-findings)")
+    made.add_argument("--continue", dest="goes_on", action="store_true", help="continues the run in FOLDER")
     made.add_argument("--reduce", type=duration, metavar="TIME",
-                      help="makes the module of each finding smaller, by teddertempo-reduce, each for at most that time")
+                      help="reduces the module of each finding by teddertempo-reduce, each for at most that time")
     made.add_argument("--differs", type=Path, metavar="FINDING",
-                      help="only tells whether rewrites of MODULE differ as those of the finding in that folder do, by status 0; 1: they don't")
+                      help="only reports whether rewrites of MODULE differ as those of the finding in that folder do: status 0 if so, else 1")
     made.add_argument("--rule", action="append", default=[], metavar="NAME", help="uses only this rule (again for more)")
-    made.add_argument("--not-rule", action="append", default=[], metavar="NAME", help="uses all rules but this (again for more)")
+    made.add_argument("--not-rule", action="append", default=[], metavar="NAME", help="uses all rules except this (again for more)")
     made.add_argument("--swarm", type=positive, default=1, metavar="N",
-                      help="makes each mutant by an Nth of the rules, of N seeds each by another one (1: by all)")
-    made.add_argument("--max-size", type=positive, metavar="BYTES", help="makes no mutant larger than that")
+                      help="makes each mutant by an Nth of the rules, for each of N seeds by another Nth (1: by all)")
+    made.add_argument("--max-size", type=positive, metavar="BYTES", help="makes no mutant that is larger")
     made.add_argument("--teddertempo", metavar="PROGRAM", help="the program that rewrites")
-    made.add_argument("--json", action="store_true", help="tells findings and summary as JSON, an object a line")
-    made.add_argument("--quiet", action="store_true", help="tells findings alone")
+    made.add_argument("--json", action="store_true", help="reports findings and summary as JSON, one object a line")
+    made.add_argument("--quiet", action="store_true", help="reports only findings")
     return made
 
 
@@ -98,52 +96,39 @@ def options_of(options: argparse.Namespace) -> list[str]:
 
 
 def settings_of(options: argparse.Namespace) -> Settings:
-    deadline = time.monotonic() + options.time if options.time else None
-    return Settings(options.seeds, options.dose, options.jobs, options.strict, options.all, options.first, deadline)
+    return Settings(options.seeds, options.dose, options.jobs, options.strict, options.all, options.first)
 
 
 def lasting(options: argparse.Namespace, engine: list[str], version: str) -> dict[str, object]:
-    """What has to be as it was for a run to go on."""
+    """The settings that have to be the same if a run is continued."""
     return {"version": version, "engine": engine, "as": options.engine, "dose": str(options.dose), "calls": options.calls,
             "options": [*choice_of(options).words(), *options_of(options)], "swarm": options.swarm, "strict": options.strict, "all": options.all}
-
-
-def stop_on_signals(runner: Runner) -> None:
-    """Lets signals end the run, but those that are ignored, as under nohup."""
-    for number in (signal.SIGINT, signal.SIGTERM, signal.SIGHUP):
-        if signal.getsignal(number) is not signal.SIG_IGN:
-            signal.signal(number, lambda *_: runner.stop())
 
 
 def status_of(summary: Summary, store: Store) -> int:
     if store.findings:
         return FOUND
-    if summary.stopped:
-        return STOPPED
     return 0 if summary.modules and not summary.trouble else NOTHING_RUN
 
 
-def run(options: argparse.Namespace, engine: list[str]) -> int:
-    """Runs what the options ask for, and answers the status."""
-    runner = Runner(options.timeout)
+def run(options: argparse.Namespace, engine: list[str], runner: Runner) -> int:
+    """Does what the options ask for, and returns the status. `Stopped` after the report if a signal ends the run."""
     mutator = Mutator(program_of(options.teddertempo), choice_of(options), options_of(options), runner)
-    version = mutator.version()
-    stop_on_signals(runner)
-    store = Store(options.output, lasting(options, engine, version), options.goes_on)
     reporter = Reporter(options.json, options.quiet)
-    try:
-        campaign = Campaign(settings_of(options), engine_of(engine, options.engine, options.calls), mutator, runner, store, reporter)
-        summary = campaign.run(find_modules(options.modules))
-        if options.reduce:
-            reduce(options, runner, mutator.program, summary, reporter)
-    finally:
-        store.close()
+    with runner.within(options.time):
+        settings = lasting(options, engine, mutator.version())
+        with closing(Store(options.output, settings, options.goes_on)) as store:
+            campaign = Campaign(settings_of(options), engine_of(engine, options.engine, options.calls), mutator, runner, store, reporter)
+            summary = campaign.run(find_modules(options.modules))
+            if options.reduce:
+                reduce(options, runner, mutator.program, summary, reporter)
     reporter.end(summary)
+    runner.check()
     return status_of(summary, store)
 
 
 def reduce(options: argparse.Namespace, runner: Runner, program: str, summary: Summary, reporter: Reporter) -> None:
-    """Makes what was found smaller, until the runner is told to stop."""
+    """Reduces the findings, until a signal stops the runner."""
     reducer = Reducer(runner, program, options.reduce, options.jobs)
     try:
         for finding, folder in summary.findings:
@@ -152,24 +137,22 @@ def reduce(options: argparse.Namespace, runner: Runner, program: str, summary: S
         summary.stopped = True
 
 
-def tell_difference(options: argparse.Namespace) -> int:
-    """Whether the module differs as the finding does, as a predicate tells."""
-    runner = Runner(options.timeout)
-    stop_on_signals(runner)
+def report_difference(options: argparse.Namespace, runner: Runner) -> int:
+    """Whether the module differs as the finding does, as the status of a predicate."""
     found = differs(options.differs, Path(options.modules[0]), program_of(options.teddertempo), runner)
     return DIFFERS if found else SAME
 
 
 def check(options: argparse.Namespace, engine: list[str], made: Parser) -> None:
-    """Refuses options that can't be meant."""
+    """Rejects options that exclude each other or are incomplete."""
     if not options.modules:
         made.error("no MODULE")
     if options.differs and len(options.modules) > 1:
         made.error("more than one MODULE")
     if options.differs and engine:
-        made.error("an ENGINE: --differs asks that of the finding")
+        made.error("an ENGINE beside --differs, which runs the engine of the finding")
     if not options.differs and not engine:
-        made.error("no ENGINE: it stands behind --")
+        made.error("no ENGINE: it comes after --")
 
 
 def main() -> int:
@@ -179,13 +162,18 @@ def main() -> int:
     made = parser()
     options = made.parse_intermixed_args(own)
     check(options, engine, made)
+    runner = Runner(options.timeout)
+    runner.stop_on_signals()
     try:
-        return tell_difference(options) if options.differs else run(options, engine)
+        return report_difference(options, runner) if options.differs else run(options, engine, runner)
     except MutatorMisuse as misuse:
         print(misuse, file=sys.stderr)
         return MISUSED
-    except Stopped:
-        return STOPPED
+    except Stopped as stopped:
+        return stopped.status
+    except OutOfTime:
+        print("teddertempo-diff: the time was over before a mutant was tried", file=sys.stderr)
+        return NOTHING_RUN
     except (MutatorFailure, StoreRefusal, NoFinding) as refusal:
         print(f"teddertempo-diff: {refusal}", file=sys.stderr)
         return NOTHING_RUN

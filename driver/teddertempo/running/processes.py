@@ -1,26 +1,45 @@
-"""Runs a command within bounds of time and output, and ends whatever it leaves behind."""
+"""Runs commands within bounds of time and output, and ends their processes with all in their groups."""
 
 from __future__ import annotations
 
+import math
 import os
 import selectors
 import signal
 import subprocess
-import threading
 import time
+from contextlib import contextmanager
 from dataclasses import dataclass
-from typing import IO
+from typing import Iterator
 
-MOST_OUTPUT = 16 << 20  # bytes of a run, if nothing else is said
+MOST_OUTPUT = 16 << 20  # bytes of a run, unless another bound is given
+
+# Signals that stop a run.
+SIGNALS = (signal.SIGINT, signal.SIGTERM, signal.SIGHUP)
+
+# How often a process is looked at, in seconds: while it runs, and once it has closed its output.
+PACE, END_PACE = 0.05, 0.0005
 
 
-class Stopped(Exception):
-    """The run was told to stop; what was under way came to nothing."""
+class Ended(Exception):
+    """The run ends; what is under way is given up."""
+
+
+class Stopped(Ended):
+    """A signal ends the run; `status` is that of the program then."""
+
+    def __init__(self, number: int):
+        super().__init__(signal.Signals(number).name)
+        self.status = 128 + number
+
+
+class OutOfTime(Ended):
+    """The time of the run is over."""
 
 
 @dataclass(frozen=True)
 class Finished:
-    """What a command came to: its status (of a signal, below 0), what it wrote, and which bound ended it."""
+    """The result of a command: its status (below 0 for a signal), what it wrote, and which bound ended it."""
 
     status: int
     output: bytes
@@ -30,89 +49,142 @@ class Finished:
 
 
 class Runner:
-    """Runs commands, from several threads at once, until it is told to stop."""
+    """Runs commands, from several threads at once, until a signal stops it or its time is over."""
 
     def __init__(self, seconds: float):
         self.seconds = seconds
-        self.stopped = threading.Event()
-        self.lock = threading.RLock()  # a signal may come while the main thread holds it
-        self.running: set[subprocess.Popen[bytes]] = set()
+        self.deadline = math.inf
+        self.stopped_by: int | None = None
 
-    def stop(self) -> None:
-        """Ends what runs, and lets nothing begin any more."""
-        self.stopped.set()
-        with self.lock:
-            for process in self.running:
-                end_group(process)
+    def stop_on_signals(self) -> None:
+        """Lets signals stop the runner, except those that are ignored, as under nohup."""
+        for number in SIGNALS:
+            if signal.getsignal(number) is not signal.SIG_IGN:
+                signal.signal(number, self.stop)
 
-    def run(self, command: list[str], seconds: float | None = None, most: int = MOST_OUTPUT) -> Finished:
-        """Runs a command; `OSError` where it can't be begun, `Stopped` where the runner was told to stop."""
-        deadline = time.monotonic() + (seconds or self.seconds)
-        with self.lock:
-            if self.stopped.is_set():
-                raise Stopped
-            process = subprocess.Popen(command, bufsize=0, stdin=subprocess.DEVNULL, stdout=subprocess.PIPE,
-                                       stderr=subprocess.PIPE, start_new_session=True)
-            self.running.add(process)
+    def stop(self, number: int, _frame: object = None) -> None:
+        """Lets `run` end its process, in each thread, and start no other one."""
+        self.stopped_by = self.stopped_by or number
+
+    @contextmanager
+    def within(self, seconds: float | None) -> Iterator[None]:
+        """Bounds the time of all runs in the block together, if there is a bound; a block inside it may have another one."""
+        before = self.deadline
+        if seconds is not None:
+            self.deadline = time.monotonic() + seconds
         try:
-            output, errors, cause = read_all(process, deadline, most)
+            yield
         finally:
-            end_group(process)
-            process.wait()
-            for pipe in pipes_of(process):
-                pipe.close()
-            with self.lock:
-                self.running.discard(process)
-        if self.stopped.is_set():
-            raise Stopped
-        return Finished(process.returncode, output, errors, cause == "time", cause == "output")
+            self.deadline = before
 
+    def is_late(self) -> bool:
+        return time.monotonic() >= self.deadline
 
-def end_group(process: subprocess.Popen[bytes]) -> None:
-    """Ends a process that wasn't waited for yet, with all in its group."""
-    if process.returncode is None:
+    def check(self) -> None:
+        """Raises `Stopped` or `OutOfTime` if nothing may be run any more."""
+        if self.stopped_by:
+            raise Stopped(self.stopped_by)
+        if self.is_late():
+            raise OutOfTime
+
+    def run(self, command: list[str], seconds: float | None = None, most: int = MOST_OUTPUT, grace: float = 0.0) -> Finished:
+        """Runs a command; `OSError` if it can't be started, `Stopped` or `OutOfTime` if the runner ends it.
+
+        What remains of its group is killed. With `grace`, a process that is ended early first gets SIGTERM, and that many seconds to end
+        processes that it started in other groups.
+        """
+        self.check()
+        limit = min(time.monotonic() + (seconds or self.seconds), self.deadline)
+        process = subprocess.Popen(command, bufsize=0, stdin=subprocess.DEVNULL, stdout=subprocess.PIPE, stderr=subprocess.PIPE,
+                                   start_new_session=True)
+        output = Output(process, most)
         try:
-            os.killpg(process.pid, signal.SIGKILL)
-        except (ProcessLookupError, PermissionError):
-            pass
+            bound = self.bound_of(process, output, limit)
+            if bound and grace:
+                ask_to_end(process, output, grace)
+        finally:
+            signal_group(process, signal.SIGKILL)
+            process.wait()
+            output.close()
+        if self.stopped_by or bound == "time":
+            self.check()
+        return Finished(process.returncode, *output.texts(), bound == "time", bound == "output")
+
+    def bound_of(self, process: subprocess.Popen[bytes], output: Output, limit: float) -> str | None:
+        """Reads what a process writes until it ends; which bound it meets before, `time` or `output`. Its children may hold its pipes for
+        longer."""
+        while True:
+            has_finished = has_ended(process)
+            was_read = output.read(0 if has_finished else min(PACE, max(0.0, limit - time.monotonic())))
+            if output.size() > output.most:
+                return "output"
+            if has_finished and not was_read:
+                return None
+            if self.stopped_by or time.monotonic() >= limit:
+                return "time"
+
+
+class Output:
+    """What a process writes, as far as it was read; what comes after `most` bytes is dropped."""
+
+    def __init__(self, process: subprocess.Popen[bytes], most: int):
+        assert process.stdout is not None and process.stderr is not None
+        self.pipes = (process.stdout, process.stderr)
+        self.most = most
+        self.read_so_far = {pipe.fileno(): bytearray() for pipe in self.pipes}
+        self.selector = selectors.DefaultSelector()
+        for number in self.read_so_far:
+            os.set_blocking(number, False)
+            self.selector.register(number, selectors.EVENT_READ)
+
+    def is_open(self) -> bool:
+        return bool(self.selector.get_map())
+
+    def size(self) -> int:
+        return sum(map(len, self.read_so_far.values()))
+
+    def read(self, seconds: float) -> bool:
+        """Waits at most that long until something is written or a pipe is closed, and reads it; returns whether there was something."""
+        if not self.is_open():
+            time.sleep(min(seconds, END_PACE))
+            return False
+        ready = self.selector.select(seconds)
+        for key, _ in ready:
+            piece = os.read(key.fd, 1 << 16)
+            if not piece:
+                self.selector.unregister(key.fd)
+            elif self.size() <= self.most:
+                self.read_so_far[key.fd] += piece
+        return bool(ready)
+
+    def texts(self) -> tuple[bytes, bytes]:
+        output, errors = map(bytes, self.read_so_far.values())
+        return output, errors
+
+    def close(self) -> None:
+        self.selector.close()
+        for pipe in self.pipes:
+            pipe.close()
+
+
+def ask_to_end(process: subprocess.Popen[bytes], output: Output, seconds: float) -> None:
+    """Sends SIGTERM to a process and its group, and waits at most that long until it has ended and nothing holds its pipes any more."""
+    signal_group(process, signal.SIGTERM)
+    limit = time.monotonic() + seconds
+    while time.monotonic() < limit and not (has_ended(process) and not output.is_open()):
+        output.read(PACE)
+
+
+def signal_group(process: subprocess.Popen[bytes], number: signal.Signals) -> None:
+    """Sends a signal to the group of a process, if there is one any more."""
+    try:
+        os.killpg(process.pid, number)
+    except (ProcessLookupError, PermissionError):
+        pass
 
 
 def has_ended(process: subprocess.Popen[bytes]) -> bool:
-    """Whether a process has ended; it is still to be waited for, so that its number stays its own."""
-    return os.waitid(os.P_PID, process.pid, os.WEXITED | os.WNOHANG | os.WNOWAIT) is not None
-
-
-def pipes_of(process: subprocess.Popen[bytes]) -> tuple[IO[bytes], IO[bytes]]:
-    """What a process writes to, which was begun with pipes."""
-    assert process.stdout is not None and process.stderr is not None
-    return process.stdout, process.stderr
-
-
-def read_all(process: subprocess.Popen[bytes], deadline: float, most: int) -> tuple[bytes, bytes, str | None]:
-    """What a process writes until it ends, and which bound ended it, `time` or `output`. Its children may hold its pipes for longer."""
-    pipes = {pipe.fileno(): pipe for pipe in pipes_of(process)}
-    texts = {number: bytearray() for number in pipes}
-    cause = None
-    with selectors.DefaultSelector() as selector:
-        for number in pipes:
-            os.set_blocking(number, False)
-            selector.register(number, selectors.EVENT_READ)
-        while cause is None:
-            ended = has_ended(process)
-            ready = selector.select(0 if ended else min(0.05, max(0.0, deadline - time.monotonic()))) if selector.get_map() else []
-            for key, _ in ready:
-                piece = pipes[key.fd].read(1 << 16)
-                if piece:
-                    texts[key.fd] += piece
-                elif piece == b"":
-                    selector.unregister(key.fd)
-            if sum(map(len, texts.values())) > most:
-                cause = "output"
-            elif ended and not ready:
-                break
-            elif time.monotonic() >= deadline:
-                cause = "time"
-            elif not selector.get_map() and not ended:
-                time.sleep(0.0005)
-    output, errors = map(bytes, texts.values())
-    return output, errors, cause
+    """Whether a process has ended. It isn't waited for, so that its number stays its own, except on systems without `waitid`."""
+    if hasattr(os, "waitid"):
+        return os.waitid(os.P_PID, process.pid, os.WEXITED | os.WNOHANG | os.WNOWAIT) is not None
+    return process.poll() is not None

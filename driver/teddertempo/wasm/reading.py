@@ -7,6 +7,7 @@ from functools import lru_cache
 from typing import Callable, Iterator, TypeVar
 
 from .binary import Reader, Unreadable
+from .encodings import differs_between_encodings, names_wrong_kind
 from .immediates import Space
 from .module import (CODE, CUSTOM, DATA, DATA_COUNT, ELEMENTS, EXPORTS, FUNCTIONS, GLOBALS, HEAD, IMPORTS, KINDS, MEMORIES, ORDER, START,
                      TABLES, TAGS, TYPES, Data, Element, Export, Extra, Function, Global, Import, ImportType, Module, Table)
@@ -24,8 +25,8 @@ MISMATCH = "it has more or fewer code entries than functions"
 
 
 def read_module(data: bytes) -> Module:
-    """The module; `Unreadable` where the bytes are none."""
-    return ModuleReader().module(data)
+    """The module; `Unreadable` if the bytes aren't a module."""
+    return with_unclear_code(ModuleReader().module(data), data)
 
 
 @lru_cache(maxsize=1 << 16)
@@ -45,6 +46,25 @@ def read_code(entry: bytes) -> tuple[tuple[ValueType, ...], Body] | None:
     except Unreadable:
         return None
     return tuple(kinds), body
+
+
+@lru_cache(maxsize=1 << 16)
+def is_unclear(entry: bytes) -> bool:
+    """Whether a code entry can be decoded, but has another meaning in the encoding of 2022."""
+    read = read_code(entry)
+    return read is not None and differs_between_encodings(*read)
+
+
+def with_unclear_code(module: Module, data: bytes) -> Module:
+    """The module itself if all of it may be in the encoding of 3.0; else unclear code entries are kept as they are."""
+    codes = [content for code, content in sections_of(data) if code == CODE]
+    entries = [entry for content in codes for entry in read_all(Reader(content), Reader.sized)]
+    unclear = [is_unclear(entry) for entry in entries]
+    suspects = [function for function, each in zip(module.functions, unclear) if each]
+    if not suspects or (module.is_whole() and not any(names_wrong_kind(module.context, each) for each in suspects)):
+        return module
+    return replace(module, functions=tuple(Function(function.type, (), (), entry) if each else function
+                                           for function, entry, each in zip(module.functions, entries, unclear)))
 
 
 def read_import(reader: Reader) -> Import:

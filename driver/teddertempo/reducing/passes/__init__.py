@@ -12,6 +12,7 @@ from .immediates import Immediates, MergedLocals
 from .parameters import Parameters
 from .sections import CustomSections, Encoding, Exports, OwnImports, Sections, SmallerLimits
 from .segments import CutSegments, LateSegments, Segments, ZeroedData
+from .stacks import Drops, Pairs
 from .trees import Constants, Deletions, Operands
 from .unused import Unused, UnusedLocals
 
@@ -19,11 +20,11 @@ CHANGES = ("delete", "draw", "first_operand", "last_operand")
 
 
 def all_passes(changer: Changer | None, keeps_names: bool) -> list[Pass]:
-    """The passes of a round, those that take much away first; those by the program where there is one."""
+    """The passes of a round, those that take much away first; those by the program if there is one."""
     changes = [Change(name, changer) for name in CHANGES] if changer else []
     return [
         Encoding(), CustomSections(keeps_names), ConstantBodies(), Exports(), ExportedCallees(), Sections(), Unused(), Segments(),
-        CutSegments(), LateSegments(), Unused(), *changes, Deletions(), Constants(), Operands(False), Operands(True), Unwrapping(),
-        ElseUnwrapping(), Parts(), UnreachableBodies(), Ranges(), Immediates(), MergedLocals(), UnusedLocals(), Parameters(), Unused(),
-        Inlining(), OwnImports(), SmallerLimits(), ZeroedData(),
+        CutSegments(), LateSegments(), Unused(), *changes, Deletions(), Constants(), Operands(False), Operands(True), Drops(),
+        Unwrapping(), ElseUnwrapping(), Parts(), UnreachableBodies(), Ranges(), Pairs(), Immediates(), MergedLocals(), UnusedLocals(),
+        Parameters(), Unused(), Inlining(), OwnImports(), SmallerLimits(), ZeroedData(),
     ]

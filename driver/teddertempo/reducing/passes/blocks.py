@@ -74,18 +74,18 @@ class ElseUnwrapping(EditPass):
 
 
 class Parts(EditPass):
-    """Parts of blocks behind the first go: what is behind `else`, and handlers."""
+    """Parts of blocks after the first are deleted: code after `else`, and handlers."""
 
     name = "parts of blocks"
 
     def edits(self, context: Context, function: Function) -> list[Edit]:
-        found = [Edit(first, behind, ()) for block in blocks_of(function.body)
-                 for first, behind in zip(block.parts, [*block.parts[1:], block.last])]
-        return sorted(found, key=lambda edit: edit.behind)
+        found = [Edit(first, end, ()) for block in blocks_of(function.body)
+                 for first, end in zip(block.parts, [*block.parts[1:], block.last])]
+        return sorted(found, key=lambda edit: edit.end)
 
 
 class Ranges(PositionPass[tuple[int, int]]):
-    """Operators one behind the other go, a block as a whole or not at all."""
+    """Consecutive operators are deleted, a block as a whole or not at all."""
 
     name = "operators"
 

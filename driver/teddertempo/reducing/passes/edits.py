@@ -14,10 +14,10 @@ from ..search import PositionPass
 
 @dataclass(frozen=True, eq=False)
 class Edit:
-    """The operators from `first` to the one before `behind` become others."""
+    """The operators from `first` to the one before `end` become others."""
 
     first: int
-    behind: int
+    end: int
     code: Body
 
 
@@ -25,12 +25,12 @@ Position = tuple[int, Edit]
 
 
 def edited(body: Body, edits: Iterable[Edit]) -> Body:
-    """The body with the edits, from the last to the first, but those in code that another one has replaced."""
+    """The body with the edits, from the last to the first, except those in code that another edit has replaced."""
     pieces: list[Body] = []
     limit = len(body)
-    for edit in sorted(edits, key=lambda edit: (-edit.behind, edit.first)):
-        if edit.behind <= limit:
-            pieces += [body[edit.behind : limit], edit.code]
+    for edit in sorted(edits, key=lambda edit: (-edit.end, edit.first)):
+        if edit.end <= limit:
+            pieces += [body[edit.end : limit], edit.code]
             limit = edit.first
     pieces.append(body[:limit])
     return tuple(operator for piece in reversed(pieces) for operator in piece)
@@ -52,8 +52,12 @@ class EditPass(PositionPass[Position]):
         raise NotImplementedError
 
     def positions(self, module: Module) -> list[Position]:
-        return [(place, edit) for place, function in enumerate(module.functions) if function.unread is None
-                for edit in self.found(module.context, function)]
+        found = []
+        for place, function in enumerate(module.functions):
+            self.check_time()
+            if function.unread is None:
+                found += [(place, edit) for edit in self.found(module.context, function)]
+        return found
 
     def apply(self, module: Module, chosen: Sequence[Position]) -> Module | None:
         new = {}

@@ -68,9 +68,9 @@ def without_operands(module: Module, function: Function, gone: dict[int, set[int
         if unit.last in calls:
             calls.remove(unit.last)
             dropped = [unit.operands[index] for index in gone[function.body[unit.last].number()]]
-            if any(each.first >= each.behind for each in dropped):
+            if any(each.first >= each.end for each in dropped):
                 raise Unknown
-            edits += [Edit(each.first, each.behind, ()) for each in dropped]
+            edits += [Edit(each.first, each.end, ()) for each in dropped]
     if calls:
         raise Unknown
     return replace(function, body=edited(function.body, edits))

@@ -1,4 +1,4 @@
-"""Units of bodies that become less: statements go, an operand stands for the whole, code becomes constants."""
+"""Units of bodies that become smaller: statements are deleted, an operand replaces the whole, code becomes constants."""
 
 from __future__ import annotations
 
@@ -9,7 +9,7 @@ from .edits import Edit, EditPass
 
 
 class Deletions(EditPass):
-    """Statements, which leave no value, go."""
+    """Statements, which push no value, are deleted."""
 
     name = "statements"
 
@@ -18,7 +18,7 @@ class Deletions(EditPass):
 
 
 class Constants(EditPass):
-    """Code that leaves values becomes constants."""
+    """Code that pushes values becomes constants."""
 
     name = "constants"
 
@@ -33,7 +33,7 @@ class Constants(EditPass):
 
 
 class Operands(EditPass):
-    """An operand of the same type stands for the whole: the first one, or the last."""
+    """An operand of the same type replaces the whole: the first one, or the last."""
 
     def __init__(self, is_last: bool):
         super().__init__()
@@ -45,9 +45,9 @@ class Operands(EditPass):
 
     def edit(self, function: Function, unit: Unit) -> list[Edit]:
         wanted = unit.results[0] if len(unit.results) == 1 else False
-        fitting = [each for each in unit.operands if each.first < each.behind and wanted is not False
+        fitting = [each for each in unit.operands if each.first < each.end and wanted is not False
                    and (each.type is None or wanted in (None, each.type))]
         if not fitting or (self.is_last and len(fitting) == 1):
             return []
         operand = fitting[-1 if self.is_last else 0]
-        return [Edit(unit.first, unit.last + 1, function.body[operand.first : operand.behind])]
+        return [Edit(unit.first, unit.last + 1, function.body[operand.first : operand.end])]
