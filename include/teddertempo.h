@@ -45,11 +45,8 @@ extern "C" {
  */
 size_t teddertempo_rewrite(uint8_t *data, size_t size, size_t max_size, uint64_t seed);
 
-/* The same, by the name that libFuzzer's users know. It is no symbol of the library. */
-static inline size_t teddertempo_mutate(uint8_t *data, size_t size, size_t max_size, uint64_t seed)
-{
-    return teddertempo_rewrite(data, size, max_size, seed);
-}
+/* Another name of teddertempo_rewrite, for users of libFuzzer. */
+size_t teddertempo_mutate(uint8_t *data, size_t size, size_t max_size, uint64_t seed);
 
 /*
  * The same arguments, for a fuzzer that goes by coverage: changes the module in data[0..size] once, in place, so that it stays valid and

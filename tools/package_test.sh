@@ -136,7 +136,7 @@ exports_agree() {
     local library=$1 header=$2
     objdump -p "$library" | grep -x ' *SONAME *libteddertempo.so.1' || return 1
     objdump -T "$library" | grep ' g .* \.text' | sed 's/.* //' | sort > exported
-    sed -n '/^static /d; s/^[a-z].*[ *]\(teddertempo_[a-z_]*\)(.*/\1/p' "$header" | sort > declared
+    sed -n 's/^[a-z].*[ *]\(teddertempo_[a-z_]*\)(.*/\1/p' "$header" | sort > declared
     test -s declared && diff exported declared
 }
 
