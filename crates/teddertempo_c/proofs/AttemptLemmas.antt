@@ -85,8 +85,9 @@ asked_with options rules function most dose shrinking exact = record {
 }
 
 pub asked_same : (options : Options) (size room : ℕ) (rules : List Rule) (function : Option ℕ) (most : ℕ) (dose : Dose)
-    (shrinking exact : Bool) → rules ≡ rules_of options → function ≡ function_of options.only → most ≡ most_of options.growth options.flags size room → dose ≡ dose_of options →
-    shrinking ≡ has_flag options.flags SHRINK → exact ≡ has_flag options.flags EXACT → asked_with options rules function most dose shrinking exact ≡ asked_of_options options size room
+    (shrinking exact : Bool) → rules ≡ rules_of options → function ≡ function_of options.only →
+    most ≡ most_of options.growth options.flags size room → dose ≡ dose_of options → shrinking ≡ has_flag options.flags SHRINK →
+    exact ≡ has_flag options.flags EXACT → asked_with options rules function most dose shrinking exact ≡ asked_of_options options size room
 asked_same options size room rules function most dose shrinking exact a b c d e f = cc
 
 pub fits_room : (options : Options) (size room : ℕ) (r : Result RewrittenModule Reason) →
