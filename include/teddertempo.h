@@ -214,7 +214,8 @@ struct teddertempo_site {
  * Lists the places at which teddertempo_change_at can make a change. Of the options only changes and only are used; all are checked. The
  * places are sorted by function, then by operator, then by change. Writes the first room of them to sites, and returns how many there
  * are. If they are listed, the outcome is TEDDERTEMPO_DONE, also if there are none, and report->made is how many there are. Otherwise the
- * result is 0, sites is unchanged, and the report has the reason.
+ * result is 0, sites is unchanged, and the report has the reason. It takes time linear in the module for each change (n log n for the
+ * two exchanges).
  */
 size_t teddertempo_sites(const uint8_t *data, size_t size, const struct teddertempo_change_options *options,
                          struct teddertempo_site *sites, size_t room, struct teddertempo_report *report);
