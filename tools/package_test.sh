@@ -183,7 +183,7 @@ driver_runs_on() {
     "$1" --seeds 5 -o found numbers.wasm -- "$2"
 }
 
-# The reducer has the version, leaves the bytes that a predicate looks for, and tells a predicate that doesn't accept the module.
+# The reducer has the version, keeps the bytes that a predicate looks for, and reports a predicate that doesn't accept the module.
 reducer_runs() {
     local reducer=$1 status=0
     rm -f small.wasm

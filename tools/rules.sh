@@ -41,12 +41,12 @@ settle() {
 
 check=no
 if [ "${1:-}" = --check ]; then check=yes; fi
-while IFS=: read -r document behind; do
-    if ! grep -q "[0-9][0-9]*$behind" "$document"; then
-        echo "rules.sh: $document has no number of rules before \"$behind\"" >&2
+while IFS=: read -r document text; do
+    if ! grep -q "[0-9][0-9]*$text" "$document"; then
+        echo "rules.sh: $document has no number of rules before \"$text\"" >&2
         exit 1
     fi
-    sed "s/[0-9][0-9]*\($behind\)/$count\1/" "$document" > "$work/document"
+    sed "s/[0-9][0-9]*\($text\)/$count\1/" "$document" > "$work/document"
     settle "$document" "$work/document"
 done <<< "$counted"
 sed "s/^[0-9]*\( rules, each by its name\)/$count\1/" tools/rules/head.md | cat - "$work/table" > "$work/rules"

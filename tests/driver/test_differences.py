@@ -109,7 +109,7 @@ def test_quiet(driver: Driver) -> None:
 
 
 def test_reduced_finding(driver: Driver) -> None:
-    """A finding gets smaller, and stays one; the predicate tells it from other modules."""
+    """A finding gets smaller, and stays one; the predicate rejects other modules."""
     seconds = 20 + 60 * startup("teddertempo-diff")  # many predicates and engines start in it
     done, output = driver.run_mode("value", *RULES, "--reduce", f"{seconds:.0f}s", "--json")
     lines = lines_of(done.stdout)

@@ -44,7 +44,7 @@ def answers_to(engine: str, folder: Path, module: bytes) -> tuple[Answer, ...]:
 
 
 def test_calls_are_made(engine: str, folder: Path) -> None:
-    """A module with another result is told by its call, and floats are compared by their bits."""
+    """Another result is found at its call, and floats are compared by their bits."""
     identity = "first", ("f64",), ("f64",), b"\x20\x00"
     five, six = (answers_to(engine, folder / str(own), module_of([identity, sum_with(own)])) for own in (5, 6))
     found = difference_of(five, six, False)

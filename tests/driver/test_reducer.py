@@ -172,7 +172,7 @@ REFUSALS = (
 @pytest.mark.parametrize("module, predicate, options, status, said", REFUSALS)
 def test_refusal(reducer: Reducer, small: Path, module: str, predicate: tuple[str, ...], options: tuple[str, ...], status: int,
                  said: str) -> None:
-    """What is wrong is told in a line."""
+    """A message of one line states what is wrong."""
     files = {name: reducer.folder / f"{name} module" for name in ("none", "text", "cut")}
     files["text"].write_text("(module)")
     files["cut"].write_bytes(small.read_bytes()[:-3])

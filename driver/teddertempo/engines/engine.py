@@ -57,7 +57,7 @@ def with_host(answer: Answer, host: list[str]) -> list[Answer]:
 
 
 class Engine:
-    """An engine of which the output and the status are compared.
+    """An engine whose output and status are compared.
 
     `takes`: the types of values of the functions that it calls. `tells_signals`: whether a status above 128 means a signal, as in shells.
     `answers_at_once`: whether it prints each answer before it makes the next call.

@@ -107,7 +107,7 @@ def cause_of(message: str) -> Answer:
 
 
 def refusal_of(message: str) -> Answer:
-    """The end of a run of which the module was refused with a message."""
+    """The end of a run whose module was rejected with a message."""
     kind = Kind.LIMIT if LIMIT_TEXT.search(message) else Kind.REFUSED
     return Answer("module", kind, message.strip()[:200])
 

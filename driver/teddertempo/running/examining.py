@@ -60,7 +60,7 @@ class Examiner:
     observe: Observe
 
     def subject(self, path: Path, folder: Path) -> Subject:
-        """A module, of which a copy is in a task's folder; `Skipped` if it can't be tried."""
+        """A module, with a copy in a task's folder; `Skipped` if it can't be tried."""
         data = (folder / "original.wasm").read_bytes()
         interface = self.engine.interface_of(data)
         plan, observation = self.settled(folder, Plan(interface, self.engine.calls(interface)))

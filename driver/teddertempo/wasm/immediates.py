@@ -1,4 +1,4 @@
-"""What stands behind an operator's code: how each is read and written, and which indices and labels are in it."""
+"""The immediates after an operator's code: how each is read and written, and which indices and labels are in it."""
 
 from __future__ import annotations
 
@@ -53,7 +53,7 @@ class Catch:
 
 
 class Targets(Tuple[int, ...]):
-    """The labels of a table of branches, of which the last is the one for all else."""
+    """The labels of a table of branches; the last is the default."""
 
 
 class Kinds(Tuple[ValueType, ...]):
@@ -75,7 +75,7 @@ def narrowed(value: ImmediateValue, form: type[Own]) -> Own:
 
 
 class Immediate:
-    """What is behind a code. Most name no index and no label."""
+    """An immediate. Most name no index and no label."""
 
     def read(self, reader: Reader) -> ImmediateValue:
         raise NotImplementedError

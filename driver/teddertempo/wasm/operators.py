@@ -107,7 +107,7 @@ class Operator:
     values: tuple[ImmediateValue, ...] = ()
 
     def number(self, place: int = 0) -> int:
-        """The number at a place behind the code: an index, a label, or a constant."""
+        """The number at a place after the code: an index, a label, or a constant."""
         return narrowed(self.values[place], int)
 
     def encoded(self) -> bytes:

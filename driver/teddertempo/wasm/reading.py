@@ -222,7 +222,7 @@ class ModuleReader:
         return replace(self.made, extras=tuple(self.extras))
 
     def section(self, code: int, content: bytes) -> None:
-        """Decodes a section; one that can't be decoded, or stands where it can't, is kept as it is."""
+        """Decodes a section; one that can't be decoded, or is out of order, is kept unchanged."""
         follows = code in ORDER and (self.last == CUSTOM or ORDER.index(code) > ORDER.index(self.last))
         if follows:
             self.last = code

@@ -15,7 +15,7 @@ from ..search import PositionPass
 from .codes import UNREACHABLE_BODY, zeros_of
 
 
-# What may stand for an import: a tag by the index of its type.
+# What may replace an import: a tag by the index of its type.
 Own = Union[Function, Table, Limits, Global, int]
 
 
