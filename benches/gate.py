@@ -1,76 +1,131 @@
 #!/usr/bin/env python3
-"""Runs the gate, and counts what it takes, by crate: the CPU seconds of proofs, of tests and of seeded faults.
+"""Runs the gate, and counts what it takes, by crate: the CPU seconds of proofs, of tests, of seeded faults and of runs.
 
 Usage: gate.py [COMMAND ARGS..], at the top of the repository; `rt ci --anew` if none is given. What the command prints goes to
-standard output, the table behind it. The processes of the checks are read each second from /proc, so that each is counted to within a
-second. For a figure to go by, nothing else runs on the machine.
+standard output, the table after it. The command's processes are read each second from /proc, so that each is counted to within a second;
+the total is the kernel's, and exact. Runs are the building of programs, by two compilers, and what they take themselves; what belongs to no
+crate, such as `rt` itself, and the seconds that ended unseen, are the figure "others". For a figure to go by, nothing else
+runs on the machine.
 """
+
+from __future__ import annotations
 
 import collections
 import os
+import resource
 import subprocess
 import sys
 import threading
 import time
+from collections.abc import Iterator
+from typing import NamedTuple
 
 TICKS = os.sysconf("SC_CLK_TCK")
 
-KINDS = ("proof", "tests", "faults")
+KINDS = {"proof": "Proof", "tests": "Tests", "faults": "Seeded faults", "runs": "Runs"}
 
 
-def read(path):
+class Process(NamedTuple):
+    """What a process of the gate does, and what it has taken."""
+
+    crate: str
+    kind: str
+    seconds: float
+
+
+# A process's number and the time of its start, since numbers are used again.
+Mark = tuple[int, str]
+
+
+def read(path: str) -> bytes:
+    """What a file of /proc holds."""
     with open(path, "rb") as file:
         return file.read()
 
 
-def process(number):
-    """A check's own mark, its crate, what it is for, and its CPU seconds; none where the process is no check, or has ended."""
+def fields_of(number: int) -> list[str]:
+    """The fields of a process's state after its name."""
+    return read(f"/proc/{number}/stat").decode(errors="replace").rsplit(")", 1)[1].split()
+
+
+def descendants(ancestor: int) -> Iterator[tuple[int, list[str]]]:
+    """The processes that come from one, with the fields of their states."""
+    states: dict[int, list[str]] = {}
+    for name in filter(str.isdigit, os.listdir("/proc")):
+        try:
+            states[int(name)] = fields_of(int(name))
+        except OSError:
+            continue
+    children = collections.defaultdict(list)
+    for number, fields in states.items():
+        children[int(fields[1])].append(number)
+    waiting = [ancestor]
+    while waiting:
+        number = waiting.pop()
+        waiting.extend(children[number])
+        if number in states:
+            yield number, states[number]
+
+
+def process_of(number: int, fields: list[str]) -> Process | None:
+    """What a process does, and for which crate; none if it has ended, or belongs to no crate."""
     try:
         words = read(f"/proc/{number}/cmdline").decode(errors="replace").split("\0")
-        if "--crate-name" not in words:
-            return None
-        fields = read(f"/proc/{number}/stat").decode(errors="replace").rsplit(")", 1)[1].split()
         folder = os.readlink(f"/proc/{number}/cwd")
     except OSError:
         return None
-    kind = "faults" if "rt-edit" in folder else "tests" if "--test" in words else "proof"
-    seconds = (int(fields[11]) + int(fields[12])) / TICKS
-    return (number, fields[19]), words[words.index("--crate-name") + 1], kind, seconds
+    if "--crate-name" not in words:
+        return None
+    if "--crate-checked" in words:
+        kind = "runs"
+    elif "rt-edit" in folder:
+        kind = "faults"
+    elif "--test" in words:
+        kind = "tests"
+    else:
+        kind = "proof"
+    return Process(words[words.index("--crate-name") + 1], kind, (int(fields[11]) + int(fields[12])) / TICKS)
 
 
-def watch(seen, is_over):
-    """Notes each second what each check has taken so far."""
+def watch(ancestor: int, seen: dict[Mark, Process], is_over: threading.Event) -> None:
+    """Notes each second what each process of the command has taken so far."""
     while not is_over.wait(1.0):
-        for number in filter(str.isdigit, os.listdir("/proc")):
-            found = process(number)
+        for number, fields in descendants(ancestor):
+            found = process_of(number, fields)
             if found is not None:
-                seen[found[0]] = found[1:]
+                seen[number, fields[19]] = found
 
 
-def table(seen):
-    """The seconds of each crate by what they are for, the dearest crates first."""
-    crates = collections.defaultdict(lambda: dict.fromkeys(KINDS, 0.0))
-    for crate, kind, seconds in seen.values():
-        crates[crate][kind] += seconds
+def table(seen: dict[Mark, Process], total: float) -> Iterator[str]:
+    """The seconds of each crate by what they are for, the dearest crates first, and the sums in minutes."""
+    crates: dict[str, dict[str, float]] = collections.defaultdict(lambda: dict.fromkeys(KINDS, 0.0))
+    for process in seen.values():
+        crates[process.crate][process.kind] += process.seconds
     rows = sorted(crates.items(), key=lambda row: -sum(row[1].values()))
-    yield "| Crate | Proof | Tests | Seeded faults |"
-    yield "|---|---|---|---|"
+    yield "| Crate | " + " | ".join(KINDS.values()) + " |"
+    yield "|---" * (1 + len(KINDS)) + "|"
     for crate, spent in rows:
         yield f"| `{crate}` | " + " | ".join(f"{spent[kind]:,.0f}" if spent[kind] else "-" for kind in KINDS) + " |"
-    whole = {kind: sum(spent[kind] for _, spent in rows) / 60 for kind in KINDS}
-    yield ", ".join(f"{kind} {minutes:.1f}" for kind, minutes in whole.items()) + f" CPU minutes, together {sum(whole.values()):.1f}"
+    sums = {kind: sum(spent[kind] for _, spent in rows) / 60 for kind in KINDS}
+    sums["others"] = total / 60 - sum(sums.values())
+    yield ", ".join(f"{kind} {minutes:.1f}" for kind, minutes in sums.items())
+    yield f"total {total / 60:.1f} CPU minutes"
 
 
-def main():
-    seen, is_over, began = {}, threading.Event(), time.monotonic()
-    watcher = threading.Thread(target=watch, args=(seen, is_over))
-    watcher.start()
-    try:
-        status = subprocess.run(sys.argv[1:] or ["rt", "ci", "--anew"]).returncode
-    finally:
-        is_over.set()
-        watcher.join()
-    print(*table(seen), f"{(time.monotonic() - began) / 60:.1f} minutes by the clock", sep="\n")
+def main() -> int:
+    seen: dict[Mark, Process] = {}
+    is_over, began = threading.Event(), time.monotonic()
+    with subprocess.Popen(sys.argv[1:] or ["rt", "ci", "--anew"]) as command:
+        watcher = threading.Thread(target=watch, args=(command.pid, seen, is_over))
+        watcher.start()
+        try:
+            status = command.wait()
+        finally:
+            is_over.set()
+            watcher.join()
+    used = resource.getrusage(resource.RUSAGE_CHILDREN)
+    print(*table(seen, used.ru_utime + used.ru_stime), sep="\n")
+    print(f"{(time.monotonic() - began) / 60:.1f} minutes by the clock")
     return status
 
 
