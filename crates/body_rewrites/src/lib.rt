@@ -1,6 +1,6 @@
 //! Bodies rewritten by rules.
 //!
-//! Tests: `rule_tests` (`bodies`, `lists`, `own`, `wraps`); whole modules in `tests/modules.sh`.
+//! Tests: `edit_tests`; whole modules in `tests/modules.sh`.
 #![tactic(auto)]
 
 mod alone;

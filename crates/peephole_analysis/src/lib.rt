@@ -1,6 +1,6 @@
 //! The types of results: of a node, by the types of its operands, and of a term.
 //!
-//! Tests: `peephole_tests::types`.
+//! Tests: `peephole_tests`.
 #![tactic(auto)]
 
 mod analysis;

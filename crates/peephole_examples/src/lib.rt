@@ -1,7 +1,7 @@
 //! Callers of the library, to be read: the whole way from a body to the body with a term in it; a tree laid out; and a second
 //! small kind of nodes, with callers that know no more than the trait says.
 //!
-//! Tests: `peephole_tests::replacements` and `peephole_tests::languages`.
+//! Tests: `peephole_tests`.
 #![tactic(auto)]
 
 mod arith;
