@@ -1,6 +1,6 @@
 //! Instructions of a body replaced by others that leave the same types: the body stays valid, and computes something else.
 //!
-//! Tests: `chosen_changes`, `accesses`, `replaced_code` and `units` of `module_tests`; whole modules in `tests/changes.sh`.
+//! Tests: the files `change_*.txt` of `edit_tests`; whole modules in `tests/changes.sh`.
 #![tactic(auto)]
 
 mod change;

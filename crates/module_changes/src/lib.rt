@@ -1,7 +1,7 @@
 //! Modules changed: a module in, and out comes one in which an operator of one of its functions, and what stands right before it, is
 //! changed in its place, so that it stays valid and computes something else.
 //!
-//! Tests: `module_tests::changed_modules`; whole modules in `tests/changes.sh`.
+//! Tests: `module_changed.txt` of `edit_tests`; whole modules in `tests/changes.sh`.
 #![tactic(auto)]
 
 mod attempt;

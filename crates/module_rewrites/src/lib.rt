@@ -1,7 +1,7 @@
 //! Modules rewritten by rules: a module in, and out comes one in which an operator of one of its functions, and what stands right
 //! before it, is rewritten in its place, so that what stands round it runs as before; and so several times over, watched.
 //!
-//! Tests: `module_tests::rewritten_modules`; whole modules in `tests/modules.sh`, `tests/chained.sh` and `tests/files.sh`.
+//! Tests: `module_rewritten.txt` of `edit_tests`; whole modules in `tests/modules.sh`, `tests/chained.sh` and `tests/files.sh`.
 #![tactic(auto)]
 
 mod attempt;

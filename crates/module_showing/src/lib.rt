@@ -1,7 +1,7 @@
 //! Rewrites and changes of modules for people: which operators of which function were rewritten by which rule, or changed how, as they
 //! were and as they are, drawn as trees.
 //!
-//! Tests: `shown` and `texts` of `module_tests`.
+//! Tests: `module_shown.txt` and `module_texts.txt` of `edit_tests`.
 #![tactic(auto)]
 
 mod changed;

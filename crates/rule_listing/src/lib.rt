@@ -1,7 +1,7 @@
 //! The rules for people and programs: each with its number, its name, what it does to the number of instructions, whether it needs an engine that
 //! is exact, and its lines.
 //!
-//! Tests: `module_tests::listed_rules`.
+//! Tests: `module_rules.txt` of `edit_tests`.
 #![tactic(auto)]
 
 mod error;
