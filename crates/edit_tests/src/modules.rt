@@ -57,7 +57,6 @@ impl Answers for Calls {
             "rewrite" => texts::rewrite(alloc, fields),
             "change" => texts::change(alloc, fields),
             "operator" => texts::operator(alloc, fields),
-            "line" => texts::line(alloc, fields),
             "lines" => texts::lines(alloc, fields),
             "exact" => texts::exact(alloc),
             "options" => program::read(alloc, fields, ' '),

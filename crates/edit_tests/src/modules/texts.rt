@@ -69,20 +69,21 @@ fn list_of(alloc: Global, form: &str) -> Result<Vec<u8>> {
     Ok(output)
 }
 
-/// `line`, a form and a number: the line of the list of rules with that number from 0.
-pub(crate) fn line(alloc: Global, fields: &mut Fields<'_>) -> Result<String> {
-    let list = list_of(alloc, fields.text())?;
-    let number = fields.number()?;
-    let line = str::from_utf8(&list)?.lines().nth(number);
-    Ok(String::from_str(alloc, line.context("no such line")?)?)
-}
-
-/// `lines`, and a form: how many lines that list has, and how many rules and rows there are.
+/// `lines`, a form, and numbers: how many lines the list of rules has, and how many rules and rows there are; and its lines with these
+/// numbers, from 0.
 pub(crate) fn lines(alloc: Global, fields: &mut Fields<'_>) -> Result<String> {
     let list = list_of(alloc, fields.text())?;
-    let count = str::from_utf8(&list)?.lines().count();
-    let (rules, rows) = (rule_count(), row_count());
-    Ok(format!(in alloc; "{count} lines {rules} rules {rows} rows")?)
+    let numbers = fields.words()?;
+    let list = str::from_utf8(&list)?;
+    let (count, rules, rows) = (list.lines().count(), rule_count(), row_count());
+    let mut text = format!(in alloc; "{count} lines {rules} rules {rows} rows\n")?;
+    for (number, line) in list.lines().enumerate() {
+        if numbers.contains(&(number as u64)) {
+            text.push_str(line)?;
+            text.push('\n')?;
+        }
+    }
+    Ok(text)
 }
 
 /// `exact`: the numbers of the rules that need an exact engine.
