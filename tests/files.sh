@@ -96,6 +96,12 @@ input_has_name() {
     mv in.wasm "$1" && ends 0 "" rewrite "$1" -o out && is_new out && is_module "$1" && has_names . out "$1"
 }
 
+# An input with one name, and another file beside OUTPUT with the other one: neither changes.
+both_stay() {
+    mv in.wasm "$1" && cp "$work/other" "$2" && ends 0 "" rewrite "$1" -o out && is_new out || return 1
+    is_module "$1" && is_other "$2" && has_names . "$1" out "$2"
+}
+
 input_is_output() { ends 0 "" rewrite in.wasm -o in.wasm && is_new in.wasm && has_names . in.wasm; }
 
 others_stay() {
@@ -279,6 +285,11 @@ shows_progress() {
 
 judge "an input with the name OUTPUT.new" input_has_name out.new
 judge "an input with the name OUTPUT.new-0" input_has_name out.new-0
+judge "an input beside OUTPUT.new" both_stay in out.new
+judge "an input beside OUTPUT.new-0" both_stay in out.new-0
+judge "OUTPUT.new beside OUTPUT.new-0" both_stay out.new out.new-0
+judge "OUTPUT.new-0 beside OUTPUT.new-1" both_stay out.new-0 out.new-1
+judge "OUTPUT.new-1 beside OUTPUT.new" both_stay out.new-1 out.new
 judge "an input that is OUTPUT" input_is_output
 judge "unrelated files beside OUTPUT" others_stay
 judge "all names beside OUTPUT taken" names_are_taken

@@ -1,6 +1,6 @@
 //! What a run of the program for modules reads, writes and answers as its options ask, over any reader and writer.
 //!
-//! Tests: the tests in `teddertempo`, by whole command lines.
+//! Tests: `run_small.txt` of `edit_tests`, by whole command lines.
 #![tactic(auto)]
 
 mod blocks;

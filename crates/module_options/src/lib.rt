@@ -1,6 +1,6 @@
 //! The command line of the program for modules: what its words ask for, and how it is told where they ask for nothing.
 //!
-//! Tests: `options_read` in `teddertempo`, a row for each command line.
+//! Tests: `option_read.txt` and `option_messages.txt` of `edit_tests`, a case for each command line.
 #![tactic(auto)]
 
 mod arguments;

@@ -11,19 +11,7 @@
 mod beside;
 mod destination;
 mod files;
-#[cfg(test)]
-mod options_read;
 mod progress;
-#[cfg(test)]
-mod refused_modules;
-#[cfg(test)]
-mod repeats;
-#[cfg(test)]
-mod runs_on_files;
-#[cfg(test)]
-mod small_modules;
-#[cfg(test)]
-mod small_runs;
 mod standard_files;
 mod trouble;
 mod watched_output;
