@@ -92,8 +92,7 @@ fn moves_text(alloc: Global, effects: &str, left: &str, right: &str) -> Result<S
 
 // The immediate that the access with that number writes in the place of the instruction's.
 fn written_text(alloc: Global, access: &str, instr: &str) -> Result<String, Unreadable> {
-    let number = u8::try_from(number_in(access)?).ok();
-    let access = number.and_then(access_at).ok_or(Unreadable)?;
+    let access = access_at(access.parse().ok().ok_or(Unreadable)?).ok_or(Unreadable)?;
     let immediate = instr_of(instr).ok_or(Unreadable)?.imm();
     Ok(format!(in alloc; "{:?}", access.written(immediate))?)
 }
@@ -161,7 +160,7 @@ fn answer_to_number(alloc: Global, call: &str, number: usize) -> Result<String, 
             Ok(format!(in alloc; "{:?}", rules.get(number))?)
         }
         "access_at" => {
-            let access = u8::try_from(number).ok().and_then(access_at);
+            let access = access_at(u8::try_from(number).ok().ok_or(Unreadable)?);
             Ok(format!(in alloc; "{access:?}")?)
         }
         "TableRow::needs_exact" => {
@@ -187,7 +186,8 @@ pub fn answer_on_table(
             let count = match call {
                 "rule_count" => rule_count(),
                 "row_count" => row_count(),
-                _ => rules_of_rows(alloc)?.len(),
+                "rules_of_rows" => rules_of_rows(alloc)?.len(),
+                _ => return Err(Unreadable),
             };
             Ok(format!(in alloc; "{count}")?)
         }
@@ -196,13 +196,14 @@ pub fn answer_on_table(
             "parse" => rule_text(alloc, name.parse().ok()),
             _ => answer_to_number(alloc, call, number_in(name)?),
         },
-        [access, instr] => written_text(alloc, access, instr),
+        [access, instr] if call == "Access::written" => written_text(alloc, access, instr),
         [first, second, third] => match call {
             "may_move" => moves_text(alloc, first, second, third),
             "Row" | "Row::growth" => {
                 row_answer(alloc, call, Some(step_row(first, second, third)?))
             }
-            _ => number_text(alloc, call, first, second, third),
+            "Number::value" | "Condition::holds" => number_text(alloc, call, first, second, third),
+            _ => Err(Unreadable),
         },
         _ => Err(Unreadable),
     }
