@@ -2,7 +2,7 @@
 //! semicolons between them, as `local.get 0; i32.load offset=8; i32.const 7; i32.add`. Constants are in decimal digits; those of floats
 //! and vectors are their bits.
 //!
-//! Tests: the tables of `rule_tests` and `module_tests` are such texts.
+//! Tests: the cases of `edit_tests` and the tables of `module_tests` are such texts.
 #![tactic(auto)]
 
 mod bodies;

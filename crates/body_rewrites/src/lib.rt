@@ -1,6 +1,7 @@
 //! Bodies rewritten by rules.
 //!
-//! Tests: `rule_tests` (`bodies`, `lists`, `own`, `wraps`); whole modules in `tests/modules.sh`.
+//! Tests: `edit_tests` (in `data/` what each rule makes, and `rule_bodies`, `rule_lists`, `rule_own_code`, `rule_control`); whole modules
+//! in `tests/modules.sh`.
 #![tactic(auto)]
 
 mod alone;

@@ -1,6 +1,6 @@
 //! The names of instructions, as WebAssembly's text format has them.
 //!
-//! Tests: `rule_tests::notation`, which reads every body of the tests by these names.
+//! Tests: `edit_tests::rules`, which reads and prints every body of its cases by these names.
 #![tactic(auto)]
 
 // The names, by the number of the row in the table of instructions.

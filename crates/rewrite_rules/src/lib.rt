@@ -1,6 +1,6 @@
 //! Rules that rewrite code, as rows of a table, and what holds of them.
 //!
-//! Tests: `rule_tests` (`table`, `rows`, `texts`, `rules`); each rule on whole modules in `tests/rules.sh`.
+//! Tests: `edit_tests` (the files of cases `data/rule_*.txt`); each rule on whole modules in `tests/rules.sh`.
 #![tactic(auto)]
 
 mod access;
