@@ -1,6 +1,6 @@
 //! Devices that are watched: whether a call on one has failed.
 //!
-//! Tests: `reading_tests::devices`.
+//! Tests: `devices` of `decoding_tests`.
 #![tactic(auto)]
 
 mod tally;

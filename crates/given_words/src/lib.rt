@@ -1,6 +1,6 @@
 //! Words that a caller gives in place of a random generator's: owned, or lent.
 //!
-//! Tests: `reading_tests::base`.
+//! Tests: `given` of `decoding_tests`.
 #![tactic(auto)]
 
 pub mod laws;

@@ -1,6 +1,6 @@
 //! What a mutation goes by, beside the module: the configuration; and why a call is refused.
 //!
-//! Tests: `reading_tests::base`.
+//! Tests: `errors` and `given` of `decoding_tests`.
 #![tactic(auto)]
 
 mod config;

@@ -1,6 +1,6 @@
 //! The nodes of peephole terms: ids, expressions, the trait of languages, the nodes and their texts.
 //!
-//! Tests: `reading_tests::nodes`; another language of nodes in `peephole_tests::languages`.
+//! Tests: `variants`, `texts` and `comparisons` of `decoding_tests`; another language of nodes in `peephole_tests::languages`.
 #![tactic(auto)]
 
 mod children;

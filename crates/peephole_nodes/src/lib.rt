@@ -1,6 +1,6 @@
 //! The nodes of instructions without lists of children, and what a node says besides its variant.
 //!
-//! Tests: `reading_tests::nodes`.
+//! Tests: `variants`, `texts` and `comparisons` of `decoding_tests`.
 #![tactic(auto)]
 
 mod arity;

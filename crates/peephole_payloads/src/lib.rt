@@ -1,6 +1,6 @@
 //! The payloads of nodes that are no plain numbers, floats among them, and the texts of payloads, written and read.
 //!
-//! Tests: `reading_tests::base` (`payload`, `order`).
+//! Tests: `payloads` and `errors` of `decoding_tests`.
 #![tactic(auto)]
 
 mod float;

@@ -1,7 +1,7 @@
 //! Function bodies of WebAssembly as bytes: the instruction table, the operators
 //! that bytes spell, and the sink into which instructions are written.
 //!
-//! Tests: `reading_tests::code` (bytes, names, rows) and `reading_tests::operand_types`.
+//! Tests: `rows`, `bodies`, `errors` and `operand_types` of `decoding_tests`.
 #![tactic(auto)]
 
 mod body;

@@ -1,6 +1,6 @@
 //! The machine that gives instructions a meaning: values, operators, rows, worlds, and a run on a stack.
 //!
-//! Tests: `peephole_tests::machine` beside a plain machine, `reading_tests::operand_types`, and samples in `proofs/Samples`.
+//! Tests: `peephole_tests::machine` beside a plain machine, `operand_types` of `decoding_tests`, and samples in `proofs/Samples`.
 #![tactic(auto)]
 
 mod effects;

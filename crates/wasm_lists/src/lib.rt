@@ -1,7 +1,7 @@
 //! What the sections of a WebAssembly module list: types, imports, functions, tables, memories, globals, and the entries of
 //! the code with their locals.
 //!
-//! Tests: `reading_tests::declarations`.
+//! Tests: `lists` of `decoding_tests`.
 #![tactic(auto)]
 
 mod constants;

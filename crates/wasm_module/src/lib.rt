@@ -1,7 +1,7 @@
 //! Modules of WebAssembly: what they declare, where their function bodies stand, and the module with another body and more
 //! globals.
 //!
-//! Tests: `reading_tests::module`; whole modules in `tests/modules.sh`.
+//! Tests: `modules` of `decoding_tests`; whole modules in `tests/modules.sh`.
 #![tactic(auto)]
 
 mod contents;

@@ -1,7 +1,7 @@
 //! Modules of WebAssembly as sections: which bytes each takes, modules with a section written anew or without some, and the names of
 //! functions in the custom section `name`.
 //!
-//! Tests: `reading_tests::sections` and `reading_tests::names`; whole modules in `tests/files.sh`.
+//! Tests: `sections` and `function_names` of `decoding_tests`; whole modules in `tests/files.sh`.
 #![tactic(auto)]
 
 mod custom;

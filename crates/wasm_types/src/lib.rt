@@ -1,6 +1,6 @@
 //! The types of values, functions, tables and memories, and what is known of a module.
 //!
-//! Tests: `reading_tests::base`.
+//! Tests: `given` of `decoding_tests`.
 #![tactic(auto)]
 
 pub mod laws;
