@@ -48,7 +48,7 @@ impl RuleAnswers {
             | "own_growth"
             | "rewrites_of_body"
             | "reached_operators"
-            | "choose" => { answer_on_body(alloc, &self.table, call, arguments) }
+            | "choose" => answer_on_body(alloc, &self.table, call, arguments),
             _ => answer_on_table(alloc, call, arguments),
         }
     }

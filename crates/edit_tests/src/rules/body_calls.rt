@@ -65,8 +65,9 @@ fn made(
     requires lists { HasItsLists body.now }
     requires body { IsBodyIn bytes.now body.now.operators.now }
 {
+    let word = asked.word();
     let mut new = Function::new(alloc);
-    let Some(types) = rewrite_body(alloc, body, bytes, rewrite, asked.word(), &mut new)? else {
+    let Some(types) = rewrite_body(alloc, body, bytes, rewrite, word, &mut new)? else {
         return Ok(None);
     };
     let mut text = body_text(alloc, new.bytes(), asked.is_text)?;
@@ -166,12 +167,15 @@ pub fn answer_on_body(
     let [scene, with, text, rest @ ..] = arguments else {
         return Err(Unreadable);
     };
+    let with = *with;
+    let first = rest.first().copied().unwrap_or("");
+    let second = rest.get(1).copied().unwrap_or("");
     let asked = Asked {
         call,
         with,
         is_text: !text.starts_with("0x"),
-        first: rest.first().copied().unwrap_or(""),
-        second: rest.get(1).copied().unwrap_or(""),
+        first,
+        second,
     };
     let scene = scene_of(alloc, scene)?;
     let code = code_of(alloc, text)?;

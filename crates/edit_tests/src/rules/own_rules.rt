@@ -6,7 +6,7 @@ use super::rule_table::RuleTable;
 use super::unreadable::{Unreadable, number_in};
 use body_rewrites::{Body, own_code, own_growth};
 use body_splices::Piece;
-use rewrite_rules::{Own, Row, Widths, row_at};
+use rewrite_rules::{Own, Widths, row_at};
 use std::alloc::{AllocError, Global};
 
 // The rule of that name, or behind `access` the access with that number.
@@ -15,22 +15,18 @@ fn own_named(alloc: Global, table: &RuleTable, name: &str) -> Result<Own, Unread
         return Ok(Own::Access(number.parse().ok().ok_or(Unreadable)?));
     }
     let rows = table.rows(alloc, name)?;
-    match rows.first().and_then(|row| row_at(*row)) {
-        Some(
-            Row {
-                widths: Widths::Own(own),
-                ..
-            },
-        ) => Ok(own),
+    let row = rows.first().and_then(|row| row_at(*row));
+    match row.ok_or(Unreadable)?.widths {
+        Widths::Own(own) => Ok(own),
         _ => Err(Unreadable),
     }
 }
 
 // A piece as a text.
-fn piece_text(alloc: Global, piece: &Piece) -> Result<String, AllocError> {
+fn piece_text(alloc: Global, piece: Piece) -> Result<String, AllocError> {
     match piece {
         Piece::Kept { start, end } => format!(in alloc; "{start}..{end}"),
-        Piece::New(instr) => instruction_text(alloc, instr),
+        Piece::New(instr) => instruction_text(alloc, &instr),
         Piece::Structural(_) => String::from_str(alloc, "structural"),
     }
 }
@@ -53,7 +49,7 @@ pub fn own_text(
     };
     let mut pieces = String::new(alloc);
     for piece in code.pieces.as_slice() {
-        add_item(&mut pieces, "; ", &piece_text(alloc, piece)?)?;
+        add_item(&mut pieces, "; ", &piece_text(alloc, *piece)?)?;
     }
     if pieces.is_empty() {
         pieces.push_str("no code")?;

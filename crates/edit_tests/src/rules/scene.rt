@@ -35,13 +35,12 @@ fn module_of(alloc: Global) -> Result<ModuleInfo<'static>, AllocError> {
 /// The scene that the text tells: a module that is marked `exact` or isn't, `plain`, with globals, a memory and a function, and ten
 /// locals; or the types of the locals, and a module with nothing, which `exact` before them marks so.
 pub fn scene_of(alloc: Global, text: &str) -> Result<Scene, Unreadable> {
-    let (mut info, names) = match text {
-        "plain" | "exact" => (module_of(alloc)?, LOCALS),
-        _ => {
-            let names = text.strip_prefix("exact ").unwrap_or(text);
-            (ModuleInfo::new(alloc, &[]), names)
-        }
-    };
+    let mut info = ModuleInfo::new(alloc, &[]);
+    let mut names = text.strip_prefix("exact ").unwrap_or(text);
+    if text == "plain" || text == "exact" {
+        info = module_of(alloc)?;
+        names = LOCALS;
+    }
     info.exact = text.starts_with("exact");
     let mut locals = Vec::new(alloc);
     for name in names.split_whitespace() {

@@ -196,7 +196,10 @@ pub fn answer_on_table(
             "parse" => rule_text(alloc, name.parse().ok()),
             _ => answer_to_number(alloc, call, number_in(name)?),
         },
-        [access, instr] if call == "Access::written" => written_text(alloc, access, instr),
+        [access, instr] => match call {
+            "Access::written" => written_text(alloc, access, instr),
+            _ => Err(Unreadable),
+        },
         [first, second, third] => match call {
             "may_move" => moves_text(alloc, first, second, third),
             "Row" | "Row::growth" => {
