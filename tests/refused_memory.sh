@@ -1,9 +1,8 @@
 #!/usr/bin/env bash
 # Refuses to calls that take memory, those of `calls` below, their requests in turn: each one, or of more than a hundred the first and
 # the last fifty, and each tenth between these. Prints a line for each call: how many requests were refused, one a run, of how many,
-# and how many of them to the call itself. Fails where an answer is none of those allowed: a test in peephole_tests
-# (src/refused.rt), rule_tests (src/refused_bodies.rt), teddertempo (src/refused_modules.rt) or peephole_run (src/refused_memory.rt)
-# says which, or a module of tests/refused_memory, and stops at any other. The last line is `N passed, N failed`: so many calls.
+# and how many of them to the call itself. Fails where an answer is none of those allowed: the sources in tests/refused_memory say
+# which, and stop at any other. The last line is `N passed, N failed`: so many calls.
 #
 # The program in tests/refused_memory makes a call of those over all its samples. It is built twice: without a refusal,
 # which counts the requests of each call, and with request number `at` refused, before which it asks for memory and gives it
@@ -11,7 +10,7 @@
 set -euo pipefail
 cd "$(dirname "$0")/.."
 
-calls="read_later_body write_code copy_node add_constants read_body get_dfg get_expr build_expr add expr2wasm build_function pretty_print trees_of blocks_of rewrites_of_body reached_operators choose rewrite_body read_module with_body rewrite_module units_of code_of_words change_of_words replace_code change_module run"
+calls="read_later_body write_code copy_node add_constants read_body get_dfg get_expr build_expr add expr2wasm build_function pretty_print clone tree_of write trees_of blocks_of rewrites_of_body reached_operators choose rewrite_body read_module with_body rewrite_module units_of code_of_words change_of_words replace_code change_module run"
 never=1000000
 
 work=$(mktemp -d)
@@ -26,12 +25,13 @@ for crate in crates/*/; do
 done
 program=$work/crates/refused_memory
 mkdir -p "$program/src" "$work/counted" "$work/cases"
-cp tests/refused_memory/main.rt.in "$program/src/main.rt"
-for module in changes codes nodes; do cp "tests/refused_memory/$module.rt.in" "$program/src/$module.rt"; done
-cp crates/peephole_tests/src/{graphs,refused,samples,table,terms,writing}.rt "$program/src"
-cp crates/rule_tests/src/refused_bodies.rt "$program/src"
-cp crates/teddertempo/src/refused_modules.rt crates/peephole_run/src/refused_memory.rt "$program/src"
-libraries=$(grep -E '^(decoding_tests|peephole_tests|rule_tests|teddertempo|peephole_run):' crates.txt | cut -d: -f2 | tr ' ' '\n' | sort -u | tr '\n' ' ')
+for source in tests/refused_memory/*.rt.in; do
+    cp "$source" "$program/src/$(basename "$source" .in)"
+done
+# What these sources use.
+libraries="body_changes body_rewrites body_splices case_files device_tally given_words module_changes module_rewrites mutate_base"
+libraries="$libraries peephole_commands peephole_examples peephole_lang peephole_terms rand rand_core rewrite_rules wasm_code wasm_execution"
+libraries="$libraries wasm_module wasm_types"
 { cat crates.txt; echo "refused_memory: $libraries"; } > "$work/crates.txt"
 
 # A line for each case, from what `rt try` prints of it: the case, how it ended, the requests for memory, what it printed.

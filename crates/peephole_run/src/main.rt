@@ -1,13 +1,6 @@
 //! Runs the commands of standard input: what they print goes to standard output.
 #![tactic(auto)]
 
-#[cfg(test)]
-mod refused_memory;
-#[cfg(test)]
-mod runs;
-#[cfg(test)]
-mod tests;
-
 use device_tally::Tally;
 use peephole_commands::run;
 use std::io;

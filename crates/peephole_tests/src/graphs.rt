@@ -1,441 +1,175 @@
-//! Blocks, and the graphs of blocks, entry by entry.
+//! Blocks, their graphs, and the trees in these, laid out.
 
-ghost use Rattle.std.specs.Prelude.{◌<◌, length};
+ghost use Rattle.std.specs.Prelude.{IfOk, IfSome};
 ghost use Rattle.peephole_graphs.specs.Block.{IsBlockIn};
+ghost use Rattle.peephole_terms.specs.Written.{IsBodyIn};
 
-use crate::table::{number_of, types_of};
+use crate::parts::{Refusal, bytes_in, field_of, info_with, number_in, types_of};
+use crate::terms::nodes_text;
 use peephole_terms::{
-    BBlock, DFGBuilder, Error, FuncInfo, MiniDFG, ModuleInfo, OperatorAndByteOffset, TypeInfo,
-    WasmMutate, Words,
+    BBlock, DFGBuilder, Language, MiniDFG, ModuleInfo, OperatorAndByteOffset, WasmMutate, Words,
+    read_body,
 };
-use peephole_test_support::{bytes_in, bytes_of, field_of, fields_of, operators_of};
 use std::alloc::Global;
-use std::process::Abort;
-use std::test::Fail;
+use std::fmt::Write;
 
-/// A block of a body, and the insertion point.
-#[derive(Clone, Copy)]
-pub struct Place<'a> {
-    pub bytes: &'a [u8],
-    /// The operator that ends the block.
-    pub last: usize,
-    /// The operator whose tree is replaced.
-    pub point: usize,
-    pub preserving: bool,
-}
-
-/// The block of an operator, which is the insertion point too.
-pub fn at(bytes: &[u8], point: usize) -> Place<'_> {
-    Place {
-        bytes,
-        last: point,
-        point,
-        preserving: false,
+/// The operators of a body.
+pub fn operators_of(alloc: Global, bytes: &[u8]) -> Result<Vec<OperatorAndByteOffset>, Refusal>
+    ensures { IfOk result (λ operators. IsBodyIn bytes.now operators.items) }
+{
+    match read_body(alloc, bytes, 0, bytes.len()) {
+        Ok(operators) => Ok(operators),
+        Err(_) => Err(Refusal::Unreadable),
     }
 }
 
-/// The place that a case tells in these bytes. Where it tells no insertion point, that is the operator that ends the block.
-pub fn place_of<'a>(rt: &impl Abort, case: &str, bytes: &'a [u8]) -> Place<'a> {
-    let last = number_of(rt, field_of(case, "last"));
-    let point = match field_of(case, "point") {
-        "" => last,
-        point => number_of(rt, point),
-    };
-    Place {
-        bytes,
-        last,
-        point,
-        preserving: field_of(case, "preserving") == "yes",
+/// The block of the operator `last` of a case, if it has one.
+pub fn block_of(
+    builder: &DFGBuilder,
+    operators: &[OperatorAndByteOffset],
+    case: &str,
+) -> Result<Option<BBlock>, Refusal>
+    ensures { IfOk result (λ found. IfSome found (λ block. IsBlockIn operators.now block)) }
+{
+    let last = number_in(case, "last")? as usize;
+    if last >= operators.len() {
+        return Err(Refusal::Unreadable);
     }
+    Ok(builder.get_bb_from_operator(last, operators))
 }
 
-/// The range of the block of an operator, or none.
-fn range_text(rt: &impl Abort, alloc: Global, bytes: &[u8], at: usize) -> Result<String, Error> {
-    let operators = operators_of(alloc, bytes)?;
-    assert!(rt; at < operators.len());
+// Where the operators of a body begin, or the range of a block, or none.
+fn of_body(alloc: Global, call: &str, case: &str) -> Result<String, Refusal> {
+    let bytes = bytes_in(alloc, case, "body")?;
+    let operators = operators_of(alloc, &bytes)?;
+    if call == "offsets" {
+        let offsets: Vec<usize> = operators.iter().map(|(_, offset)| *offset).collect(alloc)?;
+        return Ok(format!(in alloc; "{offsets:?}")?);
+    }
     let config: WasmMutate<Words> = WasmMutate::new();
-    let builder = DFGBuilder::new(&config);
-    match builder.get_bb_from_operator(at, &operators) {
+    match block_of(&DFGBuilder::new(&config), &operators, case)? {
         Some(block) => {
             let range = block.range();
             let (start, end) = (range.start, range.end);
             Ok(format!(in alloc; "{start}..{end}")?)
         }
-        None => Ok(format!(in alloc; "none")?),
+        None => Ok(String::from_str(alloc, "none")?),
     }
 }
 
-/// A body, an operator, and the range of its block. Delimiters end blocks and have none.
-const BLOCKS: &str = "
-1a 20 00 6a 0b 1a 0b 0b | 0 | 0..1
-1a 20 00 6a 0b 1a 0b 0b | 2 | 0..3
-1a 20 00 6a 0b 1a 0b 0b | 3 | none
-1a 20 00 6a 0b 1a 0b 0b | 4 | 4..5
-1a 20 00 6a 0b 1a 0b 0b | 5 | none
-1a 20 00 6a 0b 1a 0b 0b | 6 | none
-20 00 20 00 6a 28 02 00 04 40 41 36 05 41 d7 00 0b 41 38 6a 03 40 41 01 20 00 6a 21 00 0b 0b | 3 | 0..4
-20 00 20 00 6a 28 02 00 04 40 41 36 05 41 d7 00 0b 41 38 6a 03 40 41 01 20 00 6a 21 00 0b 0b | 4 | none
-20 00 20 00 6a 28 02 00 04 40 41 36 05 41 d7 00 0b 41 38 6a 03 40 41 01 20 00 6a 21 00 0b 0b | 5 | 5..6
-20 00 20 00 6a 28 02 00 04 40 41 36 05 41 d7 00 0b 41 38 6a 03 40 41 01 20 00 6a 21 00 0b 0b | 10 | 9..11
-";
-
-/// The block of an operator that has one.
-pub fn block_of(
-    rt: &impl Abort,
-    builder: &DFGBuilder,
-    operators: &[OperatorAndByteOffset],
-    at: usize,
-) -> BBlock
-    ensures there { at < length operators.now }
-    ensures block { IsBlockIn operators.now result }
-{
-    assert!(rt; at < operators.len());
-    match builder.get_bb_from_operator(at, operators) {
-        Some(block) => block,
-        None => panic!(rt; "no block"),
-    }
-}
-
-#[test]
-fn blocks(rt: HostRuntime) -> Result<(), Fail> {
-    let alloc = rt.alloc();
-    for line in BLOCKS.trim().lines() {
-        let fields = fields_of(alloc, line)?;
-        let [digits, at, wanted] = fields.as_slice() else {
-            panic!(&rt; "{line}");
-        };
-        let bytes = bytes_of(alloc, digits)?;
-        let found = range_text(&rt, alloc, &bytes, number_of(&rt, at))?;
-        assert!(&rt; found.as_str() == *wanted, "{line}");
-    }
-    Ok(())
-}
-
-/// What `get_dfg` answers of a block.
-fn answer_of(
-    rt: &impl Abort,
-    alloc: Global,
-    place: &Place,
-    info: &ModuleInfo,
-) -> Result<Option<MiniDFG>, Error> {
-    let operators = operators_of(alloc, place.bytes)?;
+// The graph of the block that ends with the operator `last` of a case's body, if the block has one, in a module whose function 0 has the
+// type that the case tells, `function i32 -> i64`, or has none where it tells none.
+fn graph_of(alloc: Global, case: &str) -> Result<Option<MiniDFG>, Refusal> {
+    let bytes = bytes_in(alloc, case, "body")?;
+    let operators = operators_of(alloc, &bytes)?;
+    let info = match field_of(case, "function").split_once("->") {
+        Some((params, returns)) => {
+            info_with(alloc, &types_of(alloc, params)?, &types_of(alloc, returns)?, false)?
+        }
+        None => ModuleInfo::new(alloc, &[]),
+    };
     let mut config: WasmMutate<Words> = WasmMutate::new();
-    config.preserve_semantics(place.preserving);
+    config.preserve_semantics(field_of(case, "preserving") == "yes");
     let mut builder = DFGBuilder::new(&config);
-    let block = block_of(rt, &builder, &operators, place.last);
-    builder.get_dfg(alloc, info, &operators, &block)
-}
-
-/// The graph of a block, in a module of which nothing is known.
-pub fn graph_of(rt: &impl Abort, alloc: Global, place: &Place) -> Result<MiniDFG, Error> {
-    let info = ModuleInfo::new(alloc, place.bytes);
-    match answer_of(rt, alloc, place, &info)? {
-        Some(graph) => Ok(graph),
-        None => panic!(rt; "no graph"),
+    match block_of(&builder, &operators, case)? {
+        Some(block) => Ok(builder.get_dfg(alloc, &info, &operators, &block)?),
+        None => Err(Refusal::Unreadable),
     }
 }
 
-/// A line of an entry: its text, its children, its operator, its colour and its parent, how many entries there are from it
-/// downwards, and whether they have one colour. The graph finds the entry of its operator, and the entry's copy is as it is.
-fn entry_text(
-    rt: &impl Abort,
-    alloc: Global,
-    graph: &MiniDFG,
-    index: usize,
-) -> Result<String, Error> {
-    assert!(rt; index < graph.entries().len() && index < graph.parents().len());
+// Adds a line of an entry: what it is, where the graph finds its operator, and whether a copy of it is the same.
+fn push_entry(text: &mut String, graph: &MiniDFG, index: usize) -> Result<(), Refusal> {
+    if index >= graph.entries().len() || index >= graph.parents().len() {
+        return Err(Refusal::Unreadable);
+    }
     let entry = &graph.entries()[index];
     let node = &entry.operator;
     let children = node.children();
-    let at = entry.operator_idx;
-    let color = entry.color;
-    assert!(rt; color == u32::MAX || graph.map().get(at) == Some(index));
+    let (at, color) = (entry.operator_idx, entry.color);
     let copy = entry.clone()?;
-    assert!(rt; copy.operator == *node && copy.operator_idx == at && copy.color == color);
+    let same = copy.operator == *node && copy.operator_idx == at && copy.color == color;
     let parent = graph.parents()[index];
-    let count = graph.subtree_len(index);
-    let flag = graph.is_subtree_consistent(index);
-    Ok(format!(in alloc;
-        "\n{node} {children:?} at {at}, color {color}, parent {parent:?}, tree of {count}, one color {flag}"
-    )?)
+    let (count, flag) = (graph.subtree_len(index), graph.is_subtree_consistent(index));
+    let own = graph.map().get(at);
+    write!(text, "\n{node} {children:?} at {at}, color {color}, parent {parent:?}")?;
+    write!(text, ", tree of {count}, one color {flag}, own entry {own:?}, copied {same}")?;
+    Ok(())
 }
 
-/// The graph has these entries, and its block is in order or not, and its last entry's tree of one colour or not.
-fn is_graph(
-    rt: &impl Abort,
-    alloc: Global,
-    place: &Place,
-    graph: &MiniDFG,
-    case: &str,
-) -> Result<(), Error> {
-    assert!(rt; graph.entries().len() > 0 && graph.parents().len() == graph.entries().len());
-    let range = range_text(rt, alloc, place.bytes, place.last)?;
+// Whether the block is in order, whether its last entry's tree has one colour, and a line for each entry.
+fn graph_text(alloc: Global, graph: &MiniDFG) -> Result<String, Refusal> {
+    if graph.entries().is_empty() {
+        return Err(Refusal::Unreadable);
+    }
     let (order, flag) = (graph.keeps_order(), graph.is_subtree_consistent_from_root());
-    let mut text = format!(in alloc;
-        "operators {range}, in order {order}, last tree of one color {flag}"
-    )?;
+    let mut text = format!(in alloc; "in order {order}, last tree of one color {flag}")?;
     for index in 0..graph.entries().len() {
-        text.push_str(entry_text(rt, alloc, graph, index)?.as_str())?;
+        push_entry(&mut text, graph, index)?;
     }
-    assert!(rt;
-        text.as_str() == field_of(case, "graph"),
-        "{case}\nfound {text}"
-    );
-    Ok(())
+    Ok(text)
 }
 
-/// The graph is drawn as the case says, where it says how.
-fn is_drawn(rt: &impl Abort, alloc: Global, graph: &MiniDFG, case: &str) -> Result<(), Error> {
-    let wanted = field_of(case, "drawn");
-    if !wanted.is_empty() {
-        let text = format!(in alloc; "{graph}")?;
-        assert!(rt; text.as_str().strip_suffix('\n') == Some(wanted), "{case}");
-        assert!(rt; graph.pretty_print_default(alloc)? == text, "{case}");
-    }
-    Ok(())
+// The operator of each entry.
+fn operators_text(alloc: Global, graph: &MiniDFG) -> Result<String, Refusal> {
+    let entries = graph.entries().iter();
+    let operators: Vec<usize> = entries.map(|entry| entry.operator_idx).collect(alloc)?;
+    Ok(format!(in alloc; "{operators:?}")?)
 }
 
-/// A module whose function 0 has the type that a case tells, or has none where it tells none.
-fn info_of<'a>(
-    rt: &impl Abort,
-    alloc: Global,
-    bytes: &'a [u8],
-    case: &str,
-) -> Result<ModuleInfo<'a>, Error> {
-    let mut info = ModuleInfo::new(alloc, bytes);
-    if let Some((params, returns)) = field_of(case, "function").split_once("->") {
-        info.types_map.push(TypeInfo::Func(FuncInfo {
-            params: types_of(rt, alloc, params)?,
-            returns: types_of(rt, alloc, returns)?,
-        }))?;
-        info.function_map.push(0)?;
-    }
-    Ok(info)
+// The forest, with texts that the caller makes.
+fn forest_by(alloc: Global, graph: &MiniDFG) -> Result<String, Refusal> {
+    let text = graph.pretty_print(alloc, |entry| {
+        let operator = &entry.operator;
+        Ok(format!(in alloc; "{operator}")?)
+    })?;
+    Ok(text)
 }
 
-/// Blocks, each by its body and its last operator, and their graphs, as `is_graph` tells them, or what there is in the place of
-/// a graph.
-const GRAPHS: &str = "
-drop, local.get 0, i32.add: two operators lack an operand
-| body 1a 20 00 6a 0b | last 2
-| graph operators 0..3, in order true, last tree of one color false
-undef [] at 0, color 4294967295, parent Some(1), tree of 1, one color true
-drop [Id(0)] at 0, color 0, parent None, tree of 2, one color false
-local.get.0 [] at 1, color 0, parent Some(4), tree of 1, one color true
-undef [] at 2, color 4294967295, parent Some(4), tree of 1, one color true
-i32.add [Id(3), Id(2)] at 2, color 0, parent None, tree of 3, one color false
-
-local.get 0, i32.const 1, local.set 0, local.set 1: the read comes out behind the first write
-| body 20 00 41 01 21 00 21 01 0b | last 3 | preserving yes
-| graph operators 0..4, in order false, last tree of one color false
-local.get.0 [] at 0, color 0, parent Some(3), tree of 1, one color true
-i32.const.1 [] at 1, color 0, parent Some(2), tree of 1, one color true
-local.set.0 [Id(1)] at 2, color 0, parent None, tree of 2, one color true
-local.set.1 [Id(0)] at 3, color 1, parent None, tree of 2, one color false
-
-the same, where the meaning need not be preserved
-| body 20 00 41 01 21 00 21 01 0b | last 3
-| graph operators 0..4, in order false, last tree of one color true
-local.get.0 [] at 0, color 0, parent Some(3), tree of 1, one color true
-i32.const.1 [] at 1, color 0, parent Some(2), tree of 1, one color true
-local.set.0 [Id(1)] at 2, color 0, parent None, tree of 2, one color true
-local.set.1 [Id(0)] at 3, color 0, parent None, tree of 2, one color true
-
-local.get 0, nop, local.get 1, i32.add: an operator without result stands among those of the sum
-| body 20 00 01 20 01 6a 0b | last 3 | preserving yes
-| graph operators 0..4, in order false, last tree of one color false
-local.get.0 [] at 0, color 0, parent Some(3), tree of 1, one color true
-nop [] at 1, color 0, parent None, tree of 1, one color true
-local.get.1 [] at 2, color 1, parent Some(3), tree of 1, one color true
-i32.add [Id(0), Id(2)] at 3, color 1, parent None, tree of 3, one color false
-
-the same, where the meaning need not be preserved
-| body 20 00 01 20 01 6a 0b | last 3
-| graph operators 0..4, in order false, last tree of one color true
-local.get.0 [] at 0, color 0, parent Some(3), tree of 1, one color true
-nop [] at 1, color 0, parent None, tree of 1, one color true
-local.get.1 [] at 2, color 0, parent Some(3), tree of 1, one color true
-i32.add [Id(0), Id(2)] at 3, color 0, parent None, tree of 3, one color true
-
-local.get 0, block, end, i32.const 1, i32.add: the block of the last one lacks an operand
-| body 20 00 02 40 0b 41 01 6a 0b | last 4
-| graph operators 3..5, in order true, last tree of one color false
-i32.const.1 [] at 3, color 0, parent Some(2), tree of 1, one color true
-undef [] at 4, color 4294967295, parent Some(2), tree of 1, one color true
-i32.add [Id(1), Id(0)] at 4, color 0, parent None, tree of 3, one color false
-| drawn DFG forest
-(0)(at 4) i32.add
-├──(4294967295)(at 4) undef
-└──(0)(at 3) i32.const.1
-
-the same, where the meaning is to be preserved
-| body 20 00 02 40 0b 41 01 6a 0b | last 4 | preserving yes
-| graph operators 3..5, in order true, last tree of one color false
-i32.const.1 [] at 3, color 0, parent Some(2), tree of 1, one color true
-undef [] at 4, color 4294967295, parent Some(2), tree of 1, one color true
-i32.add [Id(1), Id(0)] at 4, color 0, parent None, tree of 3, one color false
-
-memory.size, i32.const 1, i32.load, i32.add: a read of memory keeps the colour
-| body 3f 00 41 01 28 00 00 6a 0b | last 3 | preserving yes
-| graph operators 0..4, in order true, last tree of one color true
-memory.size.0 [] at 0, color 0, parent Some(3), tree of 1, one color true
-i32.const.1 [] at 1, color 0, parent Some(2), tree of 1, one color true
-i32.load.0.0.0 [Id(1)] at 2, color 0, parent Some(3), tree of 2, one color true
-i32.add [Id(0), Id(2)] at 3, color 0, parent None, tree of 4, one color true
-
-memory.size, i32.const 1, memory.grow, i32.add: growing memory raises it
-| body 3f 00 41 01 40 00 6a 0b | last 3 | preserving yes
-| graph operators 0..4, in order true, last tree of one color false
-memory.size.0 [] at 0, color 0, parent Some(3), tree of 1, one color true
-i32.const.1 [] at 1, color 0, parent Some(2), tree of 1, one color true
-memory.grow.0 [Id(1)] at 2, color 0, parent Some(3), tree of 2, one color true
-i32.add [Id(0), Id(2)] at 3, color 1, parent None, tree of 4, one color false
-
-table.size, ref.null, i32.const 1, table.grow, i32.add: so does growing a table
-| body fc 10 00 d0 70 41 01 fc 0f 00 6a 0b | last 4 | preserving yes
-| graph operators 0..5, in order true, last tree of one color false
-table.size.0 [] at 0, color 0, parent Some(4), tree of 1, one color true
-ref.null.func [] at 1, color 0, parent Some(3), tree of 1, one color true
-i32.const.1 [] at 2, color 0, parent Some(3), tree of 1, one color true
-table.grow.0 [Id(1), Id(2)] at 3, color 0, parent Some(4), tree of 3, one color true
-i32.add [Id(0), Id(3)] at 4, color 1, parent None, tree of 5, one color false
-
-local.get 0, nop, i32.add: it is written as the next one
-| body 20 00 01 6a 0b | last 2
-| graph operators 0..3, in order false, last tree of one color false
-local.get.0 [] at 0, color 0, parent Some(3), tree of 1, one color true
-nop [] at 1, color 0, parent None, tree of 1, one color true
-undef [] at 2, color 4294967295, parent Some(3), tree of 1, one color true
-i32.add [Id(2), Id(0)] at 2, color 0, parent None, tree of 3, one color false
-
-nop, local.get 0, i32.add: it is in order
-| body 01 20 00 6a 0b | last 2
-| graph operators 0..3, in order true, last tree of one color false
-nop [] at 0, color 0, parent None, tree of 1, one color true
-local.get.0 [] at 1, color 0, parent Some(3), tree of 1, one color true
-undef [] at 2, color 4294967295, parent Some(3), tree of 1, one color true
-i32.add [Id(2), Id(1)] at 2, color 0, parent None, tree of 3, one color false
-
-two comparisons of loads, of which the second takes the first one's result and leaves a load on the stack
-| body 41 20 28 02 00 41 e4 00 28 02 00 41 01 4a 41 01 4b 1a 0b | last 7
-| graph operators 0..8, in order true, last tree of one color true
-i32.const.32 [] at 0, color 0, parent Some(1), tree of 1, one color true
-i32.load.0.2.0 [Id(0)] at 1, color 0, parent None, tree of 2, one color true
-i32.const.100 [] at 2, color 0, parent Some(3), tree of 1, one color true
-i32.load.0.2.0 [Id(2)] at 3, color 0, parent Some(5), tree of 2, one color true
-i32.const.1 [] at 4, color 0, parent Some(5), tree of 1, one color true
-i32.gt_s [Id(3), Id(4)] at 5, color 0, parent Some(7), tree of 4, one color true
-i32.const.1 [] at 6, color 0, parent Some(7), tree of 1, one color true
-i32.gt_u [Id(5), Id(6)] at 7, color 0, parent None, tree of 6, one color true
-
-i32.const 32 alone: the block ends before its body does
-| body 41 20 1a 20 00 20 00 6a 6a 0b | last 0
-| graph operators 0..1, in order true, last tree of one color true
-i32.const.32 [] at 0, color 0, parent None, tree of 1, one color true
-
-a signalling NaN, drop
-| body 43 01 00 a0 7f 1a 0b | last 1
-| graph operators 0..2, in order true, last tree of one color true
-f32.const.7fa00001 [] at 0, color 0, parent Some(1), tree of 1, one color true
-drop [Id(0)] at 1, color 0, parent None, tree of 2, one color true
-
-local.get 0, local.get 1, local.get 2, f32x4.relaxed_madd, drop
-| body 20 00 20 01 20 02 fd 85 02 1a 0b | last 4
-| graph operators 0..5, in order true, last tree of one color true
-local.get.0 [] at 0, color 0, parent Some(3), tree of 1, one color true
-local.get.1 [] at 1, color 0, parent Some(3), tree of 1, one color true
-local.get.2 [] at 2, color 0, parent Some(3), tree of 1, one color true
-f32x4.relaxed_madd [Id(0), Id(1), Id(2)] at 3, color 0, parent Some(4), tree of 4, one color true
-drop [Id(3)] at 4, color 0, parent None, tree of 5, one color true
-
-local.get 0, local.get 1, v128.load8_lane of offset 4 and lane 15
-| body 20 00 20 01 fd 54 00 04 0f 1a 0b | last 2
-| graph operators 0..3, in order true, last tree of one color true
-local.get.0 [] at 0, color 0, parent Some(2), tree of 1, one color true
-local.get.1 [] at 1, color 0, parent Some(2), tree of 1, one color true
-v128.load8_lane.4.0.0.15 [Id(0), Id(1)] at 2, color 0, parent None, tree of 3, one color true
-
-i32.add, nop, i32.add: the sums take three entry operands, the last one first
-| body 6a 01 6a 0b | last 2
-| graph operators 0..3, in order false, last tree of one color false
-undef [] at 0, color 4294967295, parent Some(2), tree of 1, one color true
-undef [] at 0, color 4294967295, parent Some(2), tree of 1, one color true
-i32.add [Id(1), Id(0)] at 0, color 0, parent Some(5), tree of 3, one color false
-nop [] at 1, color 0, parent None, tree of 1, one color true
-undef [] at 2, color 4294967295, parent Some(5), tree of 1, one color true
-i32.add [Id(4), Id(2)] at 2, color 0, parent None, tree of 5, one color false
-
-nop, i32.add, i32.add: the same as it is written
-| body 01 6a 6a 0b | last 2
-| graph operators 0..3, in order true, last tree of one color false
-nop [] at 0, color 0, parent None, tree of 1, one color true
-undef [] at 1, color 4294967295, parent Some(3), tree of 1, one color true
-undef [] at 1, color 4294967295, parent Some(3), tree of 1, one color true
-i32.add [Id(2), Id(1)] at 1, color 0, parent Some(5), tree of 3, one color false
-undef [] at 2, color 4294967295, parent Some(5), tree of 1, one color true
-i32.add [Id(4), Id(3)] at 2, color 0, parent None, tree of 5, one color false
-
-call 0, nop: a function that takes and gives nothing raises the colour by two
-| body 10 00 01 0b | last 1 | preserving yes | function ->
-| graph operators 0..2, in order true, last tree of one color true
-call.0 [] at 0, color 0, parent None, tree of 1, one color true
-nop [] at 1, color 2, parent None, tree of 1, one color true
-| drawn DFG forest
-(0)(at 0) call.0
-(2)(at 1) nop
-
-three times i32.const 10, call 0 of a function with one result
-| body 41 0a 41 0a 41 0a 10 00 0b | last 3 | function i32 i32 i32 -> i32
-| graph operators 0..4, in order true, last tree of one color true
-i32.const.10 [] at 0, color 0, parent Some(3), tree of 1, one color true
-i32.const.10 [] at 1, color 0, parent Some(3), tree of 1, one color true
-i32.const.10 [] at 2, color 0, parent Some(3), tree of 1, one color true
-call.0 [Id(0), Id(1), Id(2)] at 3, color 0, parent None, tree of 4, one color true
-
-local.get 0, local.set 1, local.get 2, local.get 3, i32.add: a tree behind a write
-| body 20 00 21 01 20 02 20 03 6a 1a 0b | last 4 | preserving yes
-| graph operators 0..5, in order true, last tree of one color true
-local.get.0 [] at 0, color 0, parent Some(1), tree of 1, one color true
-local.set.1 [Id(0)] at 1, color 0, parent None, tree of 2, one color true
-local.get.2 [] at 2, color 1, parent Some(4), tree of 1, one color true
-local.get.3 [] at 3, color 1, parent Some(4), tree of 1, one color true
-i32.add [Id(2), Id(3)] at 4, color 1, parent None, tree of 3, one color true
-
-drop, call_indirect: the latter is no instruction of a graph
-| body 1a 11 00 00 0b | last 1 | without graph
-
-three times i32.const 10, call 0 of a function with two results
-| body 41 0a 41 0a 41 0a 10 00 0b | last 3 | function i32 i32 i32 -> i32 i32 | without graph
-
-drop, call 5 of a function that the module doesn't have
-| body 1a 10 05 0b | last 1 | refused UnknownFunction(5)
-
-three times i32.const 10, call 0 of a function that the module doesn't have
-| body 41 0a 41 0a 41 0a 10 00 0b | last 3 | refused UnknownFunction(0)
-";
-
-fn is_case(rt: &impl Abort, alloc: Global, case: &str) -> Result<(), Fail> {
-    let bytes = bytes_in(alloc, case, "body")?;
-    let place = place_of(rt, case, &bytes);
-    let info = info_of(rt, alloc, &bytes, case)?;
-    match answer_of(rt, alloc, &place, &info) {
-        Ok(Some(graph)) => {
-            is_graph(rt, alloc, &place, &graph, case)?;
-            is_drawn(rt, alloc, &graph, case)?;
-        }
-        Ok(None) => assert!(rt; field_of(case, "without") == "graph", "{case}"),
-        Err(error) => {
-            let text = format!(in alloc; "{error:?}")?;
-            assert!(rt; text.as_str() == field_of(case, "refused"), "{case}");
-        }
+// The tree of the operator `last`, laid out.
+fn own_tree(alloc: Global, graph: &MiniDFG, case: &str) -> Result<String, Refusal> {
+    let at = number_in(case, "last")? as usize;
+    if graph.map().get(at).is_none() {
+        return Err(Refusal::Unreadable);
     }
-    Ok(())
+    nodes_text(alloc, &graph.get_expr(alloc, at)?)
 }
 
-#[test]
-fn graphs(rt: HostRuntime) -> Result<(), Fail> {
-    for case in GRAPHS.trim().split("\n\n") {
-        is_case(&rt, rt.alloc(), case)?;
+// How many entries there are, in all and in the last one's tree, and what the tree of the operator `last` is, laid out: how many nodes,
+// and the children of its root.
+fn sizes(alloc: Global, graph: &MiniDFG, case: &str) -> Result<String, Refusal> {
+    let at = number_in(case, "last")? as usize;
+    let count = graph.entries().len();
+    if count == 0 || graph.map().get(at).is_none() {
+        return Err(Refusal::Unreadable);
     }
-    Ok(())
+    let tree = graph.subtree_len(count - 1);
+    let (order, flag) = (graph.keeps_order(), graph.is_subtree_consistent_from_root());
+    let mut text = format!(in alloc; "entries {count}, last tree of {tree}, in order {order}, of one color {flag}")?;
+    let expr = graph.get_expr(alloc, at)?;
+    if let Some(root) = expr.as_ref().last() {
+        let (laid, children) = (expr.len(), root.children());
+        write!(text, ", laid out {laid}, root {children:?}")?;
+    }
+    Ok(text)
+}
+
+/// What a call on a body, or on a graph of one of its blocks, answers.
+pub fn answered(alloc: Global, call: &str, case: &str) -> Result<String, Refusal> {
+    if call == "offsets" || call == "block" {
+        return of_body(alloc, call, case);
+    }
+    let Some(graph) = graph_of(alloc, case)? else {
+        return Ok(String::from_str(alloc, "no graph")?);
+    };
+    match call {
+        "graph" => graph_text(alloc, &graph),
+        "copy" => graph_text(alloc, &graph.clone()?),
+        "entries" => operators_text(alloc, &graph),
+        "forest" => Ok(format!(in alloc; "{graph}")?),
+        "forest_default" => Ok(graph.pretty_print_default(alloc)?),
+        "forest_by" => forest_by(alloc, &graph),
+        "own_tree" => own_tree(alloc, &graph, case),
+        "sizes" => sizes(alloc, &graph, case),
+        _ => Err(Refusal::Unreadable),
+    }
 }

@@ -1,103 +1,138 @@
-//! Terms, told by the lines of their nodes, and what comes of writing them.
+//! Terms, told by their nodes: the text of each and the places of its children, `i32.const.1; i32.const.2; i32.add 0 1`; and a second
+//! kind of nodes, through the trait alone.
 
-ghost use Rattle.std.specs.Prelude.{◌<◌, All, IsTrue, length};
-ghost use Rattle.peephole_lang.specs.Lang.{payload_of};
-ghost use Rattle.peephole_nodes.specs.Payload.{is_writable};
+ghost use Rattle.std.specs.Prelude.{◌≡◌, ◌<◌, All, IfOk, length, true};
+ghost use Rattle.peephole_graphs.specs.Layout.{AreWritable};
+ghost use Rattle.peephole_lang.specs.Term.{numbers_of};
 
-use crate::table::{number_of, numbers_of, types_of};
-use peephole_terms::{Error, Function, Lang, PrimitiveTypeInfo, RecExpr, ResourceRequest};
-use peephole_test_support::{are_globals, bytes_in, field_of, parts_of};
-use std::alloc::{AllocError, Global};
-use std::process::Abort;
+use crate::parts::{Refusal, field_of, number_in};
+use peephole_examples::{Arith, set_first, tree_of};
+use peephole_terms::{Id, Lang, Language, RecExpr, build_expr};
+use std::alloc::Global;
+use std::cell::Cell;
+use std::fmt::Write;
 
-/// The node of a line: its text, and then the places of its children.
-pub fn node_of(rt: &impl Abort, alloc: Global, line: &str) -> Result<Lang, AllocError> {
-    match peephole_test_support::node_of(alloc, line)? {
-        Some(node) => Ok(node),
-        None => panic!(rt; "{line}"),
+/// The node that a text tells.
+pub fn node_of<L: Language>(alloc: Global, told: &str) -> Result<L, Refusal> {
+    let (name, ids) = told.split_once(' ').unwrap_or((told, ""));
+    let mut children = Vec::new(alloc);
+    for id in ids.split_whitespace() {
+        let place = id.parse::<u32>().ok().ok_or(Refusal::Unreadable)?;
+        children.push(Id(place))?;
+    }
+    match L::from_op_str(name, children) {
+        Ok(node) => Ok(node),
+        Err(error) => Err(Refusal::NoNode(error)),
     }
 }
 
-/// The term of some nodes, each told by its text and the places of its children.
-pub fn term_of(rt: &impl Abort, alloc: Global, lines: &[&str]) -> Result<RecExpr<Lang>, Error> {
-    match peephole_test_support::term_of(alloc, lines)? {
-        Some(term) => Ok(term),
-        None => panic!(rt; "{lines:?}"),
-    }
-}
-
-/// Ends the test where a term has no node, or one that isn't writable.
-pub fn assert_writable(rt: &impl Abort, term: &RecExpr<Lang>)
-    ensures some { 0 < length term.now }
-    ensures writable { All (λ l. IsTrue (is_writable (payload_of l))) term.now }
+// Whether the ids are below the place.
+fn are_ids_below(ids: &[Id], place: usize) -> bool
+    ensures { result ≡ true → All (λ id. id.0 < place) ids.now }
 {
-    assert!(rt; term.len() > 0);
-    assert!(rt; term.as_ref().iter().all(|node| node.is_writable()));
+    ids.iter().all(|id| (id.0 as usize) < place)
 }
 
-/// A term, and what is to come of writing it behind the bytes AA BB.
-#[derive(Drop)]
-pub struct TermCase<'a> {
-    /// The case in words and fields.
-    pub told: &'a str,
-    /// The types of the module's globals.
-    pub module: Vec<PrimitiveTypeInfo>,
-    /// The words that the generator gives.
-    pub words: Vec<u64>,
-    /// The nodes of the term.
-    pub nodes: Vec<&'a str>,
-    /// What stands behind AA BB: nothing after a refusal.
-    pub written: Vec<u8>,
-    /// The name of the refusal, or nothing.
-    pub refused: &'a str,
-    /// The word that the generator gives next.
-    pub next_word: u64,
-    /// The types of the globals that are asked for.
-    pub globals: Vec<PrimitiveTypeInfo>,
+// The same, said of the places that the children name.
+fn are_below(children: &[Id], place: usize) -> bool
+    ensures { result ≡ true → All (λ child. child < place) (numbers_of children.now) }
+{
+    are_ids_below(children, place)
 }
 
-/// The case that its fields tell, in a module with two globals of type i32.
-pub fn term_case<'a>(rt: &impl Abort, alloc: Global, case: &'a str) -> Result<TermCase<'a>, Error> {
-    Ok(TermCase {
-        told: case,
-        module: types_of(rt, alloc, "i32 i32")?,
-        words: numbers_of(rt, alloc, field_of(case, "words"))?,
-        nodes: parts_of(alloc, field_of(case, "term"))?,
-        written: bytes_in(alloc, case, "written")?,
-        refused: field_of(case, "refused"),
-        next_word: number_of(rt, field_of(case, "next")) as u64,
-        globals: types_of(rt, alloc, field_of(case, "globals"))?,
-    })
-}
-
-/// The answer of a call that wrote behind the bytes AA BB is that of the case, and so is the word that the generator gives
-/// next. `Memory` where an allocation was refused: then AA BB stand alone.
-pub fn is_answer(
-    rt: &impl Abort,
-    case: &TermCase,
-    answer: Result<Vec<ResourceRequest>, Error>,
-    sink: &Function,
-    next_word: u64,
-) -> Result<(), Error> {
-    let told = case.told;
-    assert!(rt; sink.bytes().starts_with(&[0xaa, 0xbb]), "{told}");
-    match answer {
-        Ok(requests) => {
-            let written = &sink.bytes()[2..];
-            assert!(rt;
-                written == case.written.as_slice() && case.refused.is_empty(),
-                "{told}"
-            );
-            assert!(rt; are_globals(&requests, &case.globals), "{told}");
+/// The term of the nodes.
+pub fn term_of<L: Language>(alloc: Global, told: &str) -> Result<RecExpr<L>, Refusal> {
+    let mut term = RecExpr::new(alloc);
+    for part in told.split(';') {
+        let node: L = node_of(alloc, part.trim())?;
+        if !are_below(node.children(), term.len()) {
+            return Err(Refusal::Unreadable);
         }
-        Err(error) => {
-            assert!(rt; sink.len() == 2, "{told}");
-            if error == Error::Memory {
-                return Err(error);
-            }
-            assert!(rt; case.refused == error.name(), "{told}");
-        }
+        term.add(node)?;
     }
-    assert!(rt; next_word == case.next_word, "{told}");
-    Ok(())
+    Ok(term)
+}
+
+/// The same of nodes that can be written, one at least.
+pub fn writable_term(alloc: Global, told: &str) -> Result<RecExpr<Lang>, Refusal>
+    ensures some { IfOk result (λ term. 0 < length term) }
+    ensures writable { IfOk result AreWritable }
+{
+    let term: RecExpr<Lang> = term_of(alloc, told)?;
+    if term.len() == 0 || !term.as_ref().iter().all(|node| node.is_writable()) {
+        return Err(Refusal::Unreadable);
+    }
+    Ok(term)
+}
+
+/// The nodes of an expression, a line each.
+pub fn nodes_text<L: Language>(alloc: Global, expr: &RecExpr<L>) -> Result<String, Refusal> {
+    let mut text = String::new(alloc);
+    for node in expr.as_ref() {
+        let children = node.children();
+        writeln!(text, "{node} {children:?}")?;
+    }
+    Ok(text)
+}
+
+// The tree at a node of an expression.
+fn tree_at<L: Language>(
+    alloc: Global,
+    expr: &RecExpr<L>,
+    case: &str,
+) -> Result<String, Refusal> {
+    let root = number_in(case, "root")?;
+    if root as usize >= expr.len() {
+        return Err(Refusal::Unreadable);
+    }
+    nodes_text(alloc, &tree_of(alloc, expr, Id(root))?)
+}
+
+// The text of the copy of a node, and whether that matches the node.
+fn copied(alloc: Global, node: &Arith) -> Result<String, Refusal> {
+    let copy = node.clone_node()?;
+    let matches = node.matches(&copy);
+    Ok(format!(in alloc; "{copy}, matches {matches}")?)
+}
+
+// The children of a node, of which the first is replaced, and whether it matches another node.
+fn first_set(alloc: Global, mut node: Arith, case: &str) -> Result<String, Refusal> {
+    let other: Arith = node_of(alloc, field_of(case, "other"))?;
+    set_first(&mut node, Id(number_in(case, "first")?));
+    let children = node.children();
+    let matches = node.matches(&other);
+    Ok(format!(in alloc; "{children:?}, matches {matches}")?)
+}
+
+// A sum far from the first id: the tree, and how often a node is asked for.
+fn far_sum(alloc: Global) -> Result<String, Refusal> {
+    let sum = Arith::Add([Id(7), Id(3999999999)]);
+    let one = Arith::Num(1);
+    let two = Arith::Num(2);
+    let calls = Cell::new(0u32);
+    let tree = build_expr(alloc, Id(4000000000), |id: Id| {
+        calls.set(calls.get().saturating_add(1));
+        match id.0 {
+            4000000000 => &sum,
+            7 => &one,
+            _ => &two,
+        }
+    })?;
+    let mut text = nodes_text(alloc, &tree)?;
+    let count = calls.get();
+    write!(text, "{count} calls")?;
+    Ok(text)
+}
+
+/// What a call on a node or on a term answers.
+pub fn answered(alloc: Global, call: &str, case: &str) -> Result<String, Refusal> {
+    let nodes = field_of(case, "nodes");
+    match call {
+        "node" => copied(alloc, &node_of(alloc, nodes)?),
+        "set_first" => first_set(alloc, node_of(alloc, nodes)?, case),
+        "far_sum" => far_sum(alloc),
+        "nodes" => nodes_text::<Lang>(alloc, &term_of(alloc, nodes)?),
+        "tree" => tree_at::<Lang>(alloc, &term_of(alloc, nodes)?, case),
+        _ => tree_at::<Arith>(alloc, &term_of(alloc, nodes)?, case),
+    }
 }
