@@ -2,7 +2,8 @@
 ghost use Rattle.std.specs.Prelude.{◌≡◌, codes, false, IfOk};
 ghost use Rattle.clap.specs.Simple.{app_of};
 ghost use Rattle.clap.specs.Walk.{rule_of};
-ghost use Rattle.module_options.specs.Arguments.{change_rule, command_line, count_rule, flag, input_rule, naming, number, output_rule, rules_rule, seed_rule, valued};
+ghost use Rattle.module_options.specs.Arguments.{change_rule, count_rule, flag, input_rule, naming, number, output_rule, rules_rule, seed_rule, valued};
+ghost use Rattle.module_options.specs.Arguments.{bare_command, changing_rules, command_line, file_rules, reporting_rules, rewriting_rules, with_rules, writing_rules};
 
 use clap::{Arg, ArgAction, Command, value_parser};
 use std::alloc::{AllocError, Global};
@@ -169,19 +170,22 @@ Examples:
   teddertempo --change module.wasm -o changed.wasm --seed 7 --count 3 --show
   teddertempo --change=delete --list module.wasm";
 
-/// The command line, with the names of the rules.
-pub fn command<'a>(alloc: Global, names: &'a [&'a str]) -> Result<Command<'a>, AllocError>
-    ensures { IfOk result (λ c. app_of c ≡ command_line names.entry) }
+// The command with the files that are read and written.
+fn with_files<'a>(alloc: Global, command: Command<'a>) -> Result<Command<'a>, AllocError>
+    ensures { IfOk result (λ c. app_of c ≡ with_rules (app_of command.entry) file_rules) }
 {
-    Command::new(alloc, "teddertempo")
-        .version("0.4.0")
-        .about(
-            "Rewrites instructions of a WebAssembly module without changing what it computes, or changes the\n\
-             module so that it stays valid",
-        )
-        .after_help(AFTER_HELP)
-        .arg(input_argument(alloc))?
-        .arg(output_argument(alloc))?
+    command.arg(input_argument(alloc))?.arg(output_argument(alloc))
+}
+
+// The command with what says which rewrites are made.
+fn with_rewrites<'a>(
+    alloc: Global,
+    command: Command<'a>,
+    names: &'a [&'a str],
+) -> Result<Command<'a>, AllocError>
+    ensures { IfOk result (λ c. app_of c ≡ with_rules (app_of command.entry) (rewriting_rules names.entry)) }
+{
+    command
         .next_help_heading("What to rewrite")
         .arg(seed_argument(alloc))?
         .arg(count_argument(alloc))?
@@ -193,7 +197,14 @@ pub fn command<'a>(alloc: Global, names: &'a [&'a str]) -> Result<Command<'a>, A
             "exact",
             "Also rules on floats, vectors and memory, for engines that compute there\n\
              as the standard says",
-        ))?
+        ))
+}
+
+// The command with what says how large the module may be, and how it is changed.
+fn with_changes<'a>(alloc: Global, command: Command<'a>) -> Result<Command<'a>, AllocError>
+    ensures { IfOk result (λ c. app_of c ≡ with_rules (app_of command.entry) changing_rules) }
+{
+    command
         .arg(flag_argument(
             alloc,
             "shrink",
@@ -202,7 +213,14 @@ pub fn command<'a>(alloc: Global, names: &'a [&'a str]) -> Result<Command<'a>, A
         .arg(size_argument(alloc))?
         .arg(change_argument(alloc))?
         .arg(from_argument(alloc))?
-        .arg(to_argument(alloc))?
+        .arg(to_argument(alloc))
+}
+
+// The command with what says what is written.
+fn with_outputs<'a>(alloc: Global, command: Command<'a>) -> Result<Command<'a>, AllocError>
+    ensures { IfOk result (λ c. app_of c ≡ with_rules (app_of command.entry) writing_rules) }
+{
+    command
         .next_help_heading("What to write")
         .arg(flag_argument(
             alloc,
@@ -220,7 +238,14 @@ pub fn command<'a>(alloc: Global, names: &'a [&'a str]) -> Result<Command<'a>, A
             "Lists the basic blocks of the functions instead",
         ))?
         .arg(rules_argument(alloc))?
-        .arg(flag_argument(alloc, "list-changes", "Lists the kinds of changes instead"))?
+        .arg(flag_argument(alloc, "list-changes", "Lists the kinds of changes instead"))
+}
+
+// The command with what says what is told on standard error.
+fn with_reports<'a>(alloc: Global, command: Command<'a>) -> Result<Command<'a>, AllocError>
+    ensures { IfOk result (λ c. app_of c ≡ with_rules (app_of command.entry) reporting_rules) }
+{
+    command
         .next_help_heading("What to report")
         .arg(flag_argument(
             alloc,
@@ -247,4 +272,28 @@ pub fn command<'a>(alloc: Global, names: &'a [&'a str]) -> Result<Command<'a>, A
             "quiet",
             "Writes nothing to standard error but reports, and why the run fails",
         ))
+}
+
+// The command without its arguments.
+fn bare_command<'a>(alloc: Global) -> Command<'a>
+    ensures { app_of result ≡ bare_command }
+{
+    Command::new(alloc, "teddertempo")
+        .version("0.4.0")
+        .about(
+            "Rewrites instructions of a WebAssembly module without changing what it computes, or changes the\n\
+             module so that it stays valid",
+        )
+        .after_help(AFTER_HELP)
+}
+
+/// The command line, with the names of the rules.
+pub fn command<'a>(alloc: Global, names: &'a [&'a str]) -> Result<Command<'a>, AllocError>
+    ensures { IfOk result (λ c. app_of c ≡ command_line names.entry) }
+{
+    let files = with_files(alloc, bare_command(alloc))?;
+    let rewrites = with_rewrites(alloc, files, names)?;
+    let changes = with_changes(alloc, rewrites)?;
+    let outputs = with_outputs(alloc, changes)?;
+    with_reports(alloc, outputs)
 }
