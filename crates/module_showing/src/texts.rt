@@ -76,7 +76,7 @@ fn heap_name(heap: HeapType) -> &'static str {
 }
 
 // Writes a space and the text.
-fn write_behind<W: fmt::Write, T: fmt::Display>(
+fn write_behind<W: fmt::Write, T: fmt::Display + Drop>(
     f: &mut fmt::Formatter<W>,
     text: T,
 ) -> fmt::Result {

@@ -36,9 +36,9 @@ macro_rules! payloads {
             [$($name:ident $place:literal,)*])*]
     ) => {
         match $node {
-            $(Lang::$bare => Payload::Nothing,)*
-            $($(Lang::$leaf($payload) => $said,)*)*
-            $($(Lang::$name $told => $given,)*)*
+            $(Lang::$bare)|* => Payload::Nothing,
+            $($(Lang::$leaf($payload))|* => $said,)*
+            $($(Lang::$name $told)|* => $given,)*
             Lang::Numeric(_) => Payload::Nothing,
             Lang::Simd(node) => node.payload(),
         }
