@@ -33,7 +33,10 @@ fn text_argument<'a>(alloc: Global, name: &'a str, value: &'a str, help: &'a str
     ensures rule { rule_of result ≡ texted name.entry.now }
     ensures local { result.global ≡ false }
 {
-    Arg::new(alloc, name).long(name).value_name(value).help(help)
+    Arg::new(alloc, name)
+        .long(name)
+        .value_name(value)
+        .help(help)
 }
 
 // An option with the name that has a number.
@@ -49,12 +52,7 @@ fn number_argument<'a>(alloc: Global, name: &'a str, value: &'a str, help: &'a s
 }
 
 // An option with the name that has one of the names at each use.
-fn naming_argument<'a>(
-    alloc: Global,
-    name: &'a str,
-    names: &'a [&'a str],
-    help: &'a str,
-) -> Arg<'a>
+fn naming_argument<'a>(alloc: Global, name: &'a str, names: &'a [&'a str], help: &'a str) -> Arg<'a>
     ensures rule { rule_of result ≡ naming name.entry.now names.entry }
     ensures local { result.global ≡ false }
 {
@@ -124,7 +122,9 @@ Examples:
 fn with_files<'a>(alloc: Global, command: Command<'a>) -> Result<Command<'a>, AllocError>
     ensures { IfOk result (λ c. app_of c ≡ with_rules (app_of command.entry) file_rules) }
 {
-    command.arg(input_argument(alloc))?.arg(output_argument(alloc))
+    command
+        .arg(input_argument(alloc))?
+        .arg(output_argument(alloc))
 }
 
 // The command with what says which rewrites are made.
