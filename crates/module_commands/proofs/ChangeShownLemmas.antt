@@ -48,7 +48,8 @@ grown scope from (m ∷ made) to seen none wanted =
     (own ++ more.0, (more.1 ∙ ap (λ text. text ++ more.0) one.1) ∙ append_assoc from.watcher.text.items own more.0, (one.0, more.0, refl, more.2))
 
 -- What is shown of all of them.
-pub are_shown : {P : Type 0} (scope : Scope) (from : StandingOfChanges (ChangeShower P)) (made : List MadeChange) (to : StandingOfChanges (ChangeShower P)) (show : Bool) →
+pub are_shown : {P : Type 0} (scope : Scope) (from : StandingOfChanges (ChangeShower P)) (made : List MadeChange)
+    (to : StandingOfChanges (ChangeShower P)) (show : Bool) →
     SeesEachChange showing scope from made to → to.watcher.failed ≡ false → from.watcher.wanted ≡ show → from.watcher.text.items ≡ [] →
     AreShown show made to.watcher.text.items
 are_shown scope from made to false seen none wanted empty = kept scope from made to seen none wanted ∙ empty

@@ -23,7 +23,7 @@ use wasm_code::OperatorAndByteOffset;
 use wasm_module::Module;
 
 /// A block of the function with an index: the indexes, in the body, of its first operator and of the one behind its last.
-#[derive(Clone, Copy, Debug, PartialEq, Eq)]
+#[derive(Clone, Copy)]
 pub struct BlockLine {
     pub function: usize,
     pub start: usize,

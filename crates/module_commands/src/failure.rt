@@ -68,27 +68,30 @@ impl Failure {
     }
 }
 
+// The message on a failure that holds no reason.
+fn sentence(failure: &Failure) -> &'static str {
+    match failure {
+        Failure::Nothing(_) => "",
+        Failure::Unchanged(_) => "",
+        Failure::Input => "the input can't be read",
+        Failure::TooLong => "the input has more than 1 GiB",
+        Failure::Component =>
+            "BadVersion at 0x4: it is a component, and no core module: take out the modules that it holds",
+        Failure::TextFormat =>
+            "BadMagic at 0x0: it is the text of a module: wat2wasm or wasm-tools parse writes its bytes",
+        Failure::SharedMemory =>
+            "--exact: threads share a memory of the module, and another one may write there: leave it out",
+        Failure::Output => "the output can't be written",
+        Failure::Memory => "no memory is left",
+    }
+}
+
 impl fmt::Display for Failure {
     fn fmt<W: fmt::Write>(&self, f: &mut fmt::Formatter<W>) -> fmt::Result {
         match self {
             Failure::Nothing(reason) => write_reason(f, reason),
             Failure::Unchanged(refusal) => write_refusal(f, refusal),
-            Failure::Input => write!(f, "the input can't be read"),
-            Failure::TooLong => write!(f, "the input has more than 1 GiB"),
-            Failure::Component => write!(
-                f,
-                "BadVersion at 0x4: it is a component, and no core module: take out the modules that it holds"
-            ),
-            Failure::TextFormat => write!(
-                f,
-                "BadMagic at 0x0: it is the text of a module: wat2wasm or wasm-tools parse writes its bytes"
-            ),
-            Failure::SharedMemory => write!(
-                f,
-                "--exact: threads share a memory of the module, and another one may write there: leave it out"
-            ),
-            Failure::Output => write!(f, "the output can't be written"),
-            Failure::Memory => write!(f, "no memory is left"),
+            _ => f.write_str(sentence(self)),
         }
     }
 }

@@ -7,7 +7,7 @@ use wasm_code::{Imm, Instr, Operator};
 use wasm_execution::{Operation, opcode_byte};
 
 /// A family of instructions.
-#[derive(Clone, Copy, Debug, PartialEq, Eq)]
+#[derive(Clone, Copy)]
 pub enum Family {
     /// Those whose operands and results are i32 or i64 alone: constants, operators, comparisons and conversions.
     Integers,

@@ -52,7 +52,7 @@ fn fault_operator(error: &FunctionError) -> Option<OperatorCode>
 }
 
 // A fault as it is told: its name, and where it is.
-#[derive(Clone, Copy, Debug)]
+#[derive(Clone, Copy)]
 struct NamedFault {
     name: &'static str,
     offset: usize,

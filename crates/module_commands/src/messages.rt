@@ -56,7 +56,7 @@ fn write_function_fault<W: fmt::Write>(
 ) -> fmt::Result {
     match error {
         FunctionError::Unknown(e) => write_fault(f, e),
-        FunctionError::UnknownType => write!(f, "UnknownType: the module has no type for it"),
+        FunctionError::UnknownType => f.write_str("UnknownType: the module has no type for it"),
         FunctionError::Locals(e) => write_fault(f, e),
         FunctionError::Body(e) => write_body_fault(f, e),
     }
@@ -66,11 +66,11 @@ fn write_function_fault<W: fmt::Write>(
 pub fn write_reason<W: fmt::Write>(f: &mut fmt::Formatter<W>, reason: &Reason) -> fmt::Result {
     match reason {
         Reason::UnknownImport(e) => {
-            write!(f, "an import isn't known, and so no function's index is: ")?;
+            f.write_str("an import isn't known, and so no function's index is: ")?;
             write_fault(f, e)
         }
         Reason::Unreadable(e) => {
-            write!(f, "no function can be read, the first one for ")?;
+            f.write_str("no function can be read, the first one for ")?;
             write_function_fault(f, e)
         }
         Reason::Refused(MutationError::Read(e)) => write_fault(f, e),

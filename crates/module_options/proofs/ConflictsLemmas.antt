@@ -44,7 +44,8 @@ zipped (Some x) None = refl
 zipped (Some x) (Some y) = refl
 
 -- of the first name
-first_text : (rows : List Row) (names : List (Bor Text)) → option_map (λ n. n.now) (find (λ name. is_given name.now rows) names) ≡ first_given rows (texts names)
+first_text : (rows : List Row) (names : List (Bor Text)) →
+    option_map (λ n. n.now) (find (λ name. is_given name.now rows) names) ≡ first_given rows (texts names)
 first_text rows names = find-map (λ (t : Text). is_given t rows) (λ (n : Bor Text). n.now) names
 
 -- of the first option of each list

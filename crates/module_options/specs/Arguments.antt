@@ -2,7 +2,7 @@
 use Rattle.std.specs.Prelude.{List, [], ◌∷◌, true, codes, Some}
 use Rattle.std.specs.Borrow.{Bor}
 use Rattle.clap.specs.Walk.{Rule, Text}
-use Rattle.clap.specs.Simple.{App, new_rule, new_shape}
+use Rattle.clap.specs.Simple.{App, new_rule, new_shape, with_rule}
 use Rattle.clap.specs.declared.builder.action.ArgAction.TheVariants.{Append, SetTrue}
 use Rattle.clap.specs.declared.builder.value_parser.ValueParser.{ValueParser}
 use Rattle.clap.specs.declared.builder.value_parser.ValueParser.TheVariants.{Names, Unsigned}
@@ -56,6 +56,40 @@ change_rule = record (texted (codes "change")) {
 -- an option `--name` that has one of these names at each use
 abbrev pub naming : (name : Text) → (names : Bor (List (Bor Text))) → Rule
 naming name names = record (valued name (Names names)) { action = Some Append }
+
+-- the files of the modules that are read and written
+abbrev pub file_rules : List Rule
+file_rules = input_rule ∷ output_rule ∷ []
+
+-- which rewrites are made
+abbrev pub rewriting_rules : (names : Bor (List (Bor Text))) → List Rule
+rewriting_rules names =
+    seed_rule ∷ count_rule ∷ valued (codes "function") number ∷ naming (codes "rule") names ∷ naming (codes "not-rule") names
+    ∷ flag (codes "exact") ∷ []
+
+-- how large the module may be, and how it is changed
+abbrev pub changing_rules : List Rule
+changing_rules =
+    flag (codes "shrink") ∷ valued (codes "max-size") number ∷ change_rule ∷ valued (codes "from") number ∷ valued (codes "to") number ∷ []
+
+-- what is written
+abbrev pub writing_rules : List Rule
+writing_rules =
+    flag (codes "strip-debug") ∷ flag (codes "list") ∷ flag (codes "blocks") ∷ rules_rule ∷ flag (codes "list-changes") ∷ []
+
+-- what is told on standard error
+abbrev pub reporting_rules : List Rule
+reporting_rules =
+    flag (codes "stats") ∷ flag (codes "reach") ∷ flag (codes "show") ∷ flag (codes "json") ∷ flag (codes "quiet") ∷ []
+
+-- the command line with these arguments behind its own
+abbrev pub with_rules : App → List Rule → App
+with_rules app [] = app
+with_rules app (rule ∷ rules) = with_rules (with_rule app rule) rules
+
+-- the command line without arguments
+abbrev pub bare_command : App
+bare_command = record { top = record (new_shape (codes "teddertempo")) { has_version = true }; subs = [] }
 
 -- all that the command line takes: the file of the module, options with a value, and flags
 abbrev pub arguments : (names : Bor (List (Bor Text))) → List Rule

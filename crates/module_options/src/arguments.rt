@@ -2,7 +2,8 @@
 ghost use Rattle.std.specs.Prelude.{◌≡◌, codes, false, IfOk};
 ghost use Rattle.clap.specs.Simple.{app_of};
 ghost use Rattle.clap.specs.Walk.{rule_of};
-ghost use Rattle.module_options.specs.Arguments.{change_rule, command_line, count_rule, flag, input_rule, naming, number, output_rule, rules_rule, seed_rule, valued};
+ghost use Rattle.module_options.specs.Arguments.{change_rule, flag, input_rule, naming, number, output_rule, rules_rule, texted, valued};
+ghost use Rattle.module_options.specs.Arguments.{bare_command, changing_rules, command_line, file_rules, reporting_rules, rewriting_rules, with_rules, writing_rules};
 
 use clap::{Arg, ArgAction, Command, value_parser};
 use std::alloc::{AllocError, Global};
@@ -27,71 +28,41 @@ fn output_argument<'a>(alloc: Global) -> Arg<'a>
         .help("The file to write [default: standard output, also for -]")
 }
 
-fn seed_argument<'a>(alloc: Global) -> Arg<'a>
-    ensures rule { rule_of result ≡ seed_rule }
+// An option with the name that has a text.
+fn text_argument<'a>(alloc: Global, name: &'a str, value: &'a str, help: &'a str) -> Arg<'a>
+    ensures rule { rule_of result ≡ texted name.entry.now }
     ensures local { result.global ≡ false }
 {
-    Arg::new(alloc, "seed").long("seed").value_name("N").help(
-        "Seed of the random choices, decimal or hexadecimal (0x1f) [default: 0]",
-    )
+    Arg::new(alloc, name)
+        .long(name)
+        .value_name(value)
+        .help(help)
 }
 
-fn count_argument<'a>(alloc: Global) -> Arg<'a>
-    ensures rule { rule_of result ≡ count_rule }
+// An option with the name that has a number.
+fn number_argument<'a>(alloc: Global, name: &'a str, value: &'a str, help: &'a str) -> Arg<'a>
+    ensures rule { rule_of result ≡ valued name.entry.now number }
     ensures local { result.global ≡ false }
 {
-    Arg::new(alloc, "count").long("count").value_name("K").help(
-        "Number of rewrites or changes, or a share of the operators: 20%, or each\n\
-             (100%) [default: 1; with --shrink until none makes the module smaller]",
-    )
-}
-
-fn function_argument<'a>(alloc: Global) -> Arg<'a>
-    ensures rule { rule_of result ≡ valued (codes "function") number }
-    ensures local { result.global ≡ false }
-{
-    Arg::new(alloc, "function")
-        .long("function")
-        .value_name("N")
+    Arg::new(alloc, name)
+        .long(name)
+        .value_name(value)
         .value_parser(value_parser!(usize))
-        .help("Only the function with this index; imported functions count first")
+        .help(help)
 }
 
-fn rule_argument<'a>(alloc: Global, names: &'a [&'a str]) -> Arg<'a>
-    ensures rule { rule_of result ≡ naming (codes "rule") names.entry }
+// An option with the name that has one of the names at each use.
+fn naming_argument<'a>(alloc: Global, name: &'a str, names: &'a [&'a str], help: &'a str) -> Arg<'a>
+    ensures rule { rule_of result ≡ naming name.entry.now names.entry }
     ensures local { result.global ≡ false }
 {
-    Arg::new(alloc, "rule")
-        .long("rule")
+    Arg::new(alloc, name)
+        .long(name)
         .value_name("NAME")
         .action(ArgAction::Append)
         .value_parser(names)
         .hide_possible_values(true)
-        .help("Only this rule; may be given several times [default: all rules]")
-}
-
-fn other_argument<'a>(alloc: Global, names: &'a [&'a str]) -> Arg<'a>
-    ensures rule { rule_of result ≡ naming (codes "not-rule") names.entry }
-    ensures local { result.global ≡ false }
-{
-    Arg::new(alloc, "not-rule")
-        .long("not-rule")
-        .value_name("NAME")
-        .action(ArgAction::Append)
-        .value_parser(names)
-        .hide_possible_values(true)
-        .help("All rules but this one; may be given several times")
-}
-
-fn size_argument<'a>(alloc: Global) -> Arg<'a>
-    ensures rule { rule_of result ≡ valued (codes "max-size") number }
-    ensures local { result.global ≡ false }
-{
-    Arg::new(alloc, "max-size")
-        .long("max-size")
-        .value_name("BYTES")
-        .value_parser(value_parser!(usize))
-        .help("Discards rewrites and changes that make the module larger than BYTES")
+        .help(help)
 }
 
 fn change_argument<'a>(alloc: Global) -> Arg<'a>
@@ -107,28 +78,6 @@ fn change_argument<'a>(alloc: Global) -> Arg<'a>
             "Changes the module instead: it stays valid, and computes something else;\n\
              the name comes after =, as in --change=delete [default: any]",
         )
-}
-
-fn from_argument<'a>(alloc: Global) -> Arg<'a>
-    ensures rule { rule_of result ≡ valued (codes "from") number }
-    ensures local { result.global ≡ false }
-{
-    Arg::new(alloc, "from")
-        .long("from")
-        .value_name("OPERATOR")
-        .value_parser(value_parser!(usize))
-        .help("First operator to change, with --change=NAME and --function [default: 0]")
-}
-
-fn to_argument<'a>(alloc: Global) -> Arg<'a>
-    ensures rule { rule_of result ≡ valued (codes "to") number }
-    ensures local { result.global ≡ false }
-{
-    Arg::new(alloc, "to")
-        .long("to")
-        .value_name("OPERATOR")
-        .value_parser(value_parser!(usize))
-        .help("Last operator to change [default: the last one of the function]")
 }
 
 // A flag with the name.
@@ -169,40 +118,100 @@ Examples:
   teddertempo --change module.wasm -o changed.wasm --seed 7 --count 3 --show
   teddertempo --change=delete --list module.wasm";
 
-/// The command line, with the names of the rules.
-pub fn command<'a>(alloc: Global, names: &'a [&'a str]) -> Result<Command<'a>, AllocError>
-    ensures { IfOk result (λ c. app_of c ≡ command_line names.entry) }
+// The command with the files that are read and written.
+fn with_files<'a>(alloc: Global, command: Command<'a>) -> Result<Command<'a>, AllocError>
+    ensures { IfOk result (λ c. app_of c ≡ with_rules (app_of command.entry) file_rules) }
 {
-    Command::new(alloc, "teddertempo")
-        .version("0.4.0")
-        .about(
-            "Rewrites instructions of a WebAssembly module without changing what it computes, or changes the\n\
-             module so that it stays valid",
-        )
-        .after_help(AFTER_HELP)
+    command
         .arg(input_argument(alloc))?
-        .arg(output_argument(alloc))?
+        .arg(output_argument(alloc))
+}
+
+// The command with what says which rewrites are made.
+fn with_rewrites<'a>(
+    alloc: Global,
+    command: Command<'a>,
+    names: &'a [&'a str],
+) -> Result<Command<'a>, AllocError>
+    ensures { IfOk result (λ c. app_of c ≡ with_rules (app_of command.entry) (rewriting_rules names.entry)) }
+{
+    command
         .next_help_heading("What to rewrite")
-        .arg(seed_argument(alloc))?
-        .arg(count_argument(alloc))?
-        .arg(function_argument(alloc))?
-        .arg(rule_argument(alloc, names))?
-        .arg(other_argument(alloc, names))?
+        .arg(text_argument(
+            alloc,
+            "seed",
+            "N",
+            "Seed of the random choices, decimal or hexadecimal (0x1f) [default: 0]",
+        ))?
+        .arg(text_argument(
+            alloc,
+            "count",
+            "K",
+            "Number of rewrites or changes, or a share of the operators: 20%, or each\n\
+             (100%) [default: 1; with --shrink until none makes the module smaller]",
+        ))?
+        .arg(number_argument(
+            alloc,
+            "function",
+            "N",
+            "Only the function with this index; imported functions count first",
+        ))?
+        .arg(naming_argument(
+            alloc,
+            "rule",
+            names,
+            "Only this rule; may be given several times [default: all rules]",
+        ))?
+        .arg(naming_argument(
+            alloc,
+            "not-rule",
+            names,
+            "All rules but this one; may be given several times",
+        ))?
         .arg(flag_argument(
             alloc,
             "exact",
             "Also rules on floats, vectors and memory, for engines that compute there\n\
              as the standard says",
-        ))?
+        ))
+}
+
+// The command with what says how large the module may be, and how it is changed.
+fn with_changes<'a>(alloc: Global, command: Command<'a>) -> Result<Command<'a>, AllocError>
+    ensures { IfOk result (λ c. app_of c ≡ with_rules (app_of command.entry) changing_rules) }
+{
+    command
         .arg(flag_argument(
             alloc,
             "shrink",
             "Only rewrites that make the module smaller; without one it is unchanged",
         ))?
-        .arg(size_argument(alloc))?
+        .arg(number_argument(
+            alloc,
+            "max-size",
+            "BYTES",
+            "Discards rewrites and changes that make the module larger than BYTES",
+        ))?
         .arg(change_argument(alloc))?
-        .arg(from_argument(alloc))?
-        .arg(to_argument(alloc))?
+        .arg(number_argument(
+            alloc,
+            "from",
+            "OPERATOR",
+            "First operator to change, with --change=NAME and --function [default: 0]",
+        ))?
+        .arg(number_argument(
+            alloc,
+            "to",
+            "OPERATOR",
+            "Last operator to change [default: the last one of the function]",
+        ))
+}
+
+// The command with what says what is written.
+fn with_outputs<'a>(alloc: Global, command: Command<'a>) -> Result<Command<'a>, AllocError>
+    ensures { IfOk result (λ c. app_of c ≡ with_rules (app_of command.entry) writing_rules) }
+{
+    command
         .next_help_heading("What to write")
         .arg(flag_argument(
             alloc,
@@ -220,7 +229,14 @@ pub fn command<'a>(alloc: Global, names: &'a [&'a str]) -> Result<Command<'a>, A
             "Lists the basic blocks of the functions instead",
         ))?
         .arg(rules_argument(alloc))?
-        .arg(flag_argument(alloc, "list-changes", "Lists the kinds of changes instead"))?
+        .arg(flag_argument(alloc, "list-changes", "Lists the kinds of changes instead"))
+}
+
+// The command with what says what is told on standard error.
+fn with_reports<'a>(alloc: Global, command: Command<'a>) -> Result<Command<'a>, AllocError>
+    ensures { IfOk result (λ c. app_of c ≡ with_rules (app_of command.entry) reporting_rules) }
+{
+    command
         .next_help_heading("What to report")
         .arg(flag_argument(
             alloc,
@@ -247,4 +263,28 @@ pub fn command<'a>(alloc: Global, names: &'a [&'a str]) -> Result<Command<'a>, A
             "quiet",
             "Writes nothing to standard error but reports, and why the run fails",
         ))
+}
+
+// The command without its arguments.
+fn bare_command<'a>(alloc: Global) -> Command<'a>
+    ensures { app_of result ≡ bare_command }
+{
+    Command::new(alloc, "teddertempo")
+        .version("0.4.0")
+        .about(
+            "Rewrites instructions of a WebAssembly module without changing what it computes, or changes the\n\
+             module so that it stays valid",
+        )
+        .after_help(AFTER_HELP)
+}
+
+/// The command line, with the names of the rules.
+pub fn command<'a>(alloc: Global, names: &'a [&'a str]) -> Result<Command<'a>, AllocError>
+    ensures { IfOk result (λ c. app_of c ≡ command_line names.entry) }
+{
+    let files = with_files(alloc, bare_command(alloc))?;
+    let rewrites = with_rewrites(alloc, files, names)?;
+    let changes = with_changes(alloc, rewrites)?;
+    let outputs = with_outputs(alloc, changes)?;
+    with_reports(alloc, outputs)
 }

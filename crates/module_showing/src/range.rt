@@ -14,7 +14,7 @@ pub(crate) struct Drawn<'a> {
 }
 
 /// The operators of two bodies from `start` on, but for the last ones, `behind` of each, which are those behind the operator.
-#[derive(Clone, Copy, Debug, PartialEq, Eq)]
+#[derive(Clone, Copy)]
 pub(crate) struct Range {
     start: usize,
     behind: usize,

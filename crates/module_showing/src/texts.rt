@@ -3,7 +3,7 @@
 use crate::floats::Float;
 use instruction_names::instruction_name;
 use std::fmt;
-use wasm_code::{AbstractHeapType, BlockType, HeapType, Imm, Instr, MemArg, Operator};
+use wasm_code::{AbstractHeapType, BlockType, HeapType, Imm, Instr, MemArg, Operator, ValType};
 
 /// The text of an operator: of an instruction as the text format has it (WebAssembly Core Specification 3.0, Text Format,
 /// Instructions), with the alignment of each memory argument, and numbers of floats in hexadecimal; of any other operator its form here.
@@ -75,26 +75,53 @@ fn heap_name(heap: HeapType) -> &'static str {
     }
 }
 
+// Writes a space and the text.
+fn write_behind<W: fmt::Write, T: fmt::Display + Drop>(
+    f: &mut fmt::Formatter<W>,
+    text: T,
+) -> fmt::Result {
+    write!(f, " {text}")
+}
+
+// Writes two indexes, each behind a space.
+fn write_pair<W: fmt::Write>(f: &mut fmt::Formatter<W>, index: u32, other: u32) -> fmt::Result {
+    write!(f, " {index} {other}")
+}
+
+// Writes the memory argument, and the lane behind a space.
+fn write_lane<W: fmt::Write>(f: &mut fmt::Formatter<W>, memory: MemText, lane: u8) -> fmt::Result {
+    write!(f, "{memory} {lane}")
+}
+
+// Writes the bits of a vector.
+fn write_vector<W: fmt::Write>(f: &mut fmt::Formatter<W>, bits: i128) -> fmt::Result {
+    let (low, high) = halves(bits);
+    write!(f, " i64x2 0x{low:016x} 0x{high:016x}")
+}
+
+// Writes a type of results.
+fn write_result<W: fmt::Write>(f: &mut fmt::Formatter<W>, t: ValType) -> fmt::Result {
+    let name = t.name();
+    write!(f, " (result {name})")
+}
+
 impl fmt::Display for ImmText {
     fn fmt<W: fmt::Write>(&self, f: &mut fmt::Formatter<W>) -> fmt::Result {
         match self.0 {
             Imm::Nothing => Ok(()),
-            Imm::Index(index) => write!(f, " {index}"),
-            Imm::Pair(index, other) => write!(f, " {index} {other}"),
-            Imm::Mem(memory) => write!(f, "{}", MemText(memory)),
-            Imm::MemLane(memory, lane) => write!(f, "{} {lane}", MemText(memory)),
-            Imm::Lane(lane) => write!(f, " {lane}"),
-            Imm::I32(number) => write!(f, " {number}"),
-            Imm::I64(number) => write!(f, " {number}"),
-            Imm::F32(bits) => write!(f, " {}", Float::single(bits)),
-            Imm::F64(bits) => write!(f, " {}", Float::double(bits)),
-            Imm::V128(bits) => {
-                let (low, high) = halves(bits);
-                write!(f, " i64x2 0x{low:016x} 0x{high:016x}")
-            }
-            Imm::Shuffle(lanes) => write!(f, "{}", LanesText(lanes)),
-            Imm::Heap(heap) => write!(f, " {}", heap_name(heap)),
-            Imm::Val(t) => write!(f, " (result {})", t.name()),
+            Imm::Index(index) => write_behind(f, index),
+            Imm::Pair(index, other) => write_pair(f, index, other),
+            Imm::Mem(memory) => fmt::Display::fmt(&MemText(memory), f),
+            Imm::MemLane(memory, lane) => write_lane(f, MemText(memory), lane),
+            Imm::Lane(lane) => write_behind(f, lane),
+            Imm::I32(number) => write_behind(f, number),
+            Imm::I64(number) => write_behind(f, number),
+            Imm::F32(bits) => write_behind(f, Float::single(bits)),
+            Imm::F64(bits) => write_behind(f, Float::double(bits)),
+            Imm::V128(bits) => write_vector(f, bits),
+            Imm::Shuffle(lanes) => fmt::Display::fmt(&LanesText(lanes), f),
+            Imm::Heap(heap) => write_behind(f, heap_name(heap)),
+            Imm::Val(t) => write_result(f, t),
         }
     }
 }
@@ -126,24 +153,43 @@ impl fmt::Display for BlockText {
     fn fmt<W: fmt::Write>(&self, f: &mut fmt::Formatter<W>) -> fmt::Result {
         match self.0 {
             BlockType::Empty => Ok(()),
-            BlockType::Value(t) => write!(f, " (result {})", t.name()),
+            BlockType::Value(t) => write_result(f, t),
             BlockType::FuncType(index) => write!(f, " (type {index})"),
             BlockType::Reference => f.write_str(" (result ref)"),
         }
     }
 }
 
+// Writes the name of an operator that opens a block, and the block's type.
+fn write_opener<W: fmt::Write>(
+    f: &mut fmt::Formatter<W>,
+    name: &'static str,
+    t: BlockType,
+) -> fmt::Result {
+    let block_type = BlockText(t);
+    write!(f, "{name}{block_type}")
+}
+
+// Writes the name of a branch, and its label.
+fn write_branch<W: fmt::Write>(
+    f: &mut fmt::Formatter<W>,
+    name: &'static str,
+    label: u32,
+) -> fmt::Result {
+    write!(f, "{name} {label}")
+}
+
 impl fmt::Display for OperatorText {
     fn fmt<W: fmt::Write>(&self, f: &mut fmt::Formatter<W>) -> fmt::Result {
         match self.0 {
-            Operator::Instr(instr) => write!(f, "{}", InstrText(instr)),
-            Operator::Block(t) => write!(f, "block{}", BlockText(t)),
-            Operator::Loop(t) => write!(f, "loop{}", BlockText(t)),
-            Operator::If(t) => write!(f, "if{}", BlockText(t)),
+            Operator::Instr(instr) => fmt::Display::fmt(&InstrText(instr), f),
+            Operator::Block(t) => write_opener(f, "block", t),
+            Operator::Loop(t) => write_opener(f, "loop", t),
+            Operator::If(t) => write_opener(f, "if", t),
             Operator::Else => f.write_str("else"),
             Operator::End => f.write_str("end"),
-            Operator::Br(label) => write!(f, "br {label}"),
-            Operator::BrIf(label) => write!(f, "br_if {label}"),
+            Operator::Br(label) => write_branch(f, "br", label),
+            Operator::BrIf(label) => write_branch(f, "br_if", label),
             Operator::Unreachable => f.write_str("unreachable"),
             other => write!(f, "{other:?}"),
         }

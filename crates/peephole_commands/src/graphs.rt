@@ -14,7 +14,7 @@ use std::alloc::Global;
 use wasm_types::ModuleInfo;
 
 /// Why a command has no answer.
-#[derive(Clone, Copy, Debug, PartialEq, Eq)]
+#[derive(Clone, Copy)]
 pub enum Refusal {
     /// The block has no graph.
     NoGraph,

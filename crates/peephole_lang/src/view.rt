@@ -36,11 +36,10 @@ macro_rules! payloads {
             [$($name:ident $place:literal,)*])*]
     ) => {
         match $node {
-            $(Lang::$bare => Payload::Nothing,)*
-            $($(Lang::$leaf($payload) => $said,)*)*
-            $($(Lang::$name $told => $given,)*)*
-            Lang::Numeric(_) => Payload::Nothing,
+            $($(Lang::$leaf($payload))|* => $said,)*
+            $($(Lang::$name $told)|* => $given,)*
             Lang::Simd(node) => node.payload(),
+            _ => Payload::Nothing,
         }
     };
 }

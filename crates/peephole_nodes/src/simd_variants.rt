@@ -142,5 +142,17 @@ macro_rules! simd_groups {
     };
 }
 
+// The groups with a payload, for the macro `$use`, behind what it is given.
+macro_rules! simd_payload_groups {
+    ($use:ident $given:tt) => {
+        simd_group! {
+            memory_one => simd_groups {
+                $use $given [] memory_two shuffle_two lane_one lane_two memory_lane_two
+            }
+        }
+    };
+}
+
 pub(crate) use simd_group;
 pub(crate) use simd_groups;
+pub(crate) use simd_payload_groups;

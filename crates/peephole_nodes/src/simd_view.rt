@@ -9,7 +9,7 @@ use crate::id::Id;
 use crate::lending::no_children;
 use crate::payload::Payload;
 use crate::simd::Simd;
-use crate::simd_variants::{simd_group, simd_groups};
+use crate::simd_variants::{simd_group, simd_groups, simd_payload_groups};
 use peephole_payloads::{MemArg, MemArgLane};
 use std::slice;
 
@@ -26,7 +26,8 @@ macro_rules! payloads {
     (($node:expr) $({ $said:tt $payload:expr } { $holds:tt $children:expr, $lent:expr } [$($name:ident $place:literal,)*])*) => {
         match $node {
             Simd::V128(payload) => Payload::V128(*payload),
-            $($(Simd::$name $said => $payload,)*)*
+            $($(Simd::$name $said)|* => $payload,)*
+            _ => Payload::Nothing,
         }
     };
 }
@@ -72,7 +73,7 @@ impl Simd {
     pub fn payload(&self) -> Payload
         ensures { result ≡ simd_payload_of self.now }
     {
-        simd_groups!(payloads(self))
+        simd_payload_groups!(payloads(self))
     }
 
     /// The ids of the children, the first operand first.

@@ -5,23 +5,20 @@ ghost use Rattle.peephole_script.specs.Faults.{line_fault_name, run_error_name};
 
 use peephole_payloads::TermError;
 use std::alloc::{AllocError, AllocFailed};
-use thiserror::Error;
+use std::error::Error;
+use std::fmt;
 use wasm_code::ReadKind;
 
-/// Why the run ended without an answer.
-#[derive(Clone, Copy, Debug, PartialEq, Eq, Error)]
+/// Why the run ended without an answer. It displays as its name.
+#[derive(Clone, Copy, Debug, PartialEq, Eq)]
 pub enum RunError {
     /// No memory was left for the input.
-    #[error("Memory")]
     Memory,
     /// The reader failed.
-    #[error("Input")]
     Input,
     /// The input has more bytes than are read.
-    #[error("TooLong")]
     TooLong,
     /// The writer failed.
-    #[error("Output")]
     Output,
 }
 
@@ -39,44 +36,40 @@ impl RunError {
     }
 }
 
-/// Why a line is faulty.
-#[derive(Clone, Copy, Debug, PartialEq, Eq, Error)]
+impl fmt::Display for RunError {
+    fn fmt<W: fmt::Write>(&self, f: &mut fmt::Formatter<W>) -> fmt::Result {
+        f.write_str(self.name())
+    }
+}
+
+impl Error for RunError {}
+
+/// Why a line is faulty. It displays as its name.
+#[derive(Clone, Copy, Debug, PartialEq, Eq)]
 pub enum Fault {
     /// A byte of the line is neither a space nor a printable character of ASCII.
-    #[error("Text")]
     Text,
     /// The first word is no command's name.
-    #[error("UnknownCommand")]
     UnknownCommand,
     /// The words behind the name are not what the command takes.
-    #[error("BadArgument")]
     BadArgument,
     /// There is no body yet.
-    #[error("NoBody")]
     NoBody,
     /// The body has no operator of that number.
-    #[error("OutOfRange")]
     OutOfRange,
     /// There is no point yet, or no block at it.
-    #[error("NoBlock")]
     NoBlock,
     /// The bytes are no body.
-    #[error("{0}")]
     Read(ReadKind),
     /// No earlier node has that number.
-    #[error("BadChild")]
     BadChild,
     /// The text with these children is no node.
-    #[error("{0}")]
     Term(TermError),
     /// The node cannot be written.
-    #[error("Unwritable")]
     Unwritable,
     /// The node's number passes 32 bits.
-    #[error("TooLarge")]
     TooLarge,
     /// No memory was left for the line.
-    #[error("Memory")]
     Memory,
 }
 
@@ -101,6 +94,14 @@ impl Fault {
         }
     }
 }
+
+impl fmt::Display for Fault {
+    fn fmt<W: fmt::Write>(&self, f: &mut fmt::Formatter<W>) -> fmt::Result {
+        f.write_str(self.name())
+    }
+}
+
+impl Error for Fault {}
 
 impl From<AllocError> for Fault {
     ghost use Rattle.std.specs.Prelude.{◌≡◌};

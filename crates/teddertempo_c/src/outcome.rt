@@ -7,7 +7,7 @@ use module_rewrites::{MutationError, Reason};
 use wasm_module::{ModuleError, ModuleFault, WriteError};
 
 /// What a call has done, or why it has done nothing. The header has a constant for each.
-#[derive(Clone, Copy, Debug, PartialEq, Eq)]
+#[derive(Clone, Copy)]
 pub enum Outcome {
     /// The module is rewritten or changed, or its sites are listed.
     Done,
@@ -49,7 +49,7 @@ impl Outcome {
 }
 
 /// Why nothing is done, and where the module is at fault.
-#[derive(Clone, Copy, Debug, PartialEq, Eq)]
+#[derive(Clone, Copy)]
 pub struct Refusal {
     pub outcome: Outcome,
     pub offset: usize,
