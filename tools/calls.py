@@ -1,6 +1,6 @@
 #!/usr/bin/env python3
 """Compares the public calls with those of another commit: each call, clause and type of that commit that isn't there any more, or that has
-another text, is printed, and the status is 1. White space and comments don't count, nor in which file of its crate a call is.
+another text, is printed, and the status is 1. White space, comments and attributes don't count, nor in which file of its crate a call is.
 
 Usage: calls.py COMMIT, at the top of the repository. Crates of tests and of promises are left out, as are test modules.
 """
@@ -19,7 +19,7 @@ Key = tuple[str, str, str]
 
 LEFT_OUT = re.compile(r"_tests$|_promises$|^peephole_test_support$|^case_files$")
 
-COMMENTS = re.compile(r"//[^\n]*")
+NOT_COUNTED = re.compile(r"//[^\n]*|#!?\[[^\]]*\]")
 ITEM = re.compile(
     r"(?:^|(?<=[\n;{}\]]))\s*(?:(pub )?(?:const )?(?:unsafe )?fn (\w+)|(pub )?(struct|enum) (\w+)|(pub )?(trait) (\w+)|(impl)\b)"
 )
@@ -124,7 +124,7 @@ def calls_of(sources: Iterator[tuple[str, str]]) -> collections.Counter[Key]:
     for crate, text in sources:
         if LEFT_OUT.search(crate) or "#[test]" in text:
             continue
-        for name, part in items_of(COMMENTS.sub("", text), "", False):
+        for name, part in items_of(NOT_COUNTED.sub("", text), "", False):
             calls[crate, name, part] += 1
     return calls
 
