@@ -4,8 +4,8 @@
 //! those of the call refuse too, and a wrong body is tried without the proofs of `body_rewrites`.
 //!
 //! To add one: write the call here, if it isn't, with its clauses word by word; then a wrong body as an edit in `must-fail`, which says
-//! first on what it goes wrong, and how (`<then>` stands for its next line); and for each clause that it breaks an answer in `proofs` that
-//! only searches, so that the refusal comes at once.
+//! first on what it goes wrong, and how; and for each clause that it breaks an answer in `proofs` that only searches, so that the refusal
+//! comes at once. Of a body of several lines each one replaces the mark at the end of the line before it.
 #![tactic(auto)]
 
 ghost use Rattle.std.specs.Prelude.{◌≡◌, ◌<◌, ◌≤◌, [], length, IfNone, IfOk, IfSome, OnErr};
