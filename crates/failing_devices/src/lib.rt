@@ -1,6 +1,6 @@
 //! Readers and writers that fail, for the tests of what reads and writes.
 //!
-//! Tests: by its use in `teddertempo` and `peephole_run`.
+//! Tests: by its use in `teddertempo` and `peephole_tests`.
 #![tactic(auto)]
 
 use std::io;

@@ -1,6 +1,6 @@
 //! Blocks of a body as forests and graphs, and terms laid out.
 //!
-//! Tests: `peephole_tests` (`graphs`, `deep`, `layouts`).
+//! Tests: `peephole_tests` (`blocks`, `graphs`, `layouts`).
 #![tactic(auto)]
 
 mod block;

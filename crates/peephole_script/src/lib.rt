@@ -1,6 +1,6 @@
 //! What a script says: its lines, words and numbers, what they declare of a module, and why a line is faulty.
 //!
-//! Tests: `reading_tests::script`; whole scripts in `peephole_run`.
+//! Tests: `reading_tests::script`; whole scripts in `peephole_tests`.
 #![tactic(auto)]
 
 mod arguments;

@@ -1,6 +1,6 @@
 //! Bodies written with a term in the place of a tree; and all that the crates below show, under one roof.
 //!
-//! Tests: `peephole_tests` (`terms`, `writing`, `expansions`, `running`, `rereading`).
+//! Tests: `peephole_tests` (`writing`, `expansions`, `running`, `rereading`).
 #![tactic(auto)]
 
 mod encoder;
