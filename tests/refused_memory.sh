@@ -30,8 +30,8 @@ for source in tests/refused_memory/*.rt.in; do
 done
 # What these sources use.
 libraries="body_changes body_rewrites body_splices case_files device_tally given_words module_changes module_rewrites mutate_base"
-libraries="$libraries peephole_commands peephole_examples peephole_lang peephole_terms rand rand_core rewrite_rules wasm_code wasm_execution"
-libraries="$libraries wasm_module wasm_types"
+libraries="$libraries peephole_commands peephole_examples peephole_lang peephole_terms rand rand_core rewrite_rules wasm_code"
+libraries="$libraries wasm_execution wasm_module wasm_types"
 { cat crates.txt; echo "refused_memory: $libraries"; } > "$work/crates.txt"
 
 # A line for each case, from what `rt try` prints of it: the case, how it ended, the requests for memory, what it printed.

@@ -1,6 +1,6 @@
 //! The commands of the program: lines are read and answered one by one.
 //!
-//! Tests: `peephole_run`, by whole scripts.
+//! Tests: `peephole_tests` (`scripts`, `results`, `faulty_lines`, `devices`), by whole scripts.
 #![tactic(auto)]
 
 mod arguments;

@@ -64,7 +64,12 @@ fn graph_of(alloc: Global, case: &str) -> Result<Option<MiniDFG>, Refusal> {
     let operators = operators_of(alloc, &bytes)?;
     let info = match field_of(case, "function").split_once("->") {
         Some((params, returns)) => {
-            info_with(alloc, &types_of(alloc, params)?, &types_of(alloc, returns)?, false)?
+            info_with(
+                alloc,
+                &types_of(alloc, params)?,
+                &types_of(alloc, returns)?,
+                false,
+            )?
         }
         None => ModuleInfo::new(alloc, &[]),
     };
@@ -91,8 +96,14 @@ fn push_entry(text: &mut String, graph: &MiniDFG, index: usize) -> Result<(), Re
     let parent = graph.parents()[index];
     let (count, flag) = (graph.subtree_len(index), graph.is_subtree_consistent(index));
     let own = graph.map().get(at);
-    write!(text, "\n{node} {children:?} at {at}, color {color}, parent {parent:?}")?;
-    write!(text, ", tree of {count}, one color {flag}, own entry {own:?}, copied {same}")?;
+    write!(
+        text,
+        "\n{node} {children:?} at {at}, color {color}, parent {parent:?}"
+    )?;
+    write!(
+        text,
+        ", tree of {count}, one color {flag}, own entry {own:?}, copied {same}"
+    )?;
     Ok(())
 }
 
@@ -144,7 +155,9 @@ fn sizes(alloc: Global, graph: &MiniDFG, case: &str) -> Result<String, Refusal> 
     }
     let tree = graph.subtree_len(count - 1);
     let (order, flag) = (graph.keeps_order(), graph.is_subtree_consistent_from_root());
-    let mut text = format!(in alloc; "entries {count}, last tree of {tree}, in order {order}, of one color {flag}")?;
+    let mut text = format!(in alloc;
+        "entries {count}, last tree of {tree}, in order {order}, of one color {flag}"
+    )?;
     let expr = graph.get_expr(alloc, at)?;
     if let Some(root) = expr.as_ref().last() {
         let (laid, children) = (expr.len(), root.children());

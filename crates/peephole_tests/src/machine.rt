@@ -55,7 +55,12 @@ fn constant(imm: Imm) -> Result<u64, &'static str> {
 }
 
 // The number that so many bytes of a memory are, the lowest one first, after they are set to those of a number if there is one.
-fn access(memory: &mut [u8], place: u64, count: u64, set: Option<u64>) -> Result<u64, &'static str> {
+fn access(
+    memory: &mut [u8],
+    place: u64,
+    count: u64,
+    set: Option<u64>,
+) -> Result<u64, &'static str> {
     if (memory.len() as u64) < place.saturating_add(count) {
         return Err("OutOfBounds");
     }
@@ -153,7 +158,12 @@ impl Machine<'_> {
             _ => match (byte_count(opcode), instr.imm()) {
                 (Some(count), Imm::Mem(arg)) => {
                     let stored = (opcode >= 0x36).then_some(b);
-                    access(&mut self.memory, a.saturating_add(arg.offset), count, stored)
+                    access(
+                        &mut self.memory,
+                        a.saturating_add(arg.offset),
+                        count,
+                        stored,
+                    )
                 }
                 _ => computed(opcode, a, b),
             },
@@ -167,7 +177,9 @@ fn values_in(alloc: Global, case: &str, name: &str) -> Result<Vec<Value>, Refusa
     for word in field_of(case, name).split_whitespace() {
         let (name, digits) = word.split_once(':').ok_or(Refusal::Unreadable)?;
         let tpe = PrimitiveTypeInfo::from_name(name).ok_or(Refusal::Unreadable)?;
-        let bits = u64::from_str_radix(digits, 16).ok().ok_or(Refusal::Unreadable)?;
+        let bits = u64::from_str_radix(digits, 16)
+            .ok()
+            .ok_or(Refusal::Unreadable)?;
         values.push(Value { tpe, bits })?;
     }
     Ok(values)

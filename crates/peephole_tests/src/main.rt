@@ -18,7 +18,8 @@ use std::io;
 use std::process::ExitCode;
 
 // The files of cases.
-const FAMILIES: &str = "blocks graphs layouts writing expansions replacements rereading types languages
+const FAMILIES: &str =
+    "blocks graphs layouts writing expansions replacements rereading types languages
     scripts results faulty_lines devices machine running";
 
 /// The calls that the cases name.

@@ -27,7 +27,12 @@ fn compared(comparison: u8, (x, y): (i64, i64), (a, b): (u64, u64)) -> bool {
 }
 
 // A quotient or a remainder.
-fn divided(opcode: u8, wide: bool, (x, y): (i64, i64), (a, b): (u64, u64)) -> Result<u64, &'static str> {
+fn divided(
+    opcode: u8,
+    wide: bool,
+    (x, y): (i64, i64),
+    (a, b): (u64, u64),
+) -> Result<u64, &'static str> {
     let answer = match opcode {
         0x6d if !wide && y == -1 && a == 0x8000_0000 => None, // div_s
         0x6d => x.checked_div(y).map(|n| n.cast_unsigned()),

@@ -76,11 +76,7 @@ pub fn nodes_text<L: Language>(alloc: Global, expr: &RecExpr<L>) -> Result<Strin
 }
 
 // The tree at a node of an expression.
-fn tree_at<L: Language>(
-    alloc: Global,
-    expr: &RecExpr<L>,
-    case: &str,
-) -> Result<String, Refusal> {
+fn tree_at<L: Language>(alloc: Global, expr: &RecExpr<L>, case: &str) -> Result<String, Refusal> {
     let root = number_in(case, "root")?;
     if root as usize >= expr.len() {
         return Err(Refusal::Unreadable);

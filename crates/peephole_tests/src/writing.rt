@@ -9,8 +9,8 @@ use crate::parts::{Refusal, bytes_in, field_of, number_in, types_of};
 use crate::terms::writable_term;
 use peephole_examples::{ReplaceError, replace};
 use peephole_terms::{
-    DFGBuilder, Encoder, Error, Function, Lang, MiniDFG, ModuleInfo, OperatorAndByteOffset, RecExpr,
-    ResourceRequest, WasmMutate, Words, expr2wasm,
+    DFGBuilder, Encoder, Error, Function, Lang, MiniDFG, ModuleInfo, OperatorAndByteOffset,
+    RecExpr, ResourceRequest, WasmMutate, Words, expr2wasm,
 };
 use rand_core::Rng;
 use std::alloc::{AllocError, Global};
