@@ -1,4 +1,5 @@
 //! Modules read and written, rewritten and changed.
+ghost use Rattle.std.specs.Prelude.{◌<◌, ◌≤◌};
 
 use crate::modules::fields::{Fields, lines_of};
 use anyhow::{Result, bail};
@@ -111,7 +112,9 @@ pub(crate) fn twice(alloc: Global, fields: &mut Fields<'_>) -> Result<String> {
 }
 
 /// The scope of these changes, in a module of 100 bytes at most.
-fn scope_of<'a>(changes: &'a [Change]) -> ChangeScope<'a> {
+fn scope_of<'a>(changes: &'a [Change]) -> ChangeScope<'a>
+    ensures { (0 < result.most) × (result.most ≤ 1000) }
+{
     ChangeScope {
         changes,
         function: None,
