@@ -23,7 +23,7 @@ pub fn answer(alloc: Global, fields: &[&str]) -> Text {
     }
 }
 
-/// The row of an opcode: its one byte, or the number behind its first byte.
+/// The row of an opcode: its one byte, or the number after its first byte.
 fn row(alloc: Global, first: &str, number: &str) -> Text {
     let Ok(number) = number.parse::<u32>() else {
         return unreadable(alloc);

@@ -18,7 +18,7 @@ macro_rules! named {
     };
 }
 
-/// Answers how the error of that kind at that place is displayed, and its name, or what a type's name stands for.
+/// Answers how the error of that kind at that place is displayed, and its name, or what type has a name.
 pub fn answer(alloc: Global, fields: &[&str]) -> Text {
     let second = field(fields, 1);
     let place = second.parse::<usize>().unwrap_or(usize::MAX);

@@ -11,10 +11,10 @@ use wasm_lists::{
 use wasm_sections::ModuleError;
 use wasm_types::PrimitiveTypeInfo;
 
-/// What locals stand behind.
+/// What comes before the locals.
 const PARAMETERS: [PrimitiveTypeInfo; 1] = [PrimitiveTypeInfo::I32];
 
-/// Answers what is read of a list that begins at an offset, or of the locals behind a parameter of the type i32.
+/// Answers what is read of a list that begins at an offset, or of the locals after a parameter of the type i32.
 pub fn answer(alloc: Global, fields: &[&str]) -> Text {
     let contents = bytes_of(alloc, field(fields, 2))?;
     let Ok(start) = field(fields, 1).parse::<u16>() else {
@@ -60,7 +60,7 @@ fn shown_items<T: Debug + Drop>(alloc: Global, answer: Result<Known<T>, ModuleEr
     }
 }
 
-/// The types, one group behind another, or how many groups are known of how many, and where and why the next one isn't.
+/// The types, one group after another, or how many groups are known of how many, and where and why the next one isn't.
 fn shown_types(alloc: Global, answer: Result<Known<TypeGroup>, ModuleError>) -> Text {
     let known = match answer {
         Ok(known) if known.unknown.is_none() => known,

@@ -8,7 +8,7 @@ use std::alloc::{AllocError, Global};
 use std::hash::{DefaultHasher, Hash, Hasher};
 use wasm_code::{Instr, Operator, read_body};
 
-/// Answers calls on nodes, which are told by their texts and the numbers of their children.
+/// Answers calls on nodes, which are given by their texts and the numbers of their children.
 pub fn answer(alloc: Global, fields: &[&str]) -> Text {
     let (call, first, second) = (field(fields, 0), field(fields, 1), field(fields, 2));
     match call {
@@ -49,7 +49,7 @@ fn instr_of(alloc: Global, bytes: &[u8]) -> Option<Instr> {
     last
 }
 
-/// The numbers of the children, each behind a space.
+/// The numbers of the children, each after a space.
 fn children_of(alloc: Global, node: &Lang) -> Text {
     let mut text = String::new(alloc);
     for child in node.children() {
@@ -96,7 +96,7 @@ fn alike(alloc: Global, node: &Lang, other: &Lang) -> Text {
     format!(in alloc; "{order}, {matches} {back}, {hashes}")
 }
 
-/// All that is told of one node, of its copies, or of its children, each of which becomes the one ten places further.
+/// What the calls answer on one node, on its copies, or on its children, each of which becomes the one ten places further.
 fn told(alloc: Global, call: &str, mut node: Lang) -> Text {
     let copy = node.clone()?;
     match call {

@@ -29,7 +29,7 @@ pub fn answer(alloc: Global, fields: &[&str]) -> Text {
     }
 }
 
-/// The id that a byte stands for, which is written in decimal digits.
+/// The id that a byte means, which is written in decimal digits.
 fn id_of(text: &str) -> Option<SectionId> {
     SectionId::from_byte(text.parse::<u8>().ok()?)
 }

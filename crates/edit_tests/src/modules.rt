@@ -14,7 +14,7 @@ use fields::{Fields, lines_of};
 use std::alloc::{AllocError, Global};
 use std::io;
 
-/// The calls that cases name. Each function says what fields it wants, and what it answers.
+/// The calls that cases name. Each function says what fields it takes, and what it answers.
 #[derive(Clone, Copy)]
 struct Calls;
 
@@ -75,7 +75,7 @@ impl Answers for Calls {
     }
 }
 
-/// Judges each file of these, and tells whether each case is answered as expected.
+/// Judges each file of these; whether each case is answered as expected.
 pub fn judge_all(rt: &HostRuntime) -> io::Result<bool> {
     let mut all_right = true;
     for family in FAMILIES {

@@ -1,8 +1,8 @@
 //! Tests of `rewrite_rules` and `body_rewrites` by cases worked by hand: the calls on rows of the table, and their texts; what each rule
 //! makes of bodies, and where it makes nothing; every rewrite of a body, and what is chosen.
 //!
-//! A case begins with the call that is tried. Of a call on a body the other fields are a scene (see `scene`), a rule or what stands for
-//! one, a body, and what more the call takes. A body is a text of `body_notation`, without its `end`, or its bytes behind `0x`.
+//! A case begins with the call that is tried. Of a call on a body the other fields are a scene (see `scene`), a rule or what is given for
+//! one, a body, and what more the call takes. A body is a text of `body_notation`, without its `end`, or its bytes after `0x`.
 
 mod body_calls;
 mod coverage;

@@ -77,12 +77,12 @@ abbrev pub writing_rules : List Rule
 writing_rules =
     flag (codes "strip-debug") ∷ flag (codes "list") ∷ flag (codes "blocks") ∷ rules_rule ∷ flag (codes "list-changes") ∷ []
 
--- what is told on standard error
+-- what is reported on standard error
 abbrev pub reporting_rules : List Rule
 reporting_rules =
     flag (codes "stats") ∷ flag (codes "reach") ∷ flag (codes "show") ∷ flag (codes "json") ∷ flag (codes "quiet") ∷ []
 
--- the command line with these arguments behind its own
+-- the command line with these arguments after its own
 abbrev pub with_rules : App → List Rule → App
 with_rules app [] = app
 with_rules app (rule ∷ rules) = with_rules (with_rule app rule) rules

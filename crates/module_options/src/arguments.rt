@@ -133,7 +133,8 @@ fn with_rewrites<'a>(
     command: Command<'a>,
     names: &'a [&'a str],
 ) -> Result<Command<'a>, AllocError>
-    ensures { IfOk result (λ c. app_of c ≡ with_rules (app_of command.entry) (rewriting_rules names.entry)) }
+    ensures { IfOk result (λ c.
+        app_of c ≡ with_rules (app_of command.entry) (rewriting_rules names.entry)) }
 {
     command
         .next_help_heading("What to rewrite")
@@ -232,7 +233,7 @@ fn with_outputs<'a>(alloc: Global, command: Command<'a>) -> Result<Command<'a>, 
         .arg(flag_argument(alloc, "list-changes", "Lists the kinds of changes instead"))
 }
 
-// The command with what says what is told on standard error.
+// The command with what says what is reported on standard error.
 fn with_reports<'a>(alloc: Global, command: Command<'a>) -> Result<Command<'a>, AllocError>
     ensures { IfOk result (λ c. app_of c ≡ with_rules (app_of command.entry) reporting_rules) }
 {

@@ -58,7 +58,7 @@ fn of_body(alloc: Global, call: &str, case: &str) -> Result<String, Refusal> {
 }
 
 // The graph of the block that ends with the operator `last` of a case's body, if the block has one, in a module whose function 0 has the
-// type that the case tells, `function i32 -> i64`, or has none where it tells none.
+// type that the case gives, `function i32 -> i64`, or has none if it gives none.
 fn graph_of(alloc: Global, case: &str) -> Result<Option<MiniDFG>, Refusal> {
     let bytes = bytes_in(alloc, case, "body")?;
     let operators = operators_of(alloc, &bytes)?;

@@ -1,5 +1,5 @@
 //! A plain machine: it runs instructions on i32 and i64, some of those on floats and on a memory, and calls of one function outside.
-//! Operands and results have the types that `instruction_types` tells; what is computed is told here and in `numbers`, by opcodes
+//! Operands and results have the types that `instruction_types` gives; what is computed is here and in `numbers`, by opcodes
 //! alone, as in the WebAssembly Core Specification 3.0, Execution, Instructions.
 
 use crate::graphs::operators_of;
@@ -17,7 +17,7 @@ struct Value {
     bits: u64,
 }
 
-// The module, the stack, whose top stands last, the types and values of variables, a memory, and the sum of what the function
+// The module, the stack, whose top is last, the types and values of variables, a memory, and the sum of what the function
 // outside was called on.
 #[derive(Drop)]
 struct Machine<'a> {

@@ -1,4 +1,4 @@
-//! The parts of an input, the name of a call and behind it fields, each with its name, `write | body 410b | last 0`; and the texts of
+//! The parts of an input, the name of a call and after it fields, each with its name, `write | body 410b | last 0`; and the texts of
 //! answers.
 
 use case_files::bytes_of;
@@ -87,7 +87,7 @@ pub fn info_with(
     Ok(info)
 }
 
-/// The text, in which a part between tildes stands as often as it says, `20 00 ~45*3~ 0b`.
+/// The text, in which a part between tildes is repeated as often as it says, `20 00 ~45*3~ 0b`.
 pub fn spread(alloc: Global, text: &str) -> Result<String, AllocError> {
     let mut whole = String::new(alloc);
     for part in text.split('~') {
@@ -114,7 +114,7 @@ fn checksum(text: &str) -> u64 {
     sum
 }
 
-/// The text of an answer: a long one is told by the number of its bytes and a checksum.
+/// The text of an answer: a long one becomes the number of its bytes and a checksum.
 pub fn told(alloc: Global, answer: Result<String, Refusal>) -> Result<String, AllocError> {
     match answer {
         Ok(text) if text.len() > 4000 => {

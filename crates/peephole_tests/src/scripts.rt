@@ -49,7 +49,7 @@ fn of_script(alloc: Global, script: &str) -> Result<String, Refusal> {
     }
 }
 
-// How a run ends whose reader fails behind two lines. What it wrote before would fail too.
+// How a run ends whose reader fails after two lines. What it wrote before would fail too.
 fn of_reader(alloc: Global) -> Result<String, Refusal> {
     let mut input = Tally::new(FailingReader::new(b"body 0b\nat 0\n"));
     let mut output = Tally::new(FailingWriter::refusing(0));

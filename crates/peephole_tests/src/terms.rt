@@ -1,4 +1,4 @@
-//! Terms, told by their nodes: the text of each and the places of its children, `i32.const.1; i32.const.2; i32.add 0 1`; and a second
+//! Terms, given by their nodes: the text of each and the places of its children, `i32.const.1; i32.const.2; i32.add 0 1`; and a second
 //! kind of nodes, through the trait alone.
 
 ghost use Rattle.std.specs.Prelude.{◌≡◌, ◌<◌, All, IfOk, length, true};
@@ -12,7 +12,7 @@ use std::alloc::Global;
 use std::cell::Cell;
 use std::fmt::Write;
 
-/// The node that a text tells.
+/// The node of a text.
 pub fn node_of<L: Language>(alloc: Global, told: &str) -> Result<L, Refusal> {
     let (name, ids) = told.split_once(' ').unwrap_or((told, ""));
     let mut children = Vec::new(alloc);
@@ -91,7 +91,7 @@ fn copied(alloc: Global, node: &Arith) -> Result<String, Refusal> {
     Ok(format!(in alloc; "{copy}, matches {matches}")?)
 }
 
-// The children of a node, of which the first is replaced, and whether it matches another node.
+// The children of a node, with the first one replaced, and whether it matches another node.
 fn first_set(alloc: Global, mut node: Arith, case: &str) -> Result<String, Refusal> {
     let other: Arith = node_of(alloc, field_of(case, "other"))?;
     set_first(&mut node, Id(number_in(case, "first")?));

@@ -16,7 +16,7 @@ use rand_core::Rng;
 use std::alloc::{AllocError, Global};
 use std::fmt::Write;
 
-// A configuration of a module with the globals, and a generator that gives the words, that a case tells.
+// A configuration of a module with the globals, and a generator that gives the words, as a case has them.
 fn config_of<'a>(
     alloc: Global,
     bytes: &'a [u8],
@@ -64,7 +64,7 @@ fn outcome(
     Ok(text)
 }
 
-// The term that a case tells, or the tree of the insertion point where it tells none.
+// The term of a case, or the tree of the insertion point if it has none.
 fn term_at(
     alloc: Global,
     graph: &MiniDFG,

@@ -30,7 +30,7 @@ pub(crate) fn units(alloc: Global, fields: &mut Fields<'_>) -> Result<String> {
 }
 
 /// `chosen`, changes, a body and words: the change that these choose, its operator, where its code begins, and the code. Or `none`. What
-/// may be copied is the unit of the operator that the third word names. With a range behind these: the last operator in it that the first
+/// may be copied is the unit of the operator that the third word names. With a range after these: the last operator in it that the first
 /// change changes.
 pub(crate) fn chosen(alloc: Global, fields: &mut Fields<'_>) -> Result<String> {
     let changes = fields.changes()?;
@@ -78,7 +78,7 @@ pub(crate) fn types(alloc: Global, fields: &mut Fields<'_>) -> Result<String> {
     Ok(format!(in alloc; "{types:?}")?)
 }
 
-/// The operators of the body behind the first byte.
+/// The operators of the body after the first byte.
 fn operators_of(alloc: Global, bytes: &[u8]) -> Result<Vec<OperatorAndByteOffset>>
     ensures { IfOk result (λ operators. IsBodyIn bytes.now operators.items) }
 {

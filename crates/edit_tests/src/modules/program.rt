@@ -23,7 +23,7 @@ impl Progress for Uncounted {
     fn count(&mut self) {}
 }
 
-/// The options of the words, between which the separator stands.
+/// The options of the words, which the separator divides.
 fn options(alloc: Global, line: &str, separator: char) -> Result<Options, clap::Error> {
     let mut words: Vec<&str> = Vec::new(alloc);
     words.push("teddertempo")?;
@@ -127,7 +127,7 @@ fn ending_text(alloc: Global, ended: Result<Ending, Failure>) -> Result<String> 
     }
 }
 
-/// `run`, words and a module: how the run ends; what it writes, a module in hexadecimal digits or lines; behind `reported:` what it
+/// `run`, words and a module: how the run ends; what it writes, a module in hexadecimal digits or lines; after `reported:` what it
 /// reports; and `end`.
 pub(crate) fn run_whole(alloc: Global, fields: &mut Fields<'_>) -> Result<String> {
     let options = next_options(alloc, fields)?;
@@ -145,7 +145,7 @@ pub(crate) fn run_whole(alloc: Global, fields: &mut Fields<'_>) -> Result<String
     Ok(format!(in alloc; "{ending}\n{lines}reported:\n{notes}end")?)
 }
 
-/// `unread`, words, and a number: how a run ends whose input fails behind a module, whether that was seen, how many bytes are reported,
+/// `unread`, words, and a number: how a run ends whose input fails after a module, whether that was seen, how many bytes are reported,
 /// and at most so many lines of what is written.
 pub(crate) fn run_unread(alloc: Global, fields: &mut Fields<'_>) -> Result<String> {
     let options = next_options(alloc, fields)?;

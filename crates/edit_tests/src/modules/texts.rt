@@ -13,7 +13,7 @@ use std::str;
 use wasm_code::read_code;
 use wasm_execution::IntegerType;
 
-/// The bytes as a text, and behind it `end`.
+/// The bytes as a text, and `end` after it.
 fn ended(alloc: Global, bytes: &[u8]) -> Result<String> {
     Ok(format!(in alloc; "{}end", str::from_utf8(bytes)?)?)
 }

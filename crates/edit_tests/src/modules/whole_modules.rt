@@ -48,7 +48,7 @@ fn rewrite<R: Rng>(
     rewrite_module(alloc, bytes, generator, scope, count, &mut unwatched)
 }
 
-/// The rewrites that the generator chooses, by further fields: whether the module is told whole, or its size, the rules, a function or
+/// The rewrites that the generator chooses, by further fields: whether the whole module is asked for or its size, the rules, a function or
 /// `any`, the most bytes, how many rewrites, and a module. Told are also the functions that were rewritten, and why no more were.
 fn rewritten<R: Rng>(alloc: Global, fields: &mut Fields<'_>, generator: &mut R) -> Result<String> {
     let is_whole = fields.text() == "whole";
@@ -69,12 +69,12 @@ fn rewritten<R: Rng>(alloc: Global, fields: &mut Fields<'_>, generator: &mut R) 
     let stopped = module.stopped;
     let made = module.made.iter().map(|made| made.function);
     let functions: Vec<usize> = made.collect(alloc)?;
-    let told = if is_whole {
+    let shown = if is_whole {
         hex::encode(alloc, module.bytes)?
     } else {
         format!(in alloc; "{} bytes", module.bytes.len())?
     };
-    Ok(format!(in alloc; "{told} {functions:?} {stopped:?}")?)
+    Ok(format!(in alloc; "{shown} {functions:?} {stopped:?}")?)
 }
 
 /// `seed`, and a number: rewrites by a generator of that seed.

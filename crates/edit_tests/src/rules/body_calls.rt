@@ -16,7 +16,7 @@ use std::alloc::Global;
 use wasm_code::{Function, OperatorAndByteOffset, read_body};
 use wasm_execution::IntegerType;
 
-/// What a rule draws where no word is told.
+/// What a rule draws if no word is given.
 const DRAWN: u64 = 4294967303;
 
 /// What is asked of a body: a call, what it is asked with, and whether the body is a text, so that new ones are printed as texts too.
@@ -26,7 +26,7 @@ pub struct Asked<'a> {
     /// A rule, a row, or the rules that may be used.
     pub with: &'a str,
     pub is_text: bool,
-    /// The field behind the body: an operator, or what may become of the number of operators.
+    /// The field after the body: an operator, or what may become of the number of operators.
     pub first: &'a str,
     /// The words that are drawn.
     pub second: &'a str,
@@ -39,7 +39,7 @@ impl Asked<'_> {
     }
 }
 
-// The body that the text is, or the bytes behind `0x`.
+// The body that the text is, or the bytes after `0x`.
 fn code_of(alloc: Global, text: &str) -> Result<Function, Unreadable> {
     match text.strip_prefix("0x") {
         Some(digits) => {

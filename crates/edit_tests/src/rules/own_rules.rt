@@ -9,7 +9,7 @@ use body_splices::Piece;
 use rewrite_rules::{Own, Widths, row_at};
 use std::alloc::{AllocError, Global};
 
-// The rule of that name, or behind `access` the access with that number.
+// The rule of that name, or after `access` the access with that number.
 fn own_named(alloc: Global, table: &RuleTable, name: &str) -> Result<Own, Unreadable> {
     if let Some(number) = name.strip_prefix("access ") {
         return Ok(Own::Access(number.parse().ok().ok_or(Unreadable)?));

@@ -6,7 +6,7 @@ use instruction_names::instruction_name;
 use std::alloc::{AllocError, Global};
 use wasm_code::{Imm, Instr, MemArg, Operator, read_body};
 
-/// Adds an item behind those that the text has, and what stands between them.
+/// Adds an item after those that the text has, and what separates them.
 pub fn add_item(text: &mut String, between: &str, item: &str) -> Result<(), AllocError> {
     if !text.is_empty() {
         text.push_str(between)?;
@@ -42,7 +42,7 @@ fn argument_text(alloc: Global, argument: MemArg) -> Result<String, AllocError> 
     Ok(text)
 }
 
-/// The text of an instruction, as `body_notation` reads it. The alignment of an access is always told.
+/// The text of an instruction, as `body_notation` reads it. The alignment of an access is always written.
 pub fn instruction_text(alloc: Global, instr: &Instr) -> Result<String, AllocError> {
     let mut text = String::from_str(alloc, instruction_name(instr.row()))?;
     let imm = instr.imm();
@@ -54,7 +54,7 @@ pub fn instruction_text(alloc: Global, instr: &Instr) -> Result<String, AllocErr
     Ok(text)
 }
 
-// The bytes as hexadecimal digits behind `0x`.
+// The bytes as hexadecimal digits after `0x`.
 fn bytes_text(alloc: Global, bytes: &[u8]) -> Result<String, AllocError> {
     let mut text = String::from_str(alloc, "0x")?;
     for byte in bytes {
@@ -77,7 +77,7 @@ fn instructions_text(alloc: Global, bytes: &[u8]) -> Result<String, Unreadable> 
     Ok(text)
 }
 
-/// The body without its `end`, as a text; or its bytes, where no text is wanted, or none stands for these bytes.
+/// The body without its `end`, as a text; or its bytes, if no text is asked for, or none has these bytes.
 pub fn body_text(alloc: Global, bytes: &[u8], is_text: bool) -> Result<String, Unreadable> {
     let text = instructions_text(alloc, bytes)?;
     let stands = match body_of(alloc, &text) {

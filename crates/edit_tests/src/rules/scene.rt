@@ -4,7 +4,7 @@ use super::unreadable::Unreadable;
 use std::alloc::{AllocError, Global};
 use wasm_types::{FuncInfo, MemoryType, ModuleInfo, PrimitiveTypeInfo, TypeInfo};
 
-// The types of the parameters and locals where none are told.
+// The types of the parameters and locals if none are given.
 const LOCALS: &str = "i32 i32 i64 i64 f32 f64 v128 f32 f64 v128";
 
 /// A module, and the types of a function's parameters and locals.
@@ -32,7 +32,7 @@ fn module_of(alloc: Global) -> Result<ModuleInfo<'static>, AllocError> {
     Ok(info)
 }
 
-/// The scene that the text tells: a module that is marked `exact` or isn't, `plain`, with globals, a memory and a function, and ten
+/// The scene that the text names: a module that is marked `exact` or isn't, `plain`, with globals, a memory and a function, and ten
 /// locals; or the types of the locals, and a module with nothing, which `exact` before them marks so.
 pub fn scene_of(alloc: Global, text: &str) -> Result<Scene, Unreadable> {
     let mut info = ModuleInfo::new(alloc, &[]);

@@ -90,7 +90,7 @@ fn moves_text(alloc: Global, effects: &str, left: &str, right: &str) -> Result<S
     Ok(format!(in alloc; "{}", may_move(&list, &left, &right))?)
 }
 
-// The immediate that the access with that number writes in the place of the instruction's.
+// The immediate that the access with that number writes instead of the instruction's.
 fn written_text(alloc: Global, access: &str, instr: &str) -> Result<String, Unreadable> {
     let access = access_at(access.parse().ok().ok_or(Unreadable)?).ok_or(Unreadable)?;
     let immediate = instr_of(instr).ok_or(Unreadable)?.imm();
