@@ -49,7 +49,7 @@ fn rewrite<R: Rng>(
 }
 
 /// The rewrites that the generator chooses, by further fields: whether the whole module is asked for or its size, the rules, a function or
-/// `any`, the most bytes, how many rewrites, and a module. Told are also the functions that were rewritten, and why no more were.
+/// `any`, the most bytes, how many rewrites, and a module. Then the functions that were rewritten, and why no more were.
 fn rewritten<R: Rng>(alloc: Global, fields: &mut Fields<'_>, generator: &mut R) -> Result<String> {
     let is_whole = fields.text() == "whole";
     let rules = fields.rules()?;
